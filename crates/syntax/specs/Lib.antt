@@ -1,0 +1,4 @@
+pub mod Tree
+pub mod Program
+pub mod Names
+pub mod Rates
