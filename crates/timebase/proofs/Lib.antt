@@ -1,0 +1,5 @@
+pub mod Shift
+pub mod Pattern
+pub mod Cycle
+pub mod Ranges
+pub mod Laws

@@ -1,0 +1,83 @@
+-- Rounding up sees only a fraction's value, and a time's ticks are one shift. Assumes nothing.
+use Prim.Native.Nat.{ℕ, zero, suc, _+_, _-_, _*_, _/_, _%_, _^_, _<_, _≤_}
+use mathlib.Core.Path.{_≡_, refl, sym, ap, ap₂, _∙_, subst}
+use native.Mathlib.Nat.{mul-assoc, mul-comm, mul-left-comm, mul-right-comm, add-mul, add-assoc, mul-pos, div-div-eq-div-mul, le-trans, lt-of-lt-of-le, lt-of-not-le, not-le-of-lt, mul-le-mul-right, le-of-eq, div-eq-of-lt-le}
+use native.Mathlib.Decide.{decLe}
+use native.Mathlib.Omega.{arith}
+use lib.Arith.{digits-div, mul-pred}
+use lib.Pow.{pow-add, pow-pos, pow-lt, pow-mono, shl-lt, shl-exact}
+use lib.Count.{leadingZeros, leading-top}
+use Rattle.timebase.specs.Time.{upTo}
+
+-- ---- rounding up
+upTo-scale : (a c k : ℕ) → 0 < c → 0 < k → upTo (a * k) (c * k) ≡ upTo a c
+unfolding upTo
+upTo-scale a c k hc hk =
+    let r : k - 1 < k = omega arith in
+    let e : a * k + (c * k - 1) ≡ (a + (c - 1)) * k + (k - 1) =
+    ap (λ (x : ℕ). a * k + x) (mul-pred hc hk) ∙ sym (add-assoc (a * k) ((c - 1) * k) (k - 1)) ∙ ap (λ (x : ℕ). x + (k - 1)) (sym (add-mul a (c - 1) k)) in
+    ap₂ (λ (x y : ℕ). x / y) e (mul-comm c k)
+    ∙ sym (div-div-eq-div-mul ((a + (c - 1)) * k + (k - 1)) k c)
+    ∙ ap (λ (x : ℕ). x / c) (digits-div (a + (c - 1)) r)
+
+pub upTo-cross : (a b c d : ℕ) → 0 < b → 0 < d → a * d ≡ c * b → upTo a b ≡ upTo c d
+upTo-cross a b c d hb hd e =
+    sym (upTo-scale a b d hb hd) ∙ ap₂ upTo e (mul-comm b d) ∙ upTo-scale c d b hd hb
+
+-- ---- the shift
+
+-- What the count of leading zeros tells of m, where m * 2 ^ j is at most 2 ^ 163.
+pub record Top (m j z : ℕ) : Type 0 where
+  pub few : z < 32
+  pub reach : j + 3 ≤ 135 + z
+  pub positive : 0 < m * 2 ^ z
+  pub below : m * 2 ^ z < 2 ^ 32
+
+pub pow-le-back : (i k : ℕ) → 2 ^ i ≤ 2 ^ k → i ≤ k
+pow-le-back i k h = go (decLe i k)
+  where
+    go : Dec (i ≤ k) → i ≤ k
+    go (yes l) = l
+    go (no n) = absurd (not-le-of-lt (pow-lt (lt-of-not-le n)) h)
+
+pub top : (m j : ℕ) → 0 < m → m < 2 ^ 32 → m * 2 ^ j ≤ 2 ^ 163 → Top m j (leadingZeros 32 m)
+top m j p h b =
+    let t = leading-top 32 m p h in
+    let k = t .0 in
+    let z = leadingZeros 32 m in
+    let e : z + suc k ≡ 32 = t .1 in
+    let g : k + j ≤ 163 = pow-le-back (k + j) 163 (le-trans (le-of-eq (pow-add 2 k j)) (le-trans (mul-le-mul-right (2 ^ j) (t .2)) b)) in
+    let q : suc k + z ≡ 32 = omega arith in
+    record {
+      few = omega arith;
+      reach = omega arith;
+      positive = mul-pos p (pow-pos z);
+      below = subst (λ (n : ℕ). m * 2 ^ z < 2 ^ n) q (shl-lt (suc k) z (t .3));
+    }
+
+regroup : (m x k y : ℕ) → m * x * k * y ≡ m * (x * y) * k
+regroup m x k y = simp (mul-assoc, mul-comm)
+
+regroup2 : (m x y k : ℕ) → m * (x * y) * k ≡ m * y * (k * x)
+regroup2 m x y k = simp (mul-assoc, mul-comm, mul-left-comm)
+
+-- one distance s, from j and the count z
+pub one-shift : (m j z s : ℕ) → s + j ≡ 135 + z → upTo (m * 2 ^ j * 6144000) (2 ^ 149) ≡ upTo (m * 2 ^ z * 375) (2 ^ s)
+one-shift m j z s e =
+    let p : 2 ^ j * 2 ^ s ≡ 2 ^ 135 * 2 ^ z = sym (pow-add 2 j s) ∙ ap (λ (k : ℕ). 2 ^ k) (let f : j + s ≡ 135 + z = omega arith in f) ∙ pow-add 2 135 z in
+    upTo-cross (m * 2 ^ j * 6144000) (2 ^ 149) (m * 2 ^ z * 375) (2 ^ s) (pow-pos 149) (pow-pos s)
+    (regroup m (2 ^ j) 6144000 (2 ^ s)
+    ∙ ap (λ (x : ℕ). m * x * 6144000) p
+    ∙ regroup2 m (2 ^ 135) (2 ^ z) 6144000
+    ∙ sym (mul-assoc (m * 2 ^ z) 375 (2 ^ 149)))
+
+-- less than one
+pub far : (a s : ℕ) → 0 < a → a ≤ 2 ^ s → 1 ≡ upTo a (2 ^ s)
+unfolding upTo
+far a s p h = sym (div-eq-of-lt-le (2 ^ s) (omega (arith, pow-pos s)) (omega (arith, pow-pos s)))
+
+pub shift-is : (m z : ℕ) → m * 2 ^ z < 2 ^ 32 → (m * 2 ^ z) % 2 ^ 32 ≡ m * 2 ^ z
+shift-is m z h = native.Mathlib.Nat.mod-eq-of-lt h
+
+pub one-left : (s : ℕ) → s ≤ 40 → (1 * 2 ^ s) % 2 ^ 64 ≡ 2 ^ s
+one-left s h = shl-exact {a = 1} 1 s 64 (omega arith) (omega arith) ∙ native.Mathlib.Nat.one-mul (2 ^ s)

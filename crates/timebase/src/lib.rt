@@ -1,0 +1,111 @@
+// Times, durations, tempos and values by their 32-bit patterns; ticks of a time and of a tempo (document 01,
+// "Score lines, bit by bit"). Every function is total.
+ghost use mathlib.Core.Path.{_≡_};
+ghost use Prim.Native.Nat.{_*_, _^_, _<_, _≤_};
+ghost use Rattle.timebase.specs.Time.{upTo, ticksIn, cycleIn, finiteBits, timeBits, durationBits, tempoBits};
+ghost use Rattle.timebase.specs.Range.{checked};
+
+// m * 2^j * 6,144,000 / 2^149 rounded up. m is shifted until its highest bit is at 31, so that the
+// rest is one shift down by a distance that j and the count of leading zeros give. Past 40 places
+// what is shifted lies below one tick.
+fn shifted(m: u32, j: u32) -> u64
+    requires { ⌜ (0 < m) × (m * 2 ^ j ≤ 2 ^ 163) ⌝ }
+    ensures { λ r. ⌜ r ≡ upTo (m * 2 ^ j * 6144000) (2 ^ 149) ⌝ }
+{
+    let z = u32::leading_zeros(m);
+    let p = ((m << z) as u64) * 375;
+    let s = 135 + z - j;
+    if 40 < s {
+        return 1;
+    }
+    let whole = 1u64 << s;
+    (p + (whole - 1)) >> s
+}
+
+// The ticks of a time or a duration: 0 past the latest time.
+pub fn beats_to_ticks(time: f32) -> u64
+    ensures { λ r. ⌜ r ≡ ticksIn time ⌝ }
+{
+    if 0.0 < time {
+        if time <= 16384.0 {
+            let b = f32::to_bits(time);
+            let x = b % 0x8000_0000 / 0x80_0000;
+            let t = b % 0x80_0000;
+            if x == 0 {
+                return shifted(t, 0);
+            }
+            return shifted(0x80_0000 + t, x - 1);
+        }
+    }
+    0
+}
+
+// The ticks per cycle of a tempo: 0 out of its range.
+pub fn ticks_per_cycle(tempo: f32) -> u64
+    ensures { λ r. ⌜ r ≡ cycleIn tempo ⌝ }
+{
+    if 1.0 <= tempo {
+        if tempo <= 960.0 {
+            return std::num::truncating_f32_to_u64(tempo * 1024.0);
+        }
+    }
+    0
+}
+
+// What a pattern of 32 bits is: the float that it means, or outside its range.
+pub enum Checked {
+    Value(f32),
+    Outside,
+}
+
+// A value: finite.
+pub fn value_of(b: u32) -> Checked
+    ensures { λ r. ⌜ r ≡ checked (finiteBits b) b ⌝ }
+{
+    if b % 0x8000_0000 < 0x7f80_0000 {
+        Checked::Value(f32::from_bits(b))
+    } else {
+        Checked::Outside
+    }
+}
+
+// A time: sign bit clear, at most 16,384.
+pub fn time_of(b: u32) -> Checked
+    ensures { λ r. ⌜ r ≡ checked (timeBits b) b ⌝ }
+{
+    if 0x7f80_0000 < b {
+        return Checked::Outside;
+    }
+    let x = f32::from_bits(b);
+    if x <= 16384.0 {
+        Checked::Value(x)
+    } else {
+        Checked::Outside
+    }
+}
+
+// A duration: a time, or exactly -1.
+pub fn duration_of(b: u32) -> Checked
+    ensures { λ r. ⌜ r ≡ checked (durationBits b) b ⌝ }
+{
+    if b == 0xbf80_0000 {
+        return Checked::Value(-1.0);
+    }
+    time_of(b)
+}
+
+// A tempo: from 1 to 960.
+pub fn tempo_of(b: u32) -> Checked
+    ensures { λ r. ⌜ r ≡ checked (tempoBits b) b ⌝ }
+{
+    if 0x7f80_0000 < b % 0x8000_0000 {
+        return Checked::Outside;
+    }
+    let x = f32::from_bits(b);
+    if 1.0 <= x {
+        if x <= 960.0 {
+            return Checked::Value(x);
+        }
+    }
+    Checked::Outside
+}
