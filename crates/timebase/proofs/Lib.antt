@@ -3,3 +3,5 @@ pub mod Pattern
 pub mod Cycle
 pub mod Ranges
 pub mod Laws
+pub mod Order
+pub mod Growth

@@ -1,18 +1,18 @@
 -- What a bit pattern says of its float's value, and the ticks of a value. Assumes nothing.
 use Prim.Native.Nat.{ℕ, zero, suc, _+_, _-_, _*_, _/_, _%_, _^_, _<_, _≤_}
-use mathlib.Core.Path.{_≡_, refl, sym, ap, ap₂, _∙_, subst}
-use mathlib.Core.Bool.{Bool, true, false, not, _&&_, _||_, cond, true≢false}
-use native.Mathlib.Nat.{mul-assoc, mul-comm, mul-right-comm, zero-mul, zero-add, div-eq-of-lt}
+use mathlib.Core.Path.{_≡_, refl, sym, ap, _∙_, subst}
+use mathlib.Core.Bool.{Bool, true, false, not, cond, true≢false}
+use native.Mathlib.Nat.{mul-right-comm, zero-add, div-eq-of-lt}
 use native.Mathlib.Omega.{arith}
 use lib.IntN.{pos}
-use lib.Dec.{T, ltb, leb, eqb, lt→ltb}
+use lib.Dec.{T, leb, eqb, lt→ltb}
 use lib.Pow.{pow-pos}
 use borrow.Author.Tests.{ltb-true, ltb-false}
 use lib.Ieee.{Float, nan, inf, fin, binary32, up, down, lt, le, isNan, odd, ofFields, ofBits}
 use lib.Ieee.Exact.{HasValue, odd-sign}
-use lib.Ieee.Fits.{down-pos, up-pos}
+use lib.Ieee.Fits.{down-pos}
 use lib.Ieee.Scale.{finite}
-use lib.Ieee.Positive.{num, den, positive, values-of-le, value-pos, value→cross, positive-finite, den-pos}
+use lib.Ieee.Positive.{num, den, positive, values-of-le, value-pos, value→cross, den-pos}
 use Rattle.timebase.specs.Time.{upTo, ticksOf, ticksIn, latest}
 use Rattle.timebase.proofs.Shift.{upTo-cross}
 

@@ -1,16 +1,18 @@
 -- Which patterns are in range. Assumes nothing.
 use Prim.Native.Nat.{ℕ, zero, suc, _+_, _*_, _/_, _%_, _^_, _<_, _≤_}
-use mathlib.Core.Path.{_≡_, refl, sym, ap, _∙_, subst}
-use mathlib.Core.Bool.{Bool, true, false, not, _&&_, _||_, cond}
-use native.Mathlib.Nat.{mod-eq-of-lt, mod-lt, div-lt-iff-lt-mul, le-div-iff-mul-le}
+use mathlib.Core.Path.{_≡_, refl, sym, _∙_}
+use mathlib.Core.Bool.{Bool, true, false, not, _&&_, cond, true≢false}
+use native.Mathlib.Nat.{mod-eq-of-lt, mod-lt}
 use native.Mathlib.Decide.{decLt}
 use native.Mathlib.Omega.{arith}
-use borrow.Author.Tests.{lt-ltb, le-ltb, eq-eqb, ne-eqb}
+use borrow.Author.Tests.{lt-ltb, le-ltb, lt-leb, eq-eqb, ne-eqb}
 use lib.Dec.{T, ltb, leb, eqb}
-use lib.Ieee.{Float, nan, inf, fin, binary32, odd, ofFields, ofBits, nanBits, isNan, le, lt, eq}
+use lib.IntN.{pos}
+use lib.Ieee.{Float, nan, inf, fin, binary32, up, down, odd, ofFields, ofBits, nanBits, isNan, le, lt, eq}
 use lib.Ieee.Bits.{nanBits-is, nanBits-above}
 use lib.Ieee.Scale.{finite}
-use Rattle.timebase.specs.Time.{latest, slowest, finiteBits, timeBits, tempoBits}
+use Rattle.timebase.proofs.Order.{AtMost, at-most-back}
+use Rattle.timebase.specs.Time.{latest, finiteBits, timeBits, tempoBits}
 
 -- a pattern with magnitude at most that of an infinity is no NaN's
 pub no-nan : (b : ℕ) → b % 2 ^ 31 ≤ 0x7f80_0000 → T (not (nanBits binary32 b))
@@ -74,3 +76,54 @@ field-below r h = go (decLt r 0x7f80_0000)
 pub finite-test : (b : ℕ) → finiteBits b ≡ ltb (b % 2 ^ 31) 0x7f80_0000
 unfolding finiteBits ofBits
 finite-test b = fields-finite (leb (2 ^ 31) b) (b % 2 ^ 31 / 2 ^ 23) (b % 2 ^ 23) ∙ field-below (b % 2 ^ 31) (mod-lt b (lib.Dec.lit< tt))
+
+-- ---- sign bit clear: zero or more, where it is a number
+
+-- no number, or of sign plus
+abbrev plus : Float → Bool
+plus nan = true
+plus (inf s) = not s
+plus (fin s m e) = not s
+
+odd-plus : (d q k l : ℕ) → plus (odd d false q k l) ≡ true
+unfolding odd
+odd-plus d zero k l = refl
+odd-plus d (suc q) k l = refl
+
+either-plus : (p q : Bool) (v : Float) → plus v ≡ true → plus (cond p (cond q (inf false) nan) v) ≡ true
+either-plus true true v h = refl
+either-plus true false v h = refl
+either-plus false q v h = h
+
+fields-plus : (x t : ℕ) → plus (ofFields binary32 false x t) ≡ true
+unfolding ofFields
+fields-plus zero t = odd-plus 24 t 0 149
+fields-plus (suc x) t = either-plus (eqb (suc x) 255) (eqb t 0) (odd 24 false (8388608 + t) x 149) (odd-plus 24 (8388608 + t) x 149)
+
+bits-plus : (b : ℕ) → b < 2 ^ 31 → plus (ofBits binary32 b) ≡ true
+unfolding ofBits
+bits-plus b h = rw (lt-leb (2 ^ 31) b h) (fields-plus (b % 2 ^ 31 / 2 ^ 23) (b % 2 ^ 23))
+
+abbrev pub zeroF : Float
+zeroF = fin false 0 (pos 0)
+
+plus-from-zero : (x y : Float) → plus x ≡ true → le x y ≡ true → le zeroF x ≡ true
+unfolding le lt eq AtMost
+plus-from-zero nan y p h = absurd (true≢false (sym h))
+plus-from-zero (inf true) y p h = absurd (true≢false (sym p))
+plus-from-zero (inf false) y p h = refl
+plus-from-zero (fin true m e) y p h = absurd (true≢false (sym p))
+plus-from-zero (fin false m e) y p h = at-most-back false (0 * down e) false (m * up e * 1) (omega arith)
+
+pub from-zero : (b : ℕ) (y : Float) → b < 2 ^ 31 → le (ofBits binary32 b) y ≡ true → le zeroF (ofBits binary32 b) ≡ true
+from-zero b y h l = plus-from-zero (ofBits binary32 b) y (bits-plus b h) l
+
+-- between zero and a finite float
+pub between-finite : (x y : Float) → le zeroF x ≡ true → le x y ≡ true → finite y ≡ true → finite x ≡ true
+unfolding le lt eq
+between-finite nan y k h f = absurd (true≢false (sym h))
+between-finite (inf true) y k h f = absurd (true≢false (sym k))
+between-finite (inf false) nan k h f = absurd (true≢false (sym h))
+between-finite (inf false) (inf t) k h f = absurd (true≢false (sym f))
+between-finite (inf false) (fin t n d) k h f = absurd (true≢false (sym h))
+between-finite (fin s m d) y k h f = refl

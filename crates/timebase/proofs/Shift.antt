@@ -1,16 +1,16 @@
 -- Rounding up sees only a fraction's value, and a time's ticks are one shift. Assumes nothing.
-use Prim.Native.Nat.{ℕ, zero, suc, _+_, _-_, _*_, _/_, _%_, _^_, _<_, _≤_}
-use mathlib.Core.Path.{_≡_, refl, sym, ap, ap₂, _∙_, subst}
-use native.Mathlib.Nat.{mul-assoc, mul-comm, mul-left-comm, mul-right-comm, add-mul, add-assoc, mul-pos, div-div-eq-div-mul, le-trans, lt-of-lt-of-le, lt-of-not-le, not-le-of-lt, mul-le-mul-right, le-of-eq, div-eq-of-lt-le}
+use Prim.Native.Nat.{ℕ, suc, _+_, _-_, _*_, _/_, _%_, _^_, _<_, _≤_}
+use mathlib.Core.Path.{_≡_, sym, ap, ap₂, _∙_, subst}
+use native.Mathlib.Nat.{mul-assoc, mul-comm, mul-left-comm, add-mul, add-assoc, mul-pos, div-div-eq-div-mul, le-trans, lt-of-not-le, not-le-of-lt, mul-le-mul-right, le-of-eq, div-eq-of-lt-le}
 use native.Mathlib.Decide.{decLe}
 use native.Mathlib.Omega.{arith}
 use lib.Arith.{digits-div, mul-pred}
-use lib.Pow.{pow-add, pow-pos, pow-lt, pow-mono, shl-lt, shl-exact}
+use lib.Pow.{pow-add, pow-pos, pow-lt, shl-lt, shl-exact}
 use lib.Count.{leadingZeros, leading-top}
 use Rattle.timebase.specs.Time.{upTo}
 
 -- ---- rounding up
-upTo-scale : (a c k : ℕ) → 0 < c → 0 < k → upTo (a * k) (c * k) ≡ upTo a c
+pub upTo-scale : (a c k : ℕ) → 0 < c → 0 < k → upTo (a * k) (c * k) ≡ upTo a c
 unfolding upTo
 upTo-scale a c k hc hk =
     let r : k - 1 < k = omega arith in

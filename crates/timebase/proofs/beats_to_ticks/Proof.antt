@@ -1,7 +1,6 @@
 use borrow.Author.Needs.{needs}
-use Prim.Native.Nat.{ℕ, _+_, _-_, _*_, _/_, _%_, _^_, _<_, _≤_}
-use mathlib.Core.Path.{_≡_, refl, sym, ap, _∙_, subst}
-use mathlib.Core.Bool.{Bool}
+use Prim.Native.Nat.{_+_, _-_, _*_, _/_, _%_, _^_}
+use mathlib.Core.Path.{_≡_, sym, _∙_, subst}
 use lib.Dec.{T, leb}
 use lib.Ieee.{Float, ofBits, toBits, fits, binary32}
 use lib.Ieee.Bits.{ofBits-toBits}

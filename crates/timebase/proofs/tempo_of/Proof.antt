@@ -1,4 +1,3 @@
-use native.Mathlib.Omega.{arith}
 use lib.Ieee.{ofBits}
 use Rattle.timebase.specs.Time.{tempoBits}
 use Rattle.timebase.specs.Range.{checked}

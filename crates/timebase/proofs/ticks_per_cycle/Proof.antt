@@ -1,8 +1,8 @@
-use mathlib.Core.Path.{_≡_, sym, _∙_, subst}
+use mathlib.Core.Path.{sym, _∙_, subst}
 use mathlib.Core.Bool.{false}
 use lib.Dec.{T}
 use lib.IntN.{pos}
-use lib.Ieee.{ofBits, fits, mul, fin, binary32}
+use lib.Ieee.{ofBits, mul, fin, binary32}
 use Rattle.timebase.specs.Time.{cycleIn}
 use Rattle.timebase.proofs.Cycle.{Cut, tempo, not-slow, not-fast}
 use Rattle.timebase.proofs.ticks_per_cycle.Statement.{statement}
