@@ -5,6 +5,7 @@ ghost use lib.ListN.{length, take, drop, set};
 ghost use Rattle.bitstream.specs.Bits.{bitsOf, bit, field, valueOf};
 ghost use Rattle.bitstream.specs.Fields.{Room, roomFor, over, written};
 ghost use Rattle.bitstream.specs.Reads.{readAt};
+ghost use Rattle.bitstream.specs.Filling.{filled};
 
 // The last position at which a field may begin.
 const FARTHEST: usize = 0x4000_0000_0000_0000;
@@ -60,6 +61,24 @@ pub fn read(s: &[u8], at: usize, n: usize) -> Got
         return Got::Value(value_at(s, at, n), next);
     }
     Got::Short
+}
+
+// Whether fewer than 8 bits are left from a position on, all of them zero.
+pub fn is_filled(s: &[u8], p: usize) -> bool
+    ensures { λ r. ⌜ r ≡ filled (bitsOf (now (s .entry))) p ⌝ }
+{
+    let q = p / 8;
+    let r = p % 8;
+    if s.len() <= q {
+        return true;
+    }
+    if r == 0 {
+        return false;
+    }
+    if q + 1 < s.len() {
+        return false;
+    }
+    low_bits(s[q] as u64, 8 - r) == 0
 }
 
 fn power(m: u32) -> u32
