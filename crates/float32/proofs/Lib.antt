@@ -1,0 +1,5 @@
+pub mod Sign
+pub mod Whole
+pub mod Magnitude
+pub mod Table
+pub mod Laws

@@ -1,0 +1,12 @@
+use mathlib.Core.Path.{refl}
+use lib.Ieee.{ofBits, ne}
+use Rattle.float32.specs.Builtins.{truth}
+use Rattle.float32.proofs.is_true.Statement.{statement}
+use Rattle.float32.proofs.is_true.Tie as tie
+
+returns : tie.Need-returns
+unfolding truth ne ofBits
+returns c = refl
+
+pub is-true-spec : {M : Type 1} → statement M
+is-true-spec = tie.close (tie.spec returns)

@@ -1,0 +1,3 @@
+pub mod Builtins
+pub mod Limit
+pub mod Operators

@@ -1,0 +1,224 @@
+// The built-in functions and operators of the orchestra's code on 32-bit floats (document 01, "What the
+// code does"), and the limited sample (step 6 of a cycle). Every function is total.
+ghost use mathlib.Core.Path.{_≡_};
+ghost use Prim.Native.Nat.{min as lesser};
+ghost use lib.Ieee as Ieee;
+ghost use Rattle.float32.specs.Builtins.{absOf, sgnOf, intOf, fracOf, minOf, maxOf, flagOf, truth, eitherOf, bothOf, notOf};
+ghost use Rattle.float32.specs.Limit.{sampleOf};
+ghost use Rattle.float32.specs.Operators.{unaryOf, binaryOf, selectOf};
+
+pub fn abs(x: f32) -> f32
+    ensures { λ r. ⌜ r ≡ absOf x ⌝ }
+{
+    if x < 0.0 {
+        return -x;
+    }
+    if x == 0.0 {
+        return 0.0;
+    }
+    x
+}
+
+pub fn sgn(x: f32) -> f32
+    ensures { λ r. ⌜ r ≡ sgnOf x ⌝ }
+{
+    if 0.0 < x {
+        return 1.0;
+    }
+    if x < 0.0 {
+        return -1.0;
+    }
+    0.0
+}
+
+// From 2^23 on a float has no fraction; below, the whole part fits an integer.
+pub fn int(x: f32) -> f32
+    ensures { λ r. ⌜ r ≡ intOf x ⌝ }
+{
+    if x < 8388608.0 {
+        if -8388608.0 < x {
+            let n = std::num::truncating_f32_to_i64(x);
+            return n as f32;
+        }
+    }
+    x
+}
+
+pub fn frac(x: f32) -> f32
+    ensures { λ r. ⌜ r ≡ fracOf x ⌝ }
+{
+    x - int(x)
+}
+
+pub fn min(x: f32, y: f32) -> f32
+    ensures { λ r. ⌜ r ≡ minOf x y ⌝ }
+{
+    if y < x { y } else { x }
+}
+
+pub fn max(x: f32, y: f32) -> f32
+    ensures { λ r. ⌜ r ≡ maxOf x y ⌝ }
+{
+    if x < y { y } else { x }
+}
+
+// 1 where a test holds, else 0.
+fn flag(b: bool) -> f32
+    ensures { λ r. ⌜ r ≡ flagOf b ⌝ }
+{
+    if b { 1.0 } else { 0.0 }
+}
+
+pub fn less(x: f32, y: f32) -> f32
+    ensures { λ r. ⌜ r ≡ flagOf (Ieee.lt x y) ⌝ }
+{
+    flag(x < y)
+}
+
+pub fn greater(x: f32, y: f32) -> f32
+    ensures { λ r. ⌜ r ≡ flagOf (Ieee.lt y x) ⌝ }
+{
+    flag(y < x)
+}
+
+pub fn at_most(x: f32, y: f32) -> f32
+    ensures { λ r. ⌜ r ≡ flagOf (Ieee.le x y) ⌝ }
+{
+    flag(x <= y)
+}
+
+pub fn at_least(x: f32, y: f32) -> f32
+    ensures { λ r. ⌜ r ≡ flagOf (Ieee.le y x) ⌝ }
+{
+    flag(y <= x)
+}
+
+pub fn equal(x: f32, y: f32) -> f32
+    ensures { λ r. ⌜ r ≡ flagOf (Ieee.eq x y) ⌝ }
+{
+    flag(x == y)
+}
+
+pub fn differ(x: f32, y: f32) -> f32
+    ensures { λ r. ⌜ r ≡ flagOf (Ieee.ne x y) ⌝ }
+{
+    flag(x != y)
+}
+
+// Whether a float counts as true.
+pub fn is_true(x: f32) -> bool
+    ensures { λ r. ⌜ r ≡ truth x ⌝ }
+{
+    x != 0.0
+}
+
+pub fn either(x: f32, y: f32) -> f32
+    ensures { λ r. ⌜ r ≡ eitherOf x y ⌝ }
+{
+    let p = is_true(x);
+    let q = is_true(y);
+    flag(p | q)
+}
+
+pub fn both(x: f32, y: f32) -> f32
+    ensures { λ r. ⌜ r ≡ bothOf x y ⌝ }
+{
+    let p = is_true(x);
+    let q = is_true(y);
+    flag(p & q)
+}
+
+pub fn negated(x: f32) -> f32
+    ensures { λ r. ⌜ r ≡ notOf x ⌝ }
+{
+    let p = is_true(x);
+    flag(!p)
+}
+
+// Unary minus: the sign turned.
+pub fn minus(x: f32) -> f32
+    ensures { λ r. ⌜ r ≡ Ieee.neg x ⌝ }
+{
+    -x
+}
+
+// An operator of one operand, by its token number.
+pub fn unary(op: u8, x: f32) -> f32
+    ensures { λ r. ⌜ r ≡ unaryOf op x ⌝ }
+{
+    match op {
+        9 => abs(x),
+        10 => sgn(x),
+        11 => int(x),
+        12 => frac(x),
+        36 => negated(x),
+        37 => minus(x),
+        _ => x,
+    }
+}
+
+// An operator of two operands, by its token number.
+pub fn binary(op: u8, x: f32, y: f32) -> f32
+    ensures { λ r. ⌜ r ≡ binaryOf op x y ⌝ }
+{
+    match op {
+        13 => min(x, y),
+        14 => max(x, y),
+        24 => either(x, y),
+        25 => both(x, y),
+        26 => equal(x, y),
+        27 => differ(x, y),
+        28 => less(x, y),
+        29 => greater(x, y),
+        30 => at_most(x, y),
+        31 => at_least(x, y),
+        32 => x + y,
+        33 => x - y,
+        34 => x * y,
+        35 => x / y,
+        _ => x,
+    }
+}
+
+// c ? x : y
+pub fn select(c: f32, x: f32, y: f32) -> f32
+    ensures { λ r. ⌜ r ≡ selectOf c x y ⌝ }
+{
+    if is_true(c) { x } else { y }
+}
+
+// The whole part of y, at most `limit`: 0 where y is below zero or not a number.
+fn size(y: f32, limit: u16) -> u16
+    ensures { λ r. ⌜ r ≡ lesser (Ieee.toUnsigned 64 y) limit ⌝ }
+{
+    if -1.0 < y {
+        if y < 65536.0 {
+            let n = std::num::truncating_f32_to_u64(y);
+            if n < limit as u64 {
+                return n as u16;
+            }
+        }
+        return limit;
+    }
+    0
+}
+
+// The ceiling that a sample of 16 bits can have.
+fn capped(ceiling: u16) -> u16
+    ensures { λ r. ⌜ r ≡ lesser ceiling 32767 ⌝ }
+{
+    if ceiling < 32767 { ceiling } else { 32767 }
+}
+
+// The sample of x: 16 bits, held between -ceiling and ceiling.
+pub fn sample(x: f32, ceiling: u16) -> i16
+    ensures { λ r. ⌜ r ≡ sampleOf x ceiling ⌝ }
+{
+    let limit = capped(ceiling);
+    let y = x * 32768.0;
+    if y < 0.0 {
+        let n = size(-y, limit) as i16;
+        return -n;
+    }
+    size(y, limit) as i16
+}
