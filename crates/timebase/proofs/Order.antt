@@ -176,3 +176,61 @@ lt-is (inf false) (fin t n d) p q = refl
 lt-is (fin s m e) (inf true) p q = refl
 lt-is (fin s m e) (inf false) p q = refl
 lt-is (fin s m e) (fin t n d) p q = turned s (m * up e * down d) t (n * up d * down e)
+
+-- ---- what follows for sorting by time
+
+pub lt-numbers : (x y : Float) → lt x y ≡ true → (isNan x ≡ false) × (isNan y ≡ false)
+unfolding lt isNan
+lt-numbers nan y h = absurd (true≢false (sym h))
+lt-numbers (inf s) nan h = absurd (true≢false (sym h))
+lt-numbers (inf s) (inf t) h = (refl, refl)
+lt-numbers (inf s) (fin t n d) h = (refl, refl)
+lt-numbers (fin s m e) nan h = absurd (true≢false (sym h))
+lt-numbers (fin s m e) (inf t) h = (refl, refl)
+lt-numbers (fin s m e) (fin t n d) h = (refl, refl)
+
+pub le-numbers : (x y : Float) → le x y ≡ true → (isNan x ≡ false) × (isNan y ≡ false)
+unfolding le lt eq isNan
+le-numbers nan y h = absurd (true≢false (sym h))
+le-numbers (inf s) nan h = absurd (true≢false (sym h))
+le-numbers (inf s) (inf t) h = (refl, refl)
+le-numbers (inf s) (fin t n d) h = (refl, refl)
+le-numbers (fin s m e) nan h = absurd (true≢false (sym h))
+le-numbers (fin s m e) (inf t) h = (refl, refl)
+le-numbers (fin s m e) (fin t n d) h = (refl, refl)
+
+pub lt-le : (x y : Float) → lt x y ≡ true → le x y ≡ true
+unfolding le
+lt-le x y h = rw h
+
+not-true : (b : Bool) → not b ≡ true → b ≡ false
+not-true true e = absurd (true≢false (sym e))
+not-true false e = refl
+
+pub lt-not-le : (x y : Float) → lt x y ≡ true → le y x ≡ false
+lt-not-le x y h = let n = lt-numbers x y h in not-true (le y x) (sym (lt-is y x (n .1) (n .0)) ∙ h)
+
+-- of two numbers, one is at most the other
+pub le-total : (x y : Float) → isNan x ≡ false → isNan y ≡ false → le x y ≡ false → le y x ≡ true
+le-total x y p q h = lt-le y x (lt-is x y p q ∙ ap not h)
+
+pub le-refl : (x : Float) → isNan x ≡ false → le x x ≡ true
+le-refl x p = go (le x x) refl
+  where
+    go : (b : Bool) → le x x ≡ b → le x x ≡ true
+    go true e = e
+    go false e = le-total x x p p e
+
+pub le-lt-trans : (x y z : Float) → le x y ≡ true → lt y z ≡ true → lt x z ≡ true
+le-lt-trans x y z h k = lt-is z x (lt-numbers y z k .1) (le-numbers x y h .0) ∙ ap not (go (le z x) refl)
+  where
+    go : (b : Bool) → le z x ≡ b → le z x ≡ false
+    go true e = absurd (true≢false (sym (le-trans z x y e h) ∙ lt-not-le y z k))
+    go false e = e
+
+pub lt-le-trans : (x y z : Float) → lt x y ≡ true → le y z ≡ true → lt x z ≡ true
+lt-le-trans x y z h k = lt-is z x (le-numbers y z k .1) (lt-numbers x y h .0) ∙ ap not (go (le z x) refl)
+  where
+    go : (b : Bool) → le z x ≡ b → le z x ≡ false
+    go true e = absurd (true≢false (sym (le-trans y z x k e) ∙ lt-not-le x y h))
+    go false e = e
