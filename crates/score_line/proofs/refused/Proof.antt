@@ -1,0 +1,12 @@
+use mathlib.Core.Path.{refl}
+use lib.Ieee.{ofBits}
+use Rattle.score_line.specs.Reading.{refusedLine, lineOf, padded}
+use Rattle.score_line.proofs.refused.Statement.{statement}
+use Rattle.score_line.proofs.refused.Tie as tie
+
+returns : tie.Need-returns
+unfolding refusedLine lineOf padded ofBits
+returns c = refl
+
+pub refused-spec : {M : Type 1} → statement M
+refused-spec = tie.close (tie.spec returns)

@@ -1,0 +1,495 @@
+// A score line: its fields read from bits or from keypad numbers (document 01, "Score lines, bit by bit").
+use answer::Answer;
+use bitstream::Got;
+use timebase::Checked;
+ghost use mathlib.Core.Path.{_≡_};
+ghost use Prim.Native.Nat.{_≤_};
+ghost use mathlib.Core.List.{[]};
+ghost use Rattle.timebase.specs.Range.{checked};
+ghost use Rattle.bitstream.specs.Bits.{bitsOf};
+ghost use Rattle.score_line.specs.Source.{sourceOf};
+ghost use Rattle.score_line.specs.Reading.{got, answerOf, numberIs, realIs, whenIs, labelIs, eventIs, inRange, numberFrom, smallFrom, floatFrom, timedFrom, whenFrom, labelFrom, instrFrom, labelledFrom, controlFrom, tempoFrom, eventFrom, valuesFrom, countedFrom, withValues, afterEvent, afterWhen, lineFrom, refusedLine, lineRead, lineAt, lineInWords, keypadLine};
+
+pub enum When {
+    Timed { use_if_late: bool, time: f32 },
+    Untimed,
+}
+
+pub enum Label {
+    Unlabelled,
+    Labelled(u16),
+}
+
+pub enum Event {
+    Instr {
+        label: Label,
+        instrument: u16,
+        duration: f32,
+    },
+    Control {
+        label: u16,
+        variable: u16,
+        value: f32,
+    },
+    End,
+    Tempo(f32),
+}
+
+// A line: its time, if any, beside one of the four events, and the values of an instr line.
+pub struct Line {
+    pub when: When,
+    pub priority: bool,
+    pub event: Event,
+    pub count: usize,
+    pub values: [f32; 8],
+}
+
+// What reading a line gives: the answer, the line, and the position past it. On refusal a blank line and 0.
+pub struct LineRead {
+    pub answer: Answer,
+    pub line: Line,
+    pub next: usize,
+}
+
+// The faults that a line's fields can show.
+pub enum Fault {
+    CutShort,
+    NotCarried,
+    OutOfRange,
+    TooManyValues,
+}
+
+// The ranges of a line's floats.
+pub enum Range {
+    Time,
+    Duration,
+    Tempo,
+    Value,
+}
+
+// What reading a part of a line gives: the part and the position past it, or the first fault.
+pub enum Number {
+    Of(u32, usize),
+    Refused(Fault),
+}
+
+pub enum Real {
+    Of(f32, usize),
+    Refused(Fault),
+}
+
+pub enum WhenRead {
+    Of(When, usize),
+    Refused(Fault),
+}
+
+pub enum LabelRead {
+    Of(Label, usize),
+    Refused(Fault),
+}
+
+pub enum EventRead {
+    Of(Event, usize),
+    Refused(Fault),
+}
+
+fn answer_of(f: Fault) -> Answer
+    ensures { λ r. ⌜ r ≡ answerOf f ⌝ }
+{
+    match f {
+        Fault::CutShort => Answer::CutShort,
+        Fault::NotCarried => Answer::NotCarried,
+        Fault::OutOfRange => Answer::OutOfRange,
+        Fault::TooManyValues => Answer::TooManyValues,
+    }
+}
+
+// The next number of a line: a field of `width` bits, or the next of the keypad's numbers.
+fn number_at(bytes: &[u8], words: &[u32], keypad: bool, at: usize, width: usize) -> Number
+    ensures { λ r. ⌜ numberIs r ≡ numberFrom (sourceOf (now (bytes .entry)) (now (words .entry)) keypad) width at ⌝ }
+{
+    if keypad {
+        if at < words.len() {
+            return Number::Of(words[at], at + 1);
+        }
+        return Number::Refused(Fault::CutShort);
+    }
+    match bitstream::read(bytes, at, width) {
+        Got::Value(v, next) => Number::Of(v, next),
+        Got::Short => Number::Refused(Fault::CutShort),
+    }
+}
+
+// A number that is at most `most`: a flag, or a symbol.
+fn small_at(bytes: &[u8], words: &[u32], keypad: bool, at: usize, width: usize, most: u32) -> Number
+    ensures { λ r. ⌜ numberIs r ≡ smallFrom (sourceOf (now (bytes .entry)) (now (words .entry)) keypad) width most at ⌝ }
+{
+    match number_at(bytes, words, keypad, at, width) {
+        Number::Of(v, next) => {
+            if v <= most {
+                Number::Of(v, next)
+            } else {
+                Number::Refused(Fault::OutOfRange)
+            }
+        }
+        Number::Refused(f) => Number::Refused(f),
+    }
+}
+
+fn in_range(range: Range, b: u32) -> Checked
+    ensures { λ r. ⌜ r ≡ checked (inRange range b) b ⌝ }
+{
+    match range {
+        Range::Time => timebase::time_of(b),
+        Range::Duration => timebase::duration_of(b),
+        Range::Tempo => timebase::tempo_of(b),
+        Range::Value => timebase::value_of(b),
+    }
+}
+
+fn float_at(bytes: &[u8], words: &[u32], keypad: bool, at: usize, range: Range) -> Real
+    ensures { λ r. ⌜ realIs r ≡ floatFrom (sourceOf (now (bytes .entry)) (now (words .entry)) keypad) range at ⌝ }
+{
+    match number_at(bytes, words, keypad, at, 32) {
+        Number::Of(b, next) => match in_range(range, b) {
+            Checked::Value(x) => Real::Of(x, next),
+            Checked::Outside => Real::Refused(Fault::OutOfRange),
+        },
+        Number::Refused(f) => Real::Refused(f),
+    }
+}
+
+fn timed_at(bytes: &[u8], words: &[u32], keypad: bool, at: usize) -> WhenRead
+    ensures { λ r. ⌜ whenIs r ≡ timedFrom (sourceOf (now (bytes .entry)) (now (words .entry)) keypad) at ⌝ }
+{
+    match small_at(bytes, words, keypad, at, 1, 1) {
+        Number::Of(late, p) => match float_at(bytes, words, keypad, p, Range::Time) {
+            Real::Of(time, q) => WhenRead::Of(
+                When::Timed {
+                    use_if_late: late == 1,
+                    time: time,
+                },
+                q,
+            ),
+            Real::Refused(f) => WhenRead::Refused(f),
+        },
+        Number::Refused(f) => WhenRead::Refused(f),
+    }
+}
+
+fn when_at(bytes: &[u8], words: &[u32], keypad: bool, at: usize) -> WhenRead
+    ensures { λ r. ⌜ whenIs r ≡ whenFrom (sourceOf (now (bytes .entry)) (now (words .entry)) keypad) at ⌝ }
+{
+    match small_at(bytes, words, keypad, at, 1, 1) {
+        Number::Of(has_time, p) => {
+            if has_time == 1 {
+                timed_at(bytes, words, keypad, p)
+            } else {
+                WhenRead::Of(When::Untimed, p)
+            }
+        }
+        Number::Refused(f) => WhenRead::Refused(f),
+    }
+}
+
+fn label_at(bytes: &[u8], words: &[u32], keypad: bool, at: usize) -> LabelRead
+    ensures { λ r. ⌜ labelIs r ≡ labelFrom (sourceOf (now (bytes .entry)) (now (words .entry)) keypad) at ⌝ }
+{
+    match small_at(bytes, words, keypad, at, 1, 1) {
+        Number::Of(has_label, p) => {
+            if has_label == 1 {
+                match small_at(bytes, words, keypad, p, 16, 65535) {
+                    Number::Of(label, q) => LabelRead::Of(Label::Labelled(label as u16), q),
+                    Number::Refused(f) => LabelRead::Refused(f),
+                }
+            } else {
+                LabelRead::Of(Label::Unlabelled, p)
+            }
+        }
+        Number::Refused(f) => LabelRead::Refused(f),
+    }
+}
+
+fn instr_at(bytes: &[u8], words: &[u32], keypad: bool, at: usize) -> EventRead
+    ensures { λ r. ⌜ eventIs r ≡ instrFrom (sourceOf (now (bytes .entry)) (now (words .entry)) keypad) at ⌝ }
+{
+    match label_at(bytes, words, keypad, at) {
+        LabelRead::Of(label, p) => match small_at(bytes, words, keypad, p, 16, 65535) {
+            Number::Of(instrument, q) => match float_at(bytes, words, keypad, q, Range::Duration) {
+                Real::Of(duration, r) => EventRead::Of(
+                    Event::Instr {
+                        label: label,
+                        instrument: instrument as u16,
+                        duration: duration,
+                    },
+                    r,
+                ),
+                Real::Refused(f) => EventRead::Refused(f),
+            },
+            Number::Refused(f) => EventRead::Refused(f),
+        },
+        LabelRead::Refused(f) => EventRead::Refused(f),
+    }
+}
+
+// A control line from its label on.
+fn labelled_at(bytes: &[u8], words: &[u32], keypad: bool, at: usize) -> EventRead
+    ensures { λ r. ⌜ eventIs r ≡ labelledFrom (sourceOf (now (bytes .entry)) (now (words .entry)) keypad) at ⌝ }
+{
+    match small_at(bytes, words, keypad, at, 16, 65535) {
+        Number::Of(label, p) => match small_at(bytes, words, keypad, p, 16, 65535) {
+            Number::Of(variable, q) => match float_at(bytes, words, keypad, q, Range::Value) {
+                Real::Of(value, r) => EventRead::Of(
+                    Event::Control {
+                        label: label as u16,
+                        variable: variable as u16,
+                        value: value,
+                    },
+                    r,
+                ),
+                Real::Refused(f) => EventRead::Refused(f),
+            },
+            Number::Refused(f) => EventRead::Refused(f),
+        },
+        Number::Refused(f) => EventRead::Refused(f),
+    }
+}
+
+fn control_at(bytes: &[u8], words: &[u32], keypad: bool, at: usize) -> EventRead
+    ensures { λ r. ⌜ eventIs r ≡ controlFrom (sourceOf (now (bytes .entry)) (now (words .entry)) keypad) at ⌝ }
+{
+    match small_at(bytes, words, keypad, at, 1, 1) {
+        Number::Of(has_label, p) => {
+            if has_label == 1 {
+                labelled_at(bytes, words, keypad, p)
+            } else {
+                EventRead::Refused(Fault::NotCarried)
+            }
+        }
+        Number::Refused(f) => EventRead::Refused(f),
+    }
+}
+
+fn tempo_at(bytes: &[u8], words: &[u32], keypad: bool, at: usize) -> EventRead
+    ensures { λ r. ⌜ eventIs r ≡ tempoFrom (sourceOf (now (bytes .entry)) (now (words .entry)) keypad) at ⌝ }
+{
+    match float_at(bytes, words, keypad, at, Range::Tempo) {
+        Real::Of(tempo, p) => EventRead::Of(Event::Tempo(tempo), p),
+        Real::Refused(f) => EventRead::Refused(f),
+    }
+}
+
+// The event of a line's type.
+fn event_at(bytes: &[u8], words: &[u32], keypad: bool, at: usize, kind: u32) -> EventRead
+    ensures { λ r. ⌜ eventIs r ≡ eventFrom (sourceOf (now (bytes .entry)) (now (words .entry)) keypad) kind at ⌝ }
+{
+    if kind == 0 {
+        return instr_at(bytes, words, keypad, at);
+    }
+    if kind == 1 {
+        return control_at(bytes, words, keypad, at);
+    }
+    if kind == 4 {
+        return EventRead::Of(Event::End, at);
+    }
+    if kind == 5 {
+        return tempo_at(bytes, words, keypad, at);
+    }
+    EventRead::Refused(Fault::NotCarried)
+}
+
+// A refusal: a blank line and the position 0.
+pub fn refused(a: Answer) -> LineRead
+    ensures { λ r. ⌜ r ≡ refusedLine a ⌝ }
+{
+    LineRead {
+        answer: a,
+        line: Line {
+            when: When::Untimed,
+            priority: false,
+            event: Event::End,
+            count: 0,
+            values: [0.0f32; 8],
+        },
+        next: 0,
+    }
+}
+
+fn faulty(f: Fault) -> LineRead
+    ensures { λ r. ⌜ r ≡ refusedLine (answerOf f) ⌝ }
+{
+    refused(answer_of(f))
+}
+
+// A line with the n values that stand next.
+fn values_line(
+    bytes: &[u8],
+    words: &[u32],
+    keypad: bool,
+    at: usize,
+    n: usize,
+    when: When,
+    priority: bool,
+    event: Event,
+) -> LineRead
+    requires { ⌜ n ≤ 8 ⌝ }
+    ensures { λ r. ⌜ r ≡ lineRead (withValues when priority event (valuesFrom (sourceOf (now (bytes .entry)) (now (words .entry)) keypad) n at)) ⌝ }
+{
+    let mut values = [0.0f32; 8];
+    let mut p = at;
+    let mut i: usize = 0;
+    while i < n {
+        match float_at(bytes, words, keypad, p, Range::Value) {
+            Real::Of(x, q) => {
+                values[i] = x;
+                p = q;
+            }
+            Real::Refused(f) => {
+                return faulty(f);
+            }
+        }
+        i += 1;
+    }
+    LineRead {
+        answer: Answer::Taken,
+        line: Line {
+            when: when,
+            priority: priority,
+            event: event,
+            count: n,
+            values: values,
+        },
+        next: p,
+    }
+}
+
+fn counted_line(
+    bytes: &[u8],
+    words: &[u32],
+    keypad: bool,
+    at: usize,
+    when: When,
+    priority: bool,
+    event: Event,
+) -> LineRead
+    ensures { λ r. ⌜ r ≡ lineRead (withValues when priority event (countedFrom (sourceOf (now (bytes .entry)) (now (words .entry)) keypad) at)) ⌝ }
+{
+    match number_at(bytes, words, keypad, at, 8) {
+        Number::Of(n, p) => {
+            if 8 < n {
+                faulty(Fault::TooManyValues)
+            } else {
+                values_line(bytes, words, keypad, p, n as usize, when, priority, event)
+            }
+        }
+        Number::Refused(f) => faulty(f),
+    }
+}
+
+fn no_values(at: usize, when: When, priority: bool, event: Event) -> LineRead
+    ensures { λ r. ⌜ r ≡ lineRead (withValues when priority event (got [] at)) ⌝ }
+{
+    LineRead {
+        answer: Answer::Taken,
+        line: Line {
+            when: when,
+            priority: priority,
+            event: event,
+            count: 0,
+            values: [0.0f32; 8],
+        },
+        next: at,
+    }
+}
+
+// From past the event on: an instr line has values.
+fn after_event(
+    bytes: &[u8],
+    words: &[u32],
+    keypad: bool,
+    at: usize,
+    when: When,
+    priority: bool,
+    event: Event,
+) -> LineRead
+    ensures { λ r. ⌜ r ≡ lineRead (afterEvent (sourceOf (now (bytes .entry)) (now (words .entry)) keypad) when priority event at) ⌝ }
+{
+    match event {
+        Event::Instr {
+            label: _,
+            instrument: _,
+            duration: _,
+        } => counted_line(bytes, words, keypad, at, when, priority, event),
+        Event::Control {
+            label: _,
+            variable: _,
+            value: _,
+        } => no_values(at, when, priority, event),
+        Event::End => no_values(at, when, priority, event),
+        Event::Tempo(_) => no_values(at, when, priority, event),
+    }
+}
+
+fn after_when(bytes: &[u8], words: &[u32], keypad: bool, at: usize, when: When) -> LineRead
+    ensures { λ r. ⌜ r ≡ lineRead (afterWhen (sourceOf (now (bytes .entry)) (now (words .entry)) keypad) when at) ⌝ }
+{
+    match small_at(bytes, words, keypad, at, 1, 1) {
+        Number::Of(priority, p) => match number_at(bytes, words, keypad, p, 3) {
+            Number::Of(kind, q) => match event_at(bytes, words, keypad, q, kind) {
+                EventRead::Of(event, r) => after_event(
+                    bytes,
+                    words,
+                    keypad,
+                    r,
+                    when,
+                    priority == 1,
+                    event,
+                ),
+                EventRead::Refused(f) => faulty(f),
+            },
+            Number::Refused(f) => faulty(f),
+        },
+        Number::Refused(f) => faulty(f),
+    }
+}
+
+// The one reader of lines, from bits or from keypad numbers.
+fn line_from(bytes: &[u8], words: &[u32], keypad: bool, at: usize) -> LineRead
+    ensures { λ r. ⌜ r ≡ lineRead (lineFrom (sourceOf (now (bytes .entry)) (now (words .entry)) keypad) at) ⌝ }
+{
+    match when_at(bytes, words, keypad, at) {
+        WhenRead::Of(when, p) => after_when(bytes, words, keypad, p, when),
+        WhenRead::Refused(f) => faulty(f),
+    }
+}
+
+// A line somewhere among bits.
+pub fn line_at(bytes: &[u8], at: usize) -> LineRead
+    ensures { λ r. ⌜ r ≡ lineAt (bitsOf (now (bytes .entry))) at ⌝ }
+{
+    let none = [0u32; 1];
+    line_from(bytes, &none, false, at)
+}
+
+// A line somewhere among keypad numbers.
+pub fn line_in_words(words: &[u32], at: usize) -> LineRead
+    ensures { λ r. ⌜ r ≡ lineInWords (now (words .entry)) at ⌝ }
+{
+    let none = [0u8; 1];
+    line_from(&none, words, true, at)
+}
+
+// A keypad line: the whole run of numbers.
+pub fn keypad_line(words: &[u32]) -> LineRead
+    ensures { λ r. ⌜ r ≡ keypadLine (now (words .entry)) ⌝ }
+{
+    let read = line_in_words(words, 0);
+    let answer = read.answer;
+    if answer::is_taken(answer) {
+        if read.next == words.len() {
+            return read;
+        }
+        return refused(Answer::LeftOver);
+    }
+    read
+}
