@@ -1,2 +1,8 @@
 mod Past
 mod Ways
+mod Standing
+mod Counting
+mod Passing
+mod Storing
+mod Whole
+mod Laws

@@ -1,0 +1,251 @@
+-- The tokens of bytes and the bytes of tokens undo each other; what is stored gives the tokens back.
+use Prim.Native.Nat.{ℕ, zero, suc, _+_, _*_, _/_, _%_, _^_, _≤_, _<_}
+use native.Mathlib.Omega.{arith}
+use native.Mathlib.Nat.{mod-eq-of-lt}
+use mathlib.Core.Path.{_≡_, refl, sym, ap, _∙_, subst}
+use mathlib.Core.Bool.{Bool, true, false, not, _&&_, _||_, cond}
+use mathlib.Core.List.{List, [], _∷_, _++_, map, append-assoc}
+use lib.ListN.{length, getD, take, drop, replicate, length-map}
+use lib.Seq.{take-at}
+use lib.Dec.{T, eqb, leb, ltb}
+use lib.Ieee.{Float, nan, inf, fin, binary32, ofBits, toBits, isNan, fits}
+use lib.Ieee.Bits.{ofBits-toBits, toBits-ofBits, toBits-lt}
+use lib.Ieee.Scale.{finite}
+use borrow.Author.Tests.{lt-ltb, le-leb, ltb-true, leb-true, eqb-true, eqb-false, ne-eqb}
+use Rattle.tokens.specs.Token.{zeroF, tokenOf, toks}
+use Rattle.tokens.specs.Bytes.{lawful, allLawful, two, four, spelt, bytesOf, Bytes, twoOf, fourOf, more, tokenFrom, Got, none, some, with, ended, tokensAfter, tokensOf}
+use Rattle.tokens.specs.Measures.{kindOf}
+use Rattle.tokens.specs.Reading.{wordOf, realOf, padded}
+use Rattle.tokens.specs.declared.Token.{Token}
+use Rattle.tokens.specs.declared.Token.the-variants.{Number, Symbol, Whole, Sign}
+use Rattle.tokens.proofs.Passing.{after-drop}
+use Rattle.tokens.proofs.Storing.{impossible, with-first, with-rest}
+
+and-left : (a b : Bool) → (a && b) ≡ true → a ≡ true
+and-left true b e = refl
+and-left false b e = e
+
+and-right : (a b : Bool) → (a && b) ≡ true → b ≡ true
+and-right true b e = e
+and-right false b e = impossible (cc)
+
+-- ---- from tokens to bytes and back
+
+is-T : (b : Bool) → b ≡ true → T b
+is-T true e = tt
+is-T false e = impossible (cc)
+
+four-back : (w : ℕ) → w < 2 ^ 32 → 16777216 * (w / 16777216) + (65536 * (w / 65536 % 256) + (256 * (w / 256 % 256) + w % 256)) ≡ w
+four-back w h = omega arith
+
+two-back : (s : ℕ) → s < 65536 → (256 * (s / 256) + s % 256) % 65536 ≡ s
+two-back s h = omega arith
+
+module _ (rest : List ℕ) where
+  abbrev reads : Token → Type 0
+  reads t = tokensAfter 0 (spelt t ++ rest) ≡ with t (tokensAfter 0 rest)
+
+  sign-back : (k : ℕ) → lawful (Sign k) ≡ true → reads (Sign k)
+  unfolding tokensAfter spelt tokenFrom
+  sign-back k e =
+      let lo = ltb-true 0 k (and-left (ltb 0 k) (leb k 36) e) in
+      let hi = leb-true k 36 (and-right (ltb 0 k) (leb k 36) e) in
+      rw (ne-eqb k 0xff (λ q. omega arith), ne-eqb k 0xf0 (λ q. omega arith), ne-eqb k 0xf1 (λ q. omega arith), ne-eqb k 0xf2 (λ q. omega arith), e)
+
+  symbol-back : (s : ℕ) → lawful (Symbol s) ≡ true → reads (Symbol s)
+  unfolding tokensAfter spelt tokenFrom
+  symbol-back s e = rw (two-back s (ltb-true s 65536 e), e)
+
+  whole-back : (w : ℕ) → lawful (Whole w) ≡ true → reads (Whole w)
+  unfolding tokensAfter spelt tokenFrom
+  whole-back w e = let h = ltb-true w 16777217 e in rw (four-back w (omega arith), e)
+
+  number-back : (x : Float) → lawful (Number x) ≡ true → reads (Number x)
+  unfolding tokensAfter spelt tokenFrom
+  number-back x e =
+      let f = is-T (fits binary32 x) (and-right (finite x) (fits binary32 x) e) in
+      let h : toBits binary32 x < 2 ^ 32 = toBits-lt binary32 x f in
+      rw (four-back (toBits binary32 x) h, ofBits-toBits binary32 x f, e)
+
+  pub token-back : (t : Token) → lawful t ≡ true → reads t
+  token-back (Number x) e = number-back x e
+  token-back (Symbol s) e = symbol-back s e
+  token-back (Whole w) e = whole-back w e
+  token-back (Sign k) e = sign-back k e
+
+-- the tokens of the bytes of lawful tokens are those tokens
+pub tokens-bytes : (ts : List Token) → allLawful ts ≡ true → tokensOf (bytesOf ts) ≡ some ts
+unfolding bytesOf allLawful tokensAfter
+tokens-bytes [] e = refl
+tokens-bytes (t ∷ ts) e =
+    token-back (bytesOf ts) t (and-left (lawful t) (allLawful ts) e) ∙ ap (with t) (tokens-bytes ts (and-right (lawful t) (allLawful ts) e))
+
+-- ---- from bytes to tokens and back
+
+bytes-drop : (n : ℕ) (bs : List ℕ) → Bytes bs → Bytes (drop n bs)
+unfolding Bytes
+bytes-drop zero [] p = p
+bytes-drop zero (b ∷ bs) p = p
+bytes-drop (suc n) [] p = p
+bytes-drop (suc n) (b ∷ bs) p = bytes-drop n bs (p .1)
+
+two-spelt : (h l : ℕ) → h < 256 → l < 256 → two ((256 * h + l) % 65536) ≡ h ∷ l ∷ []
+two-spelt h l p q =
+    let a : (256 * h + l) % 65536 / 256 ≡ h = omega arith in
+    let b : (256 * h + l) % 65536 % 256 ≡ l = omega arith in
+    rw (a, b)
+
+four-spelt : (a b c d : ℕ) → a < 256 → b < 256 → c < 256 → d < 256
+    → four (16777216 * a + (65536 * b + (256 * c + d))) ≡ a ∷ b ∷ c ∷ d ∷ []
+four-spelt a b c d p q r s =
+    let w = 16777216 * a + (65536 * b + (256 * c + d)) in
+    let e : w / 16777216 ≡ a = omega arith in
+    let f : w / 65536 % 256 ≡ b = omega arith in
+    let g : w / 256 % 256 ≡ c = omega arith in
+    let h : w % 256 ≡ d = omega arith in
+    rw (e, f, g, h)
+
+finite-no-nan : (x : Float) → finite x ≡ true → T (not (isNan x))
+unfolding isNan
+finite-no-nan nan e = impossible (cc)
+finite-no-nan (inf s) e = impossible (cc)
+finite-no-nan (fin s m d) e = tt
+
+-- bytes that are left start with as many as belong to the token before
+after-none : (n : ℕ) (ts : List Token) → tokensAfter n [] ≡ some ts → _≡_ {A = ℕ} 0 1
+unfolding tokensAfter
+after-none n ts e = cc
+
+module _ (ts : List Token) where
+  symbol-spelt : (bs : List ℕ) → Bytes bs → tokensAfter 2 bs ≡ some ts → spelt (tokenFrom 0xf0 bs) ++ drop 2 bs ≡ 0xf0 ∷ bs
+  unfolding tokensAfter tokenFrom spelt Bytes
+  symbol-spelt [] p e = impossible (after-none 2 ts e)
+  symbol-spelt (h ∷ []) p e = impossible (after-none 1 ts e)
+  symbol-spelt (h ∷ l ∷ bs) p e = ap (λ m. 0xf0 ∷ (m ++ bs)) (two-spelt h l (p .0) (p .1 .0))
+
+  number-spelt : (bs : List ℕ) → Bytes bs → lawful (tokenFrom 0xf1 bs) ≡ true → tokensAfter 4 bs ≡ some ts → spelt (tokenFrom 0xf1 bs) ++ drop 4 bs ≡ 0xf1 ∷ bs
+  unfolding tokensAfter tokenFrom spelt Bytes
+  number-spelt [] p l e = impossible (after-none 4 ts e)
+  number-spelt (a ∷ []) p l e = impossible (after-none 3 ts e)
+  number-spelt (a ∷ b ∷ []) p l e = impossible (after-none 2 ts e)
+  number-spelt (a ∷ b ∷ c ∷ []) p l e = impossible (after-none 1 ts e)
+  number-spelt (a ∷ b ∷ c ∷ d ∷ bs) p l e =
+      let w = 16777216 * a + (65536 * b + (256 * c + d)) in
+      let h : w < 2 ^ 32 = omega (arith, p .0, p .1 .0, p .1 .1 .0, p .1 .1 .1 .0) in
+      let n = finite-no-nan (ofBits binary32 w) (and-left (finite (ofBits binary32 w)) (fits binary32 (ofBits binary32 w)) l) in
+      rw (toBits-ofBits binary32 w h n) (ap (λ m. 0xf1 ∷ (m ++ bs)) (four-spelt a b c d (p .0) (p .1 .0) (p .1 .1 .0) (p .1 .1 .1 .0)))
+
+  whole-spelt : (bs : List ℕ) → Bytes bs → tokensAfter 4 bs ≡ some ts → spelt (tokenFrom 0xf2 bs) ++ drop 4 bs ≡ 0xf2 ∷ bs
+  unfolding tokensAfter tokenFrom spelt Bytes
+  whole-spelt [] p e = impossible (after-none 4 ts e)
+  whole-spelt (a ∷ []) p e = impossible (after-none 3 ts e)
+  whole-spelt (a ∷ b ∷ []) p e = impossible (after-none 2 ts e)
+  whole-spelt (a ∷ b ∷ c ∷ []) p e = impossible (after-none 1 ts e)
+  whole-spelt (a ∷ b ∷ c ∷ d ∷ bs) p e = ap (λ m. 0xf2 ∷ (m ++ bs)) (four-spelt a b c d (p .0) (p .1 .0) (p .1 .1 .0) (p .1 .1 .1 .0))
+
+  -- the token that the first byte starts, spelt, and the bytes after it
+  abbrev Spells : List ℕ → ℕ → Type 0
+  Spells bs b = lawful (tokenFrom b bs) ≡ true → tokensAfter (more b) bs ≡ some ts → spelt (tokenFrom b bs) ++ drop (more b) bs ≡ b ∷ bs
+
+  first-spelt : (b : ℕ) (bs : List ℕ) (x y z : Bool) → eqb b 0xf0 ≡ x → eqb b 0xf1 ≡ y → eqb b 0xf2 ≡ z → Bytes bs → Spells bs b
+  unfolding tokenFrom spelt
+  first-spelt b bs true y z i j k p = subst (Spells bs) (sym (eqb-true b 0xf0 i)) (λ l e. symbol-spelt bs p e)
+  first-spelt b bs false true z i j k p = subst (Spells bs) (sym (eqb-true b 0xf1 j)) (λ l e. number-spelt bs p l e)
+  first-spelt b bs false false true i j k p = subst (Spells bs) (sym (eqb-true b 0xf2 k)) (λ l e. whole-spelt bs p e)
+  first-spelt b bs false false false i j k p = λ l e. rw (i, j, k)
+
+ended-some : (bs : List ℕ) (t : Token) (ts : List Token) → ended bs ≡ some (t ∷ ts) → _≡_ {A = ℕ} 0 1
+ended-some [] t ts e = cc
+ended-some (b ∷ bs) t ts e = cc
+
+ended-none : (bs : List ℕ) → ended bs ≡ some [] → bs ≡ []
+ended-none [] e = refl
+ended-none (b ∷ bs) e = impossible (cc)
+
+with-none : (t : Token) (g : Got) → with t g ≡ some [] → _≡_ {A = ℕ} 0 1
+with-none t none e = cc
+with-none t (some ts) e = cc
+
+-- the first byte is no end token, and starts a lawful token
+record Starts (b : ℕ) (bs : List ℕ) (t : Token) (ts : List Token) : Type 0 where
+  fine : lawful (tokenFrom b bs) ≡ true
+  first : tokenFrom b bs ≡ t
+  rest : tokensAfter (more b) bs ≡ some ts
+
+starts : (b : ℕ) (bs : List ℕ) (t : Token) (ts : List Token) → tokensAfter 0 (b ∷ bs) ≡ some (t ∷ ts) → Starts b bs t ts
+unfolding tokensAfter
+starts b bs t ts e = go (eqb b 0xff) (lawful (tokenFrom b bs)) refl e
+  where
+    go : (x y : Bool) → lawful (tokenFrom b bs) ≡ y → cond x (ended bs) (cond y (with (tokenFrom b bs) (tokensAfter (more b) bs)) none) ≡ some (t ∷ ts) → Starts b bs t ts
+    go true y l f = impossible (ended-some bs t ts f)
+    go false false l f = impossible (cc)
+    go false true l f =
+        let g = tokensAfter (more b) bs in
+        record { fine = l; first = with-first (tokenFrom b bs) g t ts f; rest = with-rest (tokenFrom b bs) g t ts f }
+
+-- only the end token, alone, is no tokens
+ends : (b : ℕ) (bs : List ℕ) → tokensAfter 0 (b ∷ bs) ≡ some [] → 0xff ∷ [] ≡ b ∷ bs
+unfolding tokensAfter
+ends b bs e = go (eqb b 0xff) (lawful (tokenFrom b bs)) refl e
+  where
+    go : (x y : Bool) → eqb b 0xff ≡ x → cond x (ended bs) (cond y (with (tokenFrom b bs) (tokensAfter (more b) bs)) none) ≡ some [] → 0xff ∷ [] ≡ b ∷ bs
+    go true y q f = rw (eqb-true b 0xff q, ended-none bs f)
+    go false false q f = impossible (cc)
+    go false true q f = impossible (with-none (tokenFrom b bs) (tokensAfter (more b) bs) f)
+
+none-back : (bs : List ℕ) → tokensOf bs ≡ some [] → 0xff ∷ [] ≡ bs
+none-back [] e = impossible (after-none 0 [] e)
+none-back (b ∷ bs) e = ends b bs e
+
+more-back : (t : Token) (ts : List Token) (bs : List ℕ) → ((cs : List ℕ) → Bytes cs → tokensOf cs ≡ some ts → bytesOf ts ≡ cs)
+    → Bytes bs → tokensOf bs ≡ some (t ∷ ts) → spelt t ++ bytesOf ts ≡ bs
+unfolding Bytes
+more-back t ts [] ih p e = impossible (after-none 0 (t ∷ ts) e)
+more-back t ts (b ∷ bs) ih p e =
+    let s = starts b bs t ts e in
+    ap (λ u. spelt u ++ bytesOf ts) (sym (s .first))
+    ∙ ap (λ l. spelt (tokenFrom b bs) ++ l) (ih (drop (more b) bs) (bytes-drop (more b) bs (p .1)) (sym (after-drop (more b) bs) ∙ s .rest))
+    ∙ first-spelt ts b bs (eqb b 0xf0) (eqb b 0xf1) (eqb b 0xf2) refl refl refl (p .1) (s .fine) (s .rest)
+
+-- the bytes of the tokens of bytes are those bytes
+pub bytes-tokens : (ts : List Token) (bs : List ℕ) → Bytes bs → tokensOf bs ≡ some ts → bytesOf ts ≡ bs
+unfolding bytesOf
+bytes-tokens [] bs p e = none-back bs e
+bytes-tokens (t ∷ ts) bs p e = more-back t ts bs (λ cs q f. bytes-tokens ts cs q f) p e
+
+more-lawful : (t : Token) (ts : List Token) (bs : List ℕ) → ((cs : List ℕ) → tokensOf cs ≡ some ts → allLawful ts ≡ true)
+    → tokensOf bs ≡ some (t ∷ ts) → (lawful t && allLawful ts) ≡ true
+more-lawful t ts [] ih e = impossible (after-none 0 (t ∷ ts) e)
+more-lawful t ts (b ∷ bs) ih e =
+    let s = starts b bs t ts e in
+    let l : lawful t ≡ true = ap lawful (sym (s .first)) ∙ s .fine in
+    rw l (ih (drop (more b) bs) (sym (after-drop (more b) bs) ∙ s .rest))
+
+-- and those tokens are lawful
+pub tokens-lawful : (ts : List Token) (bs : List ℕ) → tokensOf bs ≡ some ts → allLawful ts ≡ true
+unfolding allLawful
+tokens-lawful [] bs e = refl
+tokens-lawful (t ∷ ts) bs e = more-lawful t ts bs (λ cs f. tokens-lawful ts cs f) e
+
+-- ---- what is stored
+
+stored-one : (t : Token) → lawful t ≡ true → tokenOf (kindOf t) (wordOf t) (realOf t) ≡ t
+stored-one (Number x) e = refl
+stored-one (Symbol s) e = ap Symbol (mod-eq-of-lt (ltb-true s 65536 e))
+stored-one (Whole w) e = refl
+stored-one (Sign k) e =
+    let hi = leb-true k 36 (and-right (ltb 0 k) (leb k 36) e) in
+    rw (ne-eqb k 0xf0 (λ q. omega arith), ne-eqb k 0xf1 (λ q. omega arith), ne-eqb k 0xf2 (λ q. omega arith))
+
+stored-all : (ts : List Token) (ws : List ℕ) (xs : List Float) → allLawful ts ≡ true → toks (map kindOf ts) (map wordOf ts ++ ws) (map realOf ts ++ xs) ≡ ts
+unfolding toks allLawful
+stored-all [] ws xs e = refl
+stored-all (t ∷ ts) ws xs e =
+    rw (stored-one t (and-left (lawful t) (allLawful ts) e)) (ap (λ l. t ∷ l) (stored-all ts ws xs (and-right (lawful t) (allLawful ts) e)))
+
+-- the three arrays hold the tokens that were put in
+pub stored-tokens : (ts : List Token) → allLawful ts ≡ true
+    → toks (take (length ts) (padded 0 (map kindOf ts))) (padded 0 (map wordOf ts)) (padded zeroF (map realOf ts)) ≡ ts
+stored-tokens ts e =
+    let k = take-at (map kindOf ts) (drop (length (map kindOf ts)) (replicate 2048 0)) (length ts) (length-map ts kindOf) in
+    rw k (stored-all ts (drop (length (map wordOf ts)) (replicate 2048 0)) (drop (length (map realOf ts)) (replicate 2048 zeroF)) e)
