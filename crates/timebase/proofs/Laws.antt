@@ -68,6 +68,13 @@ pub tempo-from-to : (b : ℕ) → tempoBits b ≡ true → (le slowest (ofBits b
 unfolding tempoBits
 tempo-from-to b e = and-true (le slowest (ofBits binary32 b)) (le (ofBits binary32 b) fastest) e
 
+-- the same for a float of the format whose pattern is accepted
+pub time-float : (x : Float) → T (fits binary32 x) → timeBits (toBits binary32 x) ≡ true → (le zeroF x ≡ true) × (le x latest ≡ true)
+time-float x f e = subst (λ (y : Float). (le zeroF y ≡ true) × (le y latest ≡ true)) (ofBits-toBits binary32 x f) (time-from-to (toBits binary32 x) e)
+
+pub tempo-float : (x : Float) → T (fits binary32 x) → tempoBits (toBits binary32 x) ≡ true → (le slowest x ≡ true) × (le x fastest ≡ true)
+tempo-float x f e = subst (λ (y : Float). (le slowest y ≡ true) × (le y fastest ≡ true)) (ofBits-toBits binary32 x f) (tempo-from-to (toBits binary32 x) e)
+
 -- a duration is a time or the pattern of -1
 pub duration-is : (b : ℕ) → durationBits b ≡ true → (timeBits b ≡ true) ⊎ (b ≡ 0xbf80_0000)
 unfolding durationBits toBits

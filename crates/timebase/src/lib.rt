@@ -5,21 +5,21 @@ ghost use Prim.Native.Nat.{_*_, _^_, _<_, _≤_};
 ghost use Rattle.timebase.specs.Time.{upTo, ticksIn, cycleIn, finiteBits, timeBits, durationBits, tempoBits};
 ghost use Rattle.timebase.specs.Range.{checked};
 
-// m * 2^j * 6,144,000 / 2^149 rounded up. m is shifted until its highest bit is at 31, so that the
-// rest is one shift down by a distance that j and the count of leading zeros give. Past 40 places
-// what is shifted lies below one tick.
+// m * 2^j * 6,144,000 / 2^149 rounded up, where 6,144,000 is 375 * 2^14. m is shifted until its highest
+// bit is at 31, so that the rest is one shift down by a distance that j and the count of leading zeros
+// give. A distance past 40 leaves less than one tick.
 fn shifted(m: u32, j: u32) -> u64
     requires { ⌜ (0 < m) × (m * 2 ^ j ≤ 2 ^ 163) ⌝ }
     ensures { λ r. ⌜ r ≡ upTo (m * 2 ^ j * 6144000) (2 ^ 149) ⌝ }
 {
-    let z = u32::leading_zeros(m);
-    let p = ((m << z) as u64) * 375;
-    let s = 135 + z - j;
-    if 40 < s {
+    let zeros = u32::leading_zeros(m);
+    let product = ((m << zeros) as u64) * 375;
+    let distance = 135 + zeros - j;
+    if 40 < distance {
         return 1;
     }
-    let whole = 1u64 << s;
-    (p + (whole - 1)) >> s
+    let tick = 1u64 << distance;
+    (product + (tick - 1)) >> distance
 }
 
 // The ticks of a time or a duration: 0 past the latest time.
@@ -29,12 +29,12 @@ pub fn beats_to_ticks(time: f32) -> u64
     if 0.0 < time {
         if time <= 16384.0 {
             let b = f32::to_bits(time);
-            let x = b % 0x8000_0000 / 0x80_0000;
-            let t = b % 0x80_0000;
-            if x == 0 {
-                return shifted(t, 0);
+            let exponent = b % 0x8000_0000 / 0x80_0000;
+            let digits = b % 0x80_0000;
+            if exponent == 0 {
+                return shifted(digits, 0);
             }
-            return shifted(0x80_0000 + t, x - 1);
+            return shifted(0x80_0000 + digits, exponent - 1);
         }
     }
     0
@@ -73,6 +73,7 @@ pub fn value_of(b: u32) -> Checked
 pub fn time_of(b: u32) -> Checked
     ensures { λ r. ⌜ r ≡ checked (timeBits b) b ⌝ }
 {
+    // past infinity's pattern: the sign bit is set, or it is not a number
     if 0x7f80_0000 < b {
         return Checked::Outside;
     }
@@ -98,6 +99,7 @@ pub fn duration_of(b: u32) -> Checked
 pub fn tempo_of(b: u32) -> Checked
     ensures { λ r. ⌜ r ≡ checked (tempoBits b) b ⌝ }
 {
+    // not a number
     if 0x7f80_0000 < b % 0x8000_0000 {
         return Checked::Outside;
     }

@@ -14,20 +14,20 @@ use Rattle.timebase.proofs.shifted.Lts as lts
 at : (c : tie.Start) → Top (c .args .m) (c .args .j) (leadingZeros 32 (c .args .m))
 at c = top (c .args .m) (c .args .j) (c .pre .0) (c .fits .m .fits) (c .pre .1)
 
-shl-p : tie.Need-shl-p
-shl-p c = at c .few
+shl-product : tie.Need-shl-product
+shl-product c = at c .few
 
-cast-p : tie.Need-cast-p
-cast-p c = search needs
+cast-product : tie.Need-cast-product
+cast-product c = search needs
 
-mul-p : tie.Need-mul-p
-mul-p c = search needs
+mul-product : tie.Need-mul-product
+mul-product c = search needs
 
-add-s : tie.Need-add-s
-add-s c = omega (arith, at c .few)
+add-distance : tie.Need-add-distance
+add-distance c = omega (arith, at c .few)
 
-sub-s : tie.Need-sub-s
-sub-s c = omega (arith, at c .reach)
+sub-distance : tie.Need-sub-distance
+sub-distance c = omega (arith, at c .reach)
 
 -- the whole answer, in place of the machine's shift
 is : (c : tie.Start) → upTo (c .args .m * 2 ^ leadingZeros 32 (c .args .m) * 375) (2 ^ (135 + leadingZeros 32 (c .args .m) - c .args .j)) ≡ upTo (c .args .m * 2 ^ c .args .j * 6144000) (2 ^ 149)
@@ -54,11 +54,11 @@ parts c =
     let z = leadingZeros 32 (a .m) in
     (shift-is (a .m) z (at (c .before) .below), one-left (135 + z - a .j) (c .if1 .left))
 
-cast-whole : tie.Need-cast-whole
-cast-whole c = search needs
+cast-tick : tie.Need-cast-tick
+cast-tick c = search needs
 
-shl-whole : tie.Need-shl-whole
-shl-whole c = search needs
+shl-tick : tie.Need-shl-tick
+shl-tick c = search needs
 
 sub-result : tie.Need-sub-result
 sub-result c = rw (parts c .1) (omega (arith, pow-pos (135 + leadingZeros 32 (c .before .args .m) - c .before .args .j)))
@@ -80,4 +80,4 @@ unfolding upTo
 returns-2 c = rw (parts c .1, parts c .0) (is (c .before))
 
 pub shifted-spec : {M : Type 1} → statement M
-shifted-spec = tie.close (tie.spec shl-p cast-p mul-p add-s sub-s returns cast-whole shl-whole sub-result add-result cast-result shr-result returns-2)
+shifted-spec = tie.close (tie.spec shl-product cast-product mul-product add-distance sub-distance returns cast-tick shl-tick sub-result add-result cast-result shr-result returns-2)
