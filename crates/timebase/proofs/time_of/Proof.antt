@@ -7,7 +7,7 @@ use Rattle.timebase.proofs.time_of.Tie as tie
 
 returns : tie.Need-returns
 unfolding checked
-returns c = rw (time-outside (c .before .args .b) (c .before .fits .b .fits) (c .if1 .taken))
+returns c = rw (time-outside (c .before .args .b) (c .before .fits .b .fits) (omega (arith, c .if1 .taken)))
 
 float-from-bits-x : tie.Need-float-from-bits-x
 float-from-bits-x c = no-nan (c .before .args .b) (omega arith)
