@@ -1,0 +1,9 @@
+pub mod Toks
+pub mod Moves
+pub mod Laws
+pub mod Tables
+pub mod Complete
+pub mod Sound
+pub mod Unique
+pub mod Runs
+pub mod Ways

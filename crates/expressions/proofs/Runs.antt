@@ -1,0 +1,220 @@
+-- From what a call of the reading code ensures to what its caller must ensure.
+use Prim.Native.Nat.{ℕ, zero, suc, _+_, _-_, _≤_, _<_}
+use native.Mathlib.Nat.{add-zero, add-assoc}
+use native.Mathlib.Omega.{arith}
+use mathlib.Core.Path.{_≡_, refl, sym, ap, ap₂, _∙_}
+use mathlib.Core.List.{List, [], _∷_, _++_, map}
+use mathlib.Core.Bool.{Bool, true, false, cond}
+use lib.ListN.{length, drop, set, length-append, length-drop, length-map}
+use lib.Seq.{drop-drop, sets, length-sets}
+use lib.Ieee.{Float}
+use Rattle.tokens.specs.declared.Token.{Token}
+use Rattle.syntax.specs.Program.{Ins}
+use Rattle.expressions.specs.declared.Got.{Got}
+use Rattle.expressions.specs.declared.Got.the-variants.{Next, Refused}
+use Rattle.expressions.specs.Roles.{signL}
+use Rattle.expressions.specs.Reader.{Res, no, ok, prepend, seq, sign, emit}
+use Rattle.expressions.specs.Areas.{Areas, areas, opOf, argOf, valOf, stored, storedAt, oneMore, passed, left, Holds, Place, Ready, gone, come, Runs, refused, done}
+use Rattle.expressions.specs.Areas as Areas
+use Rattle.expressions.proofs.Moves.{sign-in}
+use Rattle.expressions.proofs.Laws.{All, none, some, Took}
+
+-- ---- stores in a row
+
+sets-append : {A : Type 0} (l : List A) (i : ℕ) (u v : List A) → sets (sets l i u) (i + length u) v ≡ sets l i (u ++ v)
+sets-append l i [] v = rw add-zero
+sets-append l i (a ∷ u) v = ap (λ k. sets (sets (set l i a) (suc i) u) k v) (omega arith) ∙ sets-append (set l i a) (suc i) u v
+
+map-append : {A B : Type 0} (f : A → B) (u v : List A) → map f (u ++ v) ≡ map f u ++ map f v
+map-append f [] v = refl
+map-append f (a ∷ u) v = ap (λ l. f a ∷ l) (map-append f u v)
+
+stored-in : {B : Type 0} (f : Ins → B) (a : List B) (out : ℕ) (u v : List Ins)
+    → sets (sets a out (map f u)) (out + length u) (map f v) ≡ sets a out (map f (u ++ v))
+stored-in f a out u v =
+    let n : out + length u ≡ out + length (map f u) = ap (λ k. out + k) (sym (length-map u f)) in
+    rw (n, sets-append, map-append)
+
+stored-append : (m : Areas) (out : ℕ) (u v : List Ins) → stored (stored m out u) (out + length u) v ≡ stored m out (u ++ v)
+stored-append m out u v i = record {
+  ops = stored-in opOf (m .ops) out u v i;
+  args = stored-in argOf (m .args) out u v i;
+  vals = stored-in valOf (m .vals) out u v i;
+}
+
+-- stores change no length
+holds-stored : {n : ℕ} {m : Areas} (out : ℕ) (c : List Ins) → Holds n m → Holds n (stored m out c)
+holds-stored {m = m} out c h = record {
+  ops = rw (length-sets (m .ops) out (map opOf c)) (h .ops);
+  args = rw (length-sets (m .args) out (map argOf c)) (h .args);
+  vals = rw (length-sets (m .vals) out (map valOf c)) (h .vals);
+}
+
+holds-less : {n k : ℕ} {m : Areas} → k ≤ n → Holds n m → Holds k m
+holds-less le h = record { ops = omega (arith, h .ops); args = omega (arith, h .args); vals = omega (arith, h .vals) }
+
+-- ---- readings in a row
+
+pub runs-seq : {ts : List Token} {f : List Token → Res} (k : List Token → Res) {g h i : Got} {m n u : Areas}
+    → Runs ts f g m h n → Runs ts k h n i u → Runs ts (λ z. seq (f z) k) g m i u
+runs-seq k (gone e f) (gone x y) = gone e y
+runs-seq k (gone e f) (refused at out x w y) = let z : _≡_ {A = ℕ} 0 1 = cc in absurd (omega arith)
+runs-seq k (gone e f) (done at out to c x w le y s) = let z : _≡_ {A = ℕ} 0 1 = cc in absurd (omega arith)
+runs-seq k (refused at out e v f) (gone x y) = refused at out e (rw v) y
+runs-seq k (refused at out e v f) (refused at′ out′ x w y) = let z : _≡_ {A = ℕ} 0 1 = cc in absurd (omega arith)
+runs-seq k (refused at out e v f) (done at′ out′ to c x w le y s) = let z : _≡_ {A = ℕ} 0 1 = cc in absurd (omega arith)
+runs-seq k (done at out to c e v le f s) (gone x y) = let z : _≡_ {A = ℕ} 0 1 = cc in absurd (omega arith)
+runs-seq k (done at out to c e v le f s) (refused at′ out′ x w y) =
+    let p : at′ ≡ to = cc in
+    refused at out e (rw (v, rw p at w)) y
+runs-seq {ts} k {m = m} {u = u} (done at out to c e v le f s) (done at′ out′ to′ d x w le′ y s′) =
+    let p : at′ ≡ to = cc in
+    let q : out′ ≡ out + length c = cc in
+    let l : out′ + length d ≡ out + length (c ++ d) = omega (arith, length-append c d) in
+    done at out to′ (c ++ d) e (rw (v, rw p at w)) le′ (rw l at y)
+    (s′ ∙ ap (λ z. stored z out′ d) s ∙ ap (λ z. stored (stored m out c) z d) q ∙ stored-append m out c d)
+
+-- the first token, and a reading of those after it
+pub drop-one : (ts : List Token) (at : ℕ) → drop 1 (drop at ts) ≡ drop (at + 1) ts
+drop-one ts at = drop-drop 1 at ts
+
+module _ {ts : List Token} {f : List Token → Res} {at out : ℕ} {m n : Areas} {h : Got} where
+  pub runs-after : Runs ts f (Next (at + 1) out) m h n → Runs ts (λ z. f (drop 1 z)) (Next at out) m h n
+  runs-after (gone e x) = let z : _≡_ {A = ℕ} 0 1 = cc in absurd (omega arith)
+  runs-after (refused at′ out′ e v x) =
+      let p : at′ ≡ at + 1 = cc in
+      refused at out refl (ap f (drop-one ts at ∙ ap (λ z. drop z ts) (sym p)) ∙ v) x
+  runs-after (done at′ out′ to c e v le x s) =
+      let p : at′ ≡ at + 1 = cc in
+      let q : out′ ≡ out = cc in
+      done at out to c refl (ap f (drop-one ts at ∙ ap (λ z. drop z ts) (sym p)) ∙ v) le (rw q at x) (rw q at s)
+
+  -- another definition that reads the same there
+  pub runs-as : {g : Got} (k : List Token → Res) → g ≡ Next at out → k (drop at ts) ≡ f (drop at ts) → Runs ts f g m h n → Runs ts k g m h n
+  runs-as k q l (gone e x) = gone e x
+  runs-as k q l (refused at′ out′ e v x) =
+      let p : at′ ≡ at = cc in
+      refused at′ out′ e (ap (λ z. k (drop z ts)) p ∙ l ∙ ap (λ z. f (drop z ts)) (sym p) ∙ v) x
+  runs-as k q l (done at′ out′ to c e v le x s) =
+      let p : at′ ≡ at = cc in
+      done at′ out′ to c e (ap (λ z. k (drop z ts)) p ∙ l ∙ ap (λ z. f (drop z ts)) (sym p) ∙ v) le x s
+
+pub runs-sign : (ts : List Token) (s : ℕ) (g : Got) {h : Got} {m : Areas} → h ≡ passed s ts g → Runs ts (sign s) g m h m
+runs-sign ts s Refused e = gone refl e
+runs-sign ts s (Next at out) {m = m} e = go (signL (drop at ts) s) refl e
+  where
+    go : {h : Got} (b : Bool) → signL (drop at ts) s ≡ b → h ≡ cond b (Next (at + 1) out) Refused → Runs ts (sign s) (Next at out) m h m
+    go true f q = let lt = sign-in ts at s f in
+        done at out (at + 1) [] refl (rw (f, drop-one ts at)) (omega arith) (q ∙ ap (λ z. Next (at + 1) z) (omega arith)) refl
+    go false f q = refused at out refl (rw f) q
+
+took-ok : {P : List Ins → List Token → Type 0} {c : List Ins} {r : List Token} → All P (ok c r) → P c r
+took-ok (some h) = h
+
+took-of : {P : List Ins → List Token → Type 0} {x : Res} {c : List Ins} {r : List Token} → All P x → x ≡ ok c r → P c r
+took-of all e = took-ok (rw e at all)
+
+module _ {ts : List Token} {k : ℕ} {g : Got} {m : Areas} where
+  pub runs-emit : {h : Got} {n : Areas} (i : Ins) → Ready ts k g m → h ≡ oneMore g → n ≡ storedAt g m i → Runs ts (emit i) g m h n
+  runs-emit i (gone e) x y = gone e (x ∙ rw e)
+  runs-emit i (come at out e le r) x y = done at out at (i ∷ []) e refl le (x ∙ rw e) (y ∙ rw e)
+
+  -- ---- room for what comes next, and fewer tokens
+
+  pub ready-place : Ready ts (suc k) g m → Place g m
+  ready-place (gone e) = record { fits = λ at out q. let z : _≡_ {A = ℕ} 0 1 = cc in absurd (omega arith) }
+  ready-place (come at out e le r) = record { fits = λ p o q. let z : o ≡ out = cc in rw z (holds-less (omega arith) r) }
+
+  pub ready-less : {j : ℕ} → j ≤ k → Ready ts k g m → Ready ts j g m
+  ready-less le (gone e) = gone e
+  ready-less le (come at out e l r) = come at out e l (holds-less (omega arith) r)
+
+  pub ready-emit : {h : Got} {n : Areas} (i : Ins) → Ready ts (suc k) g m → h ≡ oneMore g → n ≡ storedAt g m i → Ready ts k h n
+  ready-emit i (gone e) x y = gone (x ∙ rw e)
+  ready-emit i (come at out e le r) x y =
+      let z : out + 1 + k + (length ts - at) ≡ out + suc k + (length ts - at) = omega arith in
+      come at (out + 1) (x ∙ rw e) le (rw (y, e, z) (holds-stored out (i ∷ []) r))
+
+  pub ready-sign : (s : ℕ) {h : Got} → Ready ts k g m → h ≡ passed s ts g → Ready ts (suc k) h m
+  ready-sign s (gone e) x = gone (x ∙ rw e)
+  ready-sign s {h} (come at out e le r) x = go (signL (drop at ts) s) refl (x ∙ ap (passed s ts) e)
+    where
+      go : (b : Bool) → signL (drop at ts) s ≡ b → h ≡ cond b (Next (at + 1) out) Refused → Ready ts (suc k) h m
+      go true f q = let lt = sign-in ts at s f in come (at + 1) out q (omega arith) (holds-less (omega arith) r)
+      go false f q = gone q
+
+  pub ready-runs : {f : List Token → Res} {h : Got} {n : Areas} → ((z : List Token) → All (Took z) (f z)) → Ready ts k g m → Runs ts f g m h n
+      → Ready ts k h n
+  ready-runs b r (gone e x) = gone x
+  ready-runs b r (refused at out e v x) = gone x
+  ready-runs b (gone q) (done at out to c e v le x s) = let z : _≡_ {A = ℕ} 0 1 = cc in absurd (omega arith)
+  ready-runs b (come p o q l r) (done at out to c e v le x s) =
+      let y : p ≡ at = cc in
+      let w : o ≡ out = cc in
+      let t = took-of (b (drop at ts)) v in
+      come to (out + length c) x le (rw s (holds-stored out c (holds-less (omega (arith, t, length-drop to ts, length-drop at ts)) r)))
+
+left-runs : {ts : List Token} {f : List Token → Res} {g h : Got} {m n : Areas} → ((z : List Token) → All (Took z) (f z)) → Runs ts f g m h n → left ts h ≤ left ts g
+left-runs b (gone e x) = rw (x, e) (omega arith)
+left-runs b (refused at out e v x) = rw x (omega arith)
+left-runs {ts} b (done at out to c e v le x s) =
+    let t = took-of (b (drop at ts)) v in
+    rw (x, e) (omega (arith, t, length-drop to ts, length-drop at ts))
+
+-- room, and fewer tokens left than t
+pub record Past (ts : List Token) (t k : ℕ) (g : Got) (m : Areas) : Type 0 where
+  pub ready : Ready ts k g m
+  pub less : left ts g < t
+
+left-passed : (ts : List Token) (s : ℕ) (g : Got) → left ts (passed s ts g) ≤ left ts g
+left-passed ts s Refused = omega arith
+left-passed ts s (Next at out) = go (signL (drop at ts) s)
+  where
+    go : (b : Bool) → left ts (cond b (Next (at + 1) out) Refused) ≤ length ts - at
+    go true = omega arith
+    go false = omega arith
+
+left-more : (ts : List Token) (g : Got) → left ts (oneMore g) ≡ left ts g
+left-more ts Refused = refl
+left-more ts (Next at out) = refl
+
+module _ {ts : List Token} {t k : ℕ} {g : Got} {m : Areas} where
+  pub past-ready : Past ts t k g m → Ready ts 0 g m
+  past-ready p = ready-less (omega arith) (p .ready)
+
+  pub past-place : Past ts t (suc k) g m → Place g m
+  past-place p = ready-place (p .ready)
+
+  pub past-runs : {f : List Token → Res} {h : Got} {n : Areas} → ((z : List Token) → All (Took z) (f z)) → Past ts t k g m → Runs ts f g m h n → Past ts t k h n
+  past-runs b p r = record { ready = ready-runs b (p .ready) r; less = omega (arith, p .less, left-runs b r) }
+
+  pub past-sign : (s : ℕ) {h : Got} → Past ts t k g m → h ≡ passed s ts g → Past ts t (suc k) h m
+  past-sign s p e = record { ready = ready-sign s (p .ready) e; less = rw e (omega (arith, p .less, left-passed ts s g)) }
+
+  pub past-emit : {h : Got} {n : Areas} (i : Ins) → Past ts t (suc k) g m → h ≡ oneMore g → n ≡ storedAt g m i → Past ts t k h n
+  past-emit i p e f = record { ready = ready-emit i (p .ready) e f; less = rw (e, left-more ts g) (p .less) }
+
+-- past the first token
+pub past-start : {ts : List Token} {t k : ℕ} {g : Got} {m : Areas} {at out : ℕ} → Ready ts k g m → g ≡ Next at out → left ts g ≡ t → at < length ts
+    → Past ts t (suc k) (Next (at + 1) out) m
+past-start (gone x) q e lt = let z : _≡_ {A = ℕ} 0 1 = cc in absurd (omega arith)
+past-start {ts} {at = at} {out = out} (come p o x le r) q e lt =
+    let y : p ≡ at = cc in
+    let w : o ≡ out = cc in
+    record {
+      ready = come (at + 1) out refl (omega arith) (holds-less (omega arith) r);
+      less = let z : length ts - at ≡ _ = sym (ap (left ts) q) ∙ e in omega arith;
+    }
+
+-- past a first sign
+pub past-passed : {ts : List Token} {t k : ℕ} {g : Got} {m : Areas} (s : ℕ) {h : Got} {at out : ℕ} → Ready ts k g m → left ts g ≡ t → h ≡ passed s ts g
+    → h ≡ Next at out → Past ts t (suc k) h m
+past-passed {ts} {t} {g = g} s {h} {at} {out} r e x q = record { ready = ready-sign s r x; less = go g e (sym x ∙ q) }
+  where
+    on : (p o : ℕ) (b : Bool) → signL (drop p ts) s ≡ b → length ts - p ≡ t → cond b (Next (p + 1) o) Refused ≡ Next at out → left ts h < t
+    on p o true f e y = let lt = sign-in ts p s f in let z : at ≡ p + 1 = cc in rw q (omega arith)
+    on p o false f e y = let z : _≡_ {A = ℕ} 0 1 = cc in absurd (omega arith)
+
+    go : (g : Got) → left ts g ≡ t → passed s ts g ≡ Next at out → left ts h < t
+    go Refused e y = let z : _≡_ {A = ℕ} 0 1 = cc in absurd (omega arith)
+    go (Next p o) e y = on p o (signL (drop p ts) s) refl e y

@@ -1,0 +1,122 @@
+-- The tables of heads and tails are the grammar's lists of operators and calls.
+use Prim.Native.Nat.{ℕ, zero, suc, _+_, _≤_, _<_}
+use native.Mathlib.Omega.{arith}
+use mathlib.Core.Path.{_≡_, refl, sym, ap, _∙_}
+use mathlib.Core.List.{List, [], _∷_}
+use mathlib.Core.Bool.{Bool, true, false, cond}
+use lib.Dec.{eqb}
+use lib.Ieee.{Float}
+use borrow.Author.Tests.{eqb-true}
+use Rattle.tokens.specs.declared.Token.{Token}
+use Rattle.tokens.specs.declared.Token.the-variants.{Number, Symbol, Whole, Sign}
+use Rattle.syntax.specs.Tree.{Expr, number, name}
+use Rattle.syntax.specs.Program.{Ins, compile}
+use Rattle.expressions.specs.declared.Head.{Head}
+use Rattle.expressions.specs.declared.Head.the-variants.{Push, Unary, Open, Call, Call2, Bad}
+use Rattle.expressions.specs.declared.Tail.{Tail}
+use Rattle.expressions.specs.declared.Tail.the-variants.{Binary, Question, Stop}
+use Rattle.expressions.specs.Roles.{headSign, headOf, tailSign, tailOf}
+use Rattle.expressions.specs.Grammar as G
+use Rattle.expressions.specs.Grammar.{Derives, real, whole, named, Operator, Prefix, or, and, equal, unequal, less, greater, atMost, atLeast, plus, minus, times, over, negative, not, abs, sgn, int, frac, min, max}
+
+split : {A : Type 0} (P : A → Type 0) (b : Bool) (x y : A) → (b ≡ true → P x) → P y → P (cond b x y)
+split P true x y f g = f refl
+split P false x y f g = g
+
+-- a token that is pushed is a number or a name
+pub record Atom (t : Token) (i : Ins) : Type 0 where
+  pub tree : Expr
+  pub code : i ∷ [] ≡ compile tree
+  pub derives : (m : ℕ) → Derives m tree (t ∷ [])
+
+pub data Heads (t : Token) : Head → Type 0 where
+  push : {o a : ℕ} {x : Float} → Atom t (record { op = o; arg = a; val = x }) → Heads t (Push o a x)
+  unary : {s o : ℕ} → t ≡ Sign s → Prefix s o → Heads t (Unary o)
+  opens : t ≡ Sign 15 → Heads t Open
+  call : {o : ℕ} → t ≡ Sign o → G.Call o → Heads t (Call o)
+  call2 : {o : ℕ} → t ≡ Sign o → G.Call2 o → Heads t (Call2 o)
+  bad : Heads t Bad
+
+pub heads : (t : Token) → Heads t (headOf t)
+unfolding compile
+heads (Number x) = push (record { tree = number x; code = refl; derives = λ m. real x })
+heads (Symbol n) = push (record { tree = name n; code = refl; derives = λ m. named n })
+heads (Whole w) = push (record { tree = _; code = refl; derives = λ m. whole w })
+heads (Sign s) =
+    let P = Heads (Sign s) in
+    split P (eqb s 9) (Call 9) _ (λ e. call (ap Sign (eqb-true s 9 e)) abs)
+    (split P (eqb s 10) (Call 10) _ (λ e. call (ap Sign (eqb-true s 10 e)) sgn)
+    (split P (eqb s 11) (Call 11) _ (λ e. call (ap Sign (eqb-true s 11 e)) int)
+    (split P (eqb s 12) (Call 12) _ (λ e. call (ap Sign (eqb-true s 12 e)) frac)
+    (split P (eqb s 13) (Call2 13) _ (λ e. call2 (ap Sign (eqb-true s 13 e)) min)
+    (split P (eqb s 14) (Call2 14) _ (λ e. call2 (ap Sign (eqb-true s 14 e)) max)
+    (split P (eqb s 15) Open _ (λ e. opens (ap Sign (eqb-true s 15 e)))
+    (split P (eqb s 33) (Unary 37) _ (λ e. unary (ap Sign (eqb-true s 33 e)) negative)
+    (split P (eqb s 36) (Unary 36) Bad (λ e. unary (ap Sign (eqb-true s 36 e)) not) bad))))))))
+
+pub data Tails (t : Token) : Tail → Type 0 where
+  binary : {o l : ℕ} → t ≡ Sign o → Operator o l → Tails t (Binary o l)
+  question : t ≡ Sign 22 → Tails t Question
+  stop : Tails t Stop
+
+pub tails : (t : Token) → Tails t (tailOf t)
+tails (Number x) = stop
+tails (Symbol n) = stop
+tails (Whole w) = stop
+tails (Sign s) =
+    let P = Tails (Sign s) in
+    split P (eqb s 22) Question _ (λ e. question (ap Sign (eqb-true s 22 e)))
+    (split P (eqb s 24) (Binary 24 1) _ (λ e. binary (ap Sign (eqb-true s 24 e)) or)
+    (split P (eqb s 25) (Binary 25 2) _ (λ e. binary (ap Sign (eqb-true s 25 e)) and)
+    (split P (eqb s 26) (Binary 26 3) _ (λ e. binary (ap Sign (eqb-true s 26 e)) equal)
+    (split P (eqb s 27) (Binary 27 3) _ (λ e. binary (ap Sign (eqb-true s 27 e)) unequal)
+    (split P (eqb s 28) (Binary 28 4) _ (λ e. binary (ap Sign (eqb-true s 28 e)) less)
+    (split P (eqb s 29) (Binary 29 4) _ (λ e. binary (ap Sign (eqb-true s 29 e)) greater)
+    (split P (eqb s 30) (Binary 30 4) _ (λ e. binary (ap Sign (eqb-true s 30 e)) atMost)
+    (split P (eqb s 31) (Binary 31 4) _ (λ e. binary (ap Sign (eqb-true s 31 e)) atLeast)
+    (split P (eqb s 32) (Binary 32 5) _ (λ e. binary (ap Sign (eqb-true s 32 e)) plus)
+    (split P (eqb s 33) (Binary 33 5) _ (λ e. binary (ap Sign (eqb-true s 33 e)) minus)
+    (split P (eqb s 34) (Binary 34 6) _ (λ e. binary (ap Sign (eqb-true s 34 e)) times)
+    (split P (eqb s 35) (Binary 35 6) Stop (λ e. binary (ap Sign (eqb-true s 35 e)) over) stop))))))))))))
+
+pub levels : {o l : ℕ} → Operator o l → (1 ≤ l) × (l < 7)
+levels or = (omega arith, omega arith)
+levels and = (omega arith, omega arith)
+levels equal = (omega arith, omega arith)
+levels unequal = (omega arith, omega arith)
+levels less = (omega arith, omega arith)
+levels greater = (omega arith, omega arith)
+levels atMost = (omega arith, omega arith)
+levels atLeast = (omega arith, omega arith)
+levels plus = (omega arith, omega arith)
+levels minus = (omega arith, omega arith)
+levels times = (omega arith, omega arith)
+levels over = (omega arith, omega arith)
+
+pub tail-operator : {o l : ℕ} → Operator o l → tailSign o ≡ Binary o l
+tail-operator or = refl
+tail-operator and = refl
+tail-operator equal = refl
+tail-operator unequal = refl
+tail-operator less = refl
+tail-operator greater = refl
+tail-operator atMost = refl
+tail-operator atLeast = refl
+tail-operator plus = refl
+tail-operator minus = refl
+tail-operator times = refl
+tail-operator over = refl
+
+pub head-prefix : {s o : ℕ} → Prefix s o → headSign s ≡ Unary o
+head-prefix negative = refl
+head-prefix not = refl
+
+pub head-call : {o : ℕ} → G.Call o → headSign o ≡ Call o
+head-call abs = refl
+head-call sgn = refl
+head-call int = refl
+head-call frac = refl
+
+pub head-call2 : {o : ℕ} → G.Call2 o → headSign o ≡ Call2 o
+head-call2 min = refl
+head-call2 max = refl

@@ -1,0 +1,55 @@
+-- What stands at a place among the tokens of three lists.
+use Prim.Native.Nat.{ℕ, zero, suc, _+_, _≤_, _<_}
+use native.Mathlib.Numerals.{add-one}
+use native.Mathlib.Omega.{arith}
+use mathlib.Core.Path.{_≡_, refl, sym, ap, _∙_}
+use mathlib.Core.List.{List, [], _∷_}
+use mathlib.Core.Bool.{Bool, true, false}
+use lib.ListN.{length, drop, getD, drop-of-length-le}
+use lib.Seq.{drop-drop}
+use lib.Ieee.{Float}
+use Rattle.tokens.specs.Token.{tokenOf, tokenAt, zeroF, toks}
+use Rattle.tokens.specs.declared.Token.{Token}
+use Rattle.expressions.specs.declared.Head.{Head}
+use Rattle.expressions.specs.declared.Head.the-variants.{Bad}
+use Rattle.expressions.specs.declared.Tail.{Tail}
+use Rattle.expressions.specs.declared.Tail.the-variants.{Stop}
+use Rattle.expressions.specs.Roles.{headOf, tailOf, isSign, headL, tailL, signL}
+
+pub length-toks : (ks ws : List ℕ) (xs : List Float) → length (toks ks ws xs) ≡ length ks
+unfolding toks
+length-toks [] ws xs = refl
+length-toks (k ∷ ks) ws xs = ap suc (length-toks ks (drop 1 ws) (drop 1 xs))
+
+getD-drop1 : {A : Type 0} (l : List A) (i : ℕ) (d : A) → getD (drop 1 l) i d ≡ getD l (suc i) d
+getD-drop1 [] i d = refl
+getD-drop1 (a ∷ l) i d = refl
+
+pub drop-toks : (ks ws : List ℕ) (xs : List Float) (at : ℕ) → at < length ks → drop at (toks ks ws xs) ≡ tokenAt ks ws xs at ∷ drop (suc at) (toks ks ws xs)
+unfolding toks
+drop-toks [] ws xs at lt = absurd (omega arith)
+drop-toks (k ∷ ks) ws xs zero lt = refl
+drop-toks (k ∷ ks) ws xs (suc at) lt =
+    drop-toks ks (drop 1 ws) (drop 1 xs) at (omega arith) ∙ rw (getD-drop1 ws at 0, getD-drop1 xs at zeroF)
+
+pub drop-past : (ks ws : List ℕ) (xs : List Float) (at : ℕ) → length ks ≤ at → drop at (toks ks ws xs) ≡ []
+drop-past ks ws xs at le = drop-of-length-le (toks ks ws xs) {i = at} (rw length-toks le)
+
+module _ (ks ws : List ℕ) (xs : List Float) (at : ℕ) where
+  pub head-here : {t : Token} {h : Head} → at < length ks → t ≡ tokenAt ks ws xs at → h ≡ headOf t → h ≡ headL (drop at (toks ks ws xs))
+  head-here lt e f = rw (drop-toks ks ws xs at lt) (f ∙ ap headOf e)
+
+  pub head-past : length ks ≤ at → Bad ≡ headL (drop at (toks ks ws xs))
+  head-past le = rw (drop-past ks ws xs at le)
+
+  pub tail-here : {t : Token} {h : Tail} → at < length ks → t ≡ tokenAt ks ws xs at → h ≡ tailOf t → h ≡ tailL (drop at (toks ks ws xs))
+  tail-here lt e f = rw (drop-toks ks ws xs at lt) (f ∙ ap tailOf e)
+
+  pub tail-past : length ks ≤ at → Stop ≡ tailL (drop at (toks ks ws xs))
+  tail-past le = rw (drop-past ks ws xs at le)
+
+  pub sign-here : (s : ℕ) {t : Token} {b : Bool} → at < length ks → t ≡ tokenAt ks ws xs at → b ≡ isSign t s → b ≡ signL (drop at (toks ks ws xs)) s
+  sign-here s lt e f = rw (drop-toks ks ws xs at lt) (f ∙ ap (λ z. isSign z s) e)
+
+  pub sign-past : (s : ℕ) → length ks ≤ at → false ≡ signL (drop at (toks ks ws xs)) s
+  sign-past s le = rw (drop-past ks ws xs at le)

@@ -1,0 +1,133 @@
+-- The ways through the expression reader.
+use Prim.Native.Nat.{ℕ, zero, suc, _+_, _-_, _≤_, _<_}
+use native.Mathlib.Numerals.{add-one}
+use native.Mathlib.Omega.{arith}
+use mathlib.Core.Path.{_≡_, refl, sym, ap, _∙_}
+use mathlib.Core.List.{List, [], _∷_, _++_}
+use mathlib.Core.Bool.{Bool, true, false, cond}
+use lib.ListN.{length, drop}
+use borrow.Author.Tests.{le-leb, lt-leb}
+use Rattle.tokens.specs.declared.Token.{Token}
+use Rattle.syntax.specs.Program.{Ins, ins}
+use Rattle.expressions.specs.declared.Got.{Got}
+use Rattle.expressions.specs.declared.Got.the-variants.{Next, Refused}
+use Rattle.expressions.specs.declared.Head.{Head}
+use Rattle.expressions.specs.declared.Head.the-variants.{Push, Unary, Open, Call, Call2, Bad}
+use Rattle.expressions.specs.declared.Tail.{Tail}
+use Rattle.expressions.specs.declared.Tail.the-variants.{Binary, Question, Stop}
+use Rattle.expressions.specs.Roles.{headL, tailL, tailOf}
+use Rattle.expressions.specs.Reader.{Res, no, ok, seq, sign, emit, lastly, byHead, right, parts, reader}
+use Rattle.expressions.specs.Areas.{Areas, stored, left, Ready, gone, come, Runs, refused, done}
+use Rattle.expressions.proofs.Laws.{All, none, some, All-weaken, All-seq, All-sign, Took, reader-bounded, expr·law, more·law, lastly-took}
+use Rattle.expressions.proofs.Tables as Tables
+use Rattle.expressions.proofs.Tables.{Tails, tails, levels}
+use Rattle.expressions.proofs.Runs.{runs-as, runs-after, Past, past-start, past-runs}
+
+-- ---- a token is there
+
+abbrev pub Starts : Head → Type 0
+Starts (Push o a x) = Unit {0}
+Starts (Unary o) = Unit {0}
+Starts Open = Unit {0}
+Starts (Call o) = Unit {0}
+Starts (Call2 o) = Unit {0}
+Starts Bad = ⊥
+
+abbrev pub GoesOn : Tail → Type 0
+GoesOn (Binary o l) = Unit {0}
+GoesOn Question = Unit {0}
+GoesOn Stop = ⊥
+
+starts-in : (ts : List Token) (at : ℕ) → Starts (headL (drop at ts)) → at < length ts
+starts-in [] zero f = absurd f
+starts-in [] (suc at) f = absurd f
+starts-in (t ∷ ts) zero f = omega arith
+starts-in (t ∷ ts) (suc at) f = let h = starts-in ts at f in omega arith
+
+goes-in : (ts : List Token) (at : ℕ) → GoesOn (tailL (drop at ts)) → at < length ts
+goes-in [] zero f = absurd f
+goes-in [] (suc at) f = absurd f
+goes-in (t ∷ ts) zero f = omega arith
+goes-in (t ∷ ts) (suc at) f = let h = goes-in ts at f in omega arith
+
+pub head-in : (ts : List Token) (at : ℕ) {k h : Head} → k ≡ headL (drop at ts) → k ≡ h → Starts h → at < length ts
+head-in ts at e q f = starts-in ts at (rw (sym e ∙ q) f)
+
+pub tail-in : (ts : List Token) (at : ℕ) {k h : Tail} → k ≡ tailL (drop at ts) → k ≡ h → GoesOn h → at < length ts
+tail-in ts at e q f = goes-in ts at (rw (sym e ∙ q) f)
+
+small : (ts : List Token) (h : Tail) → tailL ts ≡ h → {o l : ℕ} → h ≡ Binary o l → l < 7
+small [] h e q = let z : _≡_ {A = ℕ} 0 1 = cc in absurd (omega arith)
+small (t ∷ ts) h e q = go (tails t) (e ∙ q)
+  where
+    go : {k : Tail} {o l : ℕ} → Tails t k → k ≡ Binary o l → l < 7
+    go {l = l} (Tables.binary {l = j} x p) q = let z : l ≡ j = cc in let y = levels p in omega arith
+    go (Tables.question x) q = let z : _≡_ {A = ℕ} 0 1 = cc in absurd (omega arith)
+    go Tables.stop q = let z : _≡_ {A = ℕ} 0 1 = cc in absurd (omega arith)
+
+pub tail-small : (ts : List Token) (at : ℕ) {k : Tail} {o l : ℕ} → k ≡ tailL (drop at ts) → k ≡ Binary o l → l < 7
+tail-small ts at e q = small (drop at ts) _ (sym e) q
+
+-- ---- past what was read
+
+pub head-past : (ts : List Token) {t : ℕ} {g : Got} {m : Areas} (at : ℕ) {out : ℕ} {k h : Head} → Ready ts 0 g m → left ts g ≡ t → g ≡ Next at out
+    → k ≡ headL (drop at ts) → k ≡ h → Starts h → Past ts t 1 (Next (at + 1) out) m
+head-past ts at r e q x y f = past-start r q e (head-in ts at x y f)
+
+pub tail-past : (ts : List Token) {t : ℕ} {g : Got} {m : Areas} (at : ℕ) {out : ℕ} {k h : Tail} → Ready ts 0 g m → left ts g ≡ t → g ≡ Next at out
+    → k ≡ tailL (drop at ts) → k ≡ h → GoesOn h → Past ts t 1 (Next (at + 1) out) m
+tail-past ts at r e q x y f = past-start r q e (tail-in ts at x y f)
+
+module _ {ts : List Token} {t k : ℕ} {g h : Got} {m n : Areas} where
+  pub past-expr : (j : ℕ) → Past ts t k g m → Runs ts (reader .expr j) g m h n → Past ts t k h n
+  past-expr j p r = past-runs (λ z. All-weaken (reader-bounded .expr j z) (λ c r h. h .0)) p r
+
+  pub past-last : (s o : ℕ) → Past ts t k g m → Runs ts (lastly reader s o) g m h n → Past ts t k h n
+  past-last s o p r = past-runs (λ z. All-weaken (lastly-took reader reader-bounded s o z) (λ c r h. omega (arith, h .0))) p r
+
+-- ---- what an operand's head leads to
+
+pub expr-as : (ts : List Token) (j at : ℕ) {out : ℕ} {g r : Got} {m n : Areas} {k : Head} (h : Head) → g ≡ Next at out → k ≡ headL (drop at ts) → k ≡ h
+    → Runs ts (λ z. seq (byHead reader h z) (reader .more j)) (Next (at + 1) out) m r n → Runs ts (reader .expr j) g m r n
+expr-as ts j at h q x y w =
+    let z : headL (drop at ts) ≡ h = sym x ∙ y in
+    rw q (runs-as (reader .expr j) refl (expr·law j (drop at ts) ∙ rw z) (runs-after w))
+
+pub expr-bad : (ts : List Token) (j at : ℕ) {out : ℕ} {g : Got} {m n : Areas} {k : Head} → g ≡ Next at out → k ≡ headL (drop at ts) → k ≡ Bad
+    → Runs ts (reader .expr j) g m Refused n
+expr-bad ts j at q x y = let z : headL (drop at ts) ≡ Bad = sym x ∙ y in refused _ _ q (expr·law j (drop at ts) ∙ rw z) refl
+
+-- ---- what goes on after an operand
+
+stays : {ts : List Token} {f : List Token → Res} {k at out : ℕ} {g : Got} {m : Areas} → Ready ts k g m → g ≡ Next at out
+    → f (drop at ts) ≡ ok [] (drop at ts) → Runs ts f g m (Next at out) m
+stays (gone e) q x = let z : _≡_ {A = ℕ} 0 1 = cc in absurd (omega arith)
+stays {at = at} {out = out} (come p o e le r) q x =
+    let y : p ≡ at = cc in
+    done at out at [] q x (omega arith) (ap (Next at) (omega arith)) refl
+
+pub more-binary : (ts : List Token) (j at : ℕ) {out : ℕ} {g r : Got} {m n : Areas} {k : Tail} (o l : ℕ) → g ≡ Next at out → k ≡ tailL (drop at ts)
+    → k ≡ Binary o l → j ≤ l → Runs ts (λ z. seq (right reader o (l + 1) z) (reader .more j)) (Next (at + 1) out) m r n → Runs ts (reader .more j) g m r n
+more-binary ts j at o l q x y le w =
+    let z : tailL (drop at ts) ≡ Binary o l = sym x ∙ y in
+    rw q (runs-as (reader .more j) refl (more·law j (drop at ts) ∙ rw (z, le-leb j l le, add-one)) (runs-after w))
+
+pub more-question : (ts : List Token) (j at : ℕ) {out : ℕ} {g r : Got} {m n : Areas} {k : Tail} → g ≡ Next at out → k ≡ tailL (drop at ts)
+    → k ≡ Question → j ≡ 0 → Runs ts (λ z. seq (parts reader z) (reader .more j)) (Next (at + 1) out) m r n → Runs ts (reader .more j) g m r n
+more-question ts j at q x y e w =
+    let z : tailL (drop at ts) ≡ Question = sym x ∙ y in
+    rw q (runs-as (reader .more j) refl (more·law j (drop at ts) ∙ rw (z, le-leb j 0 (omega arith))) (runs-after w))
+
+module _ (ts : List Token) (j at : ℕ) {out : ℕ} {g : Got} {m : Areas} {k : Tail} (r : Ready ts 0 g m) (q : g ≡ Next at out) (x : k ≡ tailL (drop at ts)) where
+  pub stop-binary : (o l : ℕ) → k ≡ Binary o l → l < j → Runs ts (reader .more j) g m (Next at out) m
+  stop-binary o l y lt =
+      let z : tailL (drop at ts) ≡ Binary o l = sym x ∙ y in
+      stays r q (more·law j (drop at ts) ∙ rw (z, lt-leb j l lt))
+
+  pub stop-question : k ≡ Question → 0 < j → Runs ts (reader .more j) g m (Next at out) m
+  stop-question y lt =
+      let z : tailL (drop at ts) ≡ Question = sym x ∙ y in
+      stays r q (more·law j (drop at ts) ∙ rw (z, lt-leb j 0 lt))
+
+  pub stop-here : k ≡ Stop → Runs ts (reader .more j) g m (Next at out) m
+  stop-here y = let z : tailL (drop at ts) ≡ Stop = sym x ∙ y in stays r q (more·law j (drop at ts) ∙ rw z)

@@ -1,0 +1,4 @@
+pub mod Roles
+pub mod Reader
+pub mod Grammar
+pub mod Areas

@@ -1,0 +1,320 @@
+// The expression reader: from a place among the tokens to postfix code, by precedence climbing.
+use tokens::Token;
+ghost use mathlib.Core.Path.{_≡_};
+ghost use mathlib.Core.Bool.{Bool};
+ghost use lib.ListN.{drop};
+ghost use Rattle.tokens.specs.Token.{toks};
+ghost use Rattle.syntax.specs.Program.{Ins};
+ghost use Rattle.expressions.specs.Roles.{headOf, tailOf, isSign, headL, tailL, signL};
+ghost use Rattle.expressions.specs.Reader.{reader, lastly};
+ghost use Rattle.expressions.specs.Areas.{areas, storedAt, oneMore, passed, Place, Ready, Runs};
+
+// What a token may start: a number or a name is pushed.
+pub enum Head {
+    Push(u8, u16, f32),
+    Unary(u8),
+    Open,
+    Call(u8),
+    Call2(u8),
+    Bad,
+}
+
+// What a token after an operand does: an operator and its level.
+pub enum Tail {
+    Binary(u8, u8),
+    Question,
+    Stop,
+}
+
+// How far a reading has come: the next token and the next place in the code.
+pub enum Got {
+    Next(usize, usize),
+    Refused,
+}
+
+pub fn head_of(t: Token) -> Head
+    ensures { λ r. ⌜ r ≡ headOf t ⌝ }
+{
+    match t {
+        Token::Number(x) => Head::Push(0xf1, 0, x),
+        Token::Symbol(n) => Head::Push(0xf0, n, 0.0),
+        Token::Whole(w) => {
+            let x = std::num::nearest_u32_to_f32(w);
+            Head::Push(0xf1, 0, x)
+        }
+        Token::Sign(s) => match s {
+            9 => Head::Call(9),
+            10 => Head::Call(10),
+            11 => Head::Call(11),
+            12 => Head::Call(12),
+            13 => Head::Call2(13),
+            14 => Head::Call2(14),
+            15 => Head::Open,
+            33 => Head::Unary(37),
+            36 => Head::Unary(36),
+            _ => Head::Bad,
+        },
+    }
+}
+
+pub fn tail_of(t: Token) -> Tail
+    ensures { λ r. ⌜ r ≡ tailOf t ⌝ }
+{
+    match t {
+        Token::Sign(s) => match s {
+            22 => Tail::Question,
+            24 => Tail::Binary(24, 1),
+            25 => Tail::Binary(25, 2),
+            26 => Tail::Binary(26, 3),
+            27 => Tail::Binary(27, 3),
+            28 => Tail::Binary(28, 4),
+            29 => Tail::Binary(29, 4),
+            30 => Tail::Binary(30, 4),
+            31 => Tail::Binary(31, 4),
+            32 => Tail::Binary(32, 5),
+            33 => Tail::Binary(33, 5),
+            34 => Tail::Binary(34, 6),
+            35 => Tail::Binary(35, 6),
+            _ => Tail::Stop,
+        },
+        Token::Number(_) => Tail::Stop,
+        Token::Symbol(_) => Tail::Stop,
+        Token::Whole(_) => Tail::Stop,
+    }
+}
+
+pub fn is_sign(t: Token, s: u8) -> bool
+    ensures { λ r. ⌜ r ≡ isSign t s ⌝ }
+{
+    match t {
+        Token::Sign(k) => k == s,
+        Token::Number(_) => false,
+        Token::Symbol(_) => false,
+        Token::Whole(_) => false,
+    }
+}
+
+// What stands at a place among the tokens; past their end nothing starts, nothing goes on and no sign stands.
+pub fn head_at(kinds: &[u8], words: &[u32], reals: &[f32], at: usize) -> Head
+    ensures { λ r. ⌜ r ≡ headL (drop at (toks (now (kinds .entry)) (now (words .entry)) (now (reals .entry)))) ⌝ }
+{
+    if at < kinds.len() {
+        head_of(tokens::token_at(kinds, words, reals, at))
+    } else {
+        Head::Bad
+    }
+}
+
+pub fn tail_at(kinds: &[u8], words: &[u32], reals: &[f32], at: usize) -> Tail
+    ensures { λ r. ⌜ r ≡ tailL (drop at (toks (now (kinds .entry)) (now (words .entry)) (now (reals .entry)))) ⌝ }
+{
+    if at < kinds.len() {
+        tail_of(tokens::token_at(kinds, words, reals, at))
+    } else {
+        Tail::Stop
+    }
+}
+
+pub fn sign_at(kinds: &[u8], words: &[u32], reals: &[f32], at: usize, s: u8) -> bool
+    ensures { λ r. ⌜ r ≡ signL (drop at (toks (now (kinds .entry)) (now (words .entry)) (now (reals .entry)))) s ⌝ }
+{
+    if at < kinds.len() {
+        is_sign(tokens::token_at(kinds, words, reals, at), s)
+    } else {
+        false
+    }
+}
+
+// Past a sign that must be there.
+pub fn pass(kinds: &[u8], words: &[u32], reals: &[f32], got: Got, s: u8) -> Got
+    ensures { λ r. ⌜ r ≡ passed s (toks (now (kinds .entry)) (now (words .entry)) (now (reals .entry))) got ⌝ }
+{
+    let Got::Next(at, out) = got else {
+        return Got::Refused;
+    };
+    if sign_at(kinds, words, reals, at, s) {
+        Got::Next(at + 1, out)
+    } else {
+        Got::Refused
+    }
+}
+
+// One instruction where the reading has come to, which is inside the areas.
+pub fn emit(
+    ops: &mut [u8],
+    args: &mut [u16],
+    vals: &mut [f32],
+    got: Got,
+    op: u8,
+    arg: u16,
+    val: f32,
+) -> Got
+    requires { ⌜ Place got (areas (now ops) (now args) (now vals)) ⌝ }
+    ensures answer { λ r. ⌜ r ≡ oneMore got ⌝ }
+    ensures code { λ r. ⌜ areas (now (ops .exit)) (now (args .exit)) (now (vals .exit)) ≡ storedAt got (areas (now (ops .entry)) (now (args .entry)) (now (vals .entry))) (record { op = op; arg = arg; val = val }) ⌝ }
+{
+    let Got::Next(at, out) = got else {
+        return Got::Refused;
+    };
+    ops[out] = op;
+    args[out] = arg;
+    vals[out] = val;
+    Got::Next(at, out + 1)
+}
+
+// An operand, and the operators of level `min` and tighter that follow it.
+pub fn expr(
+    kinds: &[u8],
+    words: &[u32],
+    reals: &[f32],
+    got: Got,
+    min: u8,
+    ops: &mut [u8],
+    args: &mut [u16],
+    vals: &mut [f32],
+) -> Got
+    requires { ⌜ Ready (toks (now kinds) (now words) (now reals)) 0 got (areas (now ops) (now args) (now vals)) ⌝ }
+    ensures { λ r. ⌜ Runs (toks (now (kinds .entry)) (now (words .entry)) (now (reals .entry))) (reader .expr min) got (areas (now (ops .entry)) (now (args .entry)) (now (vals .entry))) r (areas (now (ops .exit)) (now (args .exit)) (now (vals .exit))) ⌝ }
+{
+    let Got::Next(at, out) = got else {
+        return Got::Refused;
+    };
+    match head_at(kinds, words, reals, at) {
+        Head::Push(op, arg, val) => {
+            let a = emit(ops, args, vals, Got::Next(at + 1, out), op, arg, val);
+            more(kinds, words, reals, a, min, ops, args, vals)
+        }
+        Head::Unary(op) => {
+            let a = expr(
+                kinds,
+                words,
+                reals,
+                Got::Next(at + 1, out),
+                7,
+                ops,
+                args,
+                vals,
+            );
+            let b = emit(ops, args, vals, a, op, 0, 0.0);
+            more(kinds, words, reals, b, min, ops, args, vals)
+        }
+        Head::Open => {
+            let a = expr(
+                kinds,
+                words,
+                reals,
+                Got::Next(at + 1, out),
+                0,
+                ops,
+                args,
+                vals,
+            );
+            let b = pass(kinds, words, reals, a, 16);
+            more(kinds, words, reals, b, min, ops, args, vals)
+        }
+        Head::Call(op) => {
+            let a = last(
+                kinds,
+                words,
+                reals,
+                Got::Next(at + 1, out),
+                15,
+                op,
+                ops,
+                args,
+                vals,
+            );
+            more(kinds, words, reals, a, min, ops, args, vals)
+        }
+        Head::Call2(op) => {
+            let a = pass(kinds, words, reals, Got::Next(at + 1, out), 15);
+            let b = expr(kinds, words, reals, a, 0, ops, args, vals);
+            let c = last(kinds, words, reals, b, 19, op, ops, args, vals);
+            more(kinds, words, reals, c, min, ops, args, vals)
+        }
+        Head::Bad => Got::Refused,
+    }
+}
+
+// The sign before the last argument of a call, that argument, its bracket, and the call's operation.
+fn last(
+    kinds: &[u8],
+    words: &[u32],
+    reals: &[f32],
+    got: Got,
+    s: u8,
+    op: u8,
+    ops: &mut [u8],
+    args: &mut [u16],
+    vals: &mut [f32],
+) -> Got
+    requires { ⌜ Ready (toks (now kinds) (now words) (now reals)) 0 got (areas (now ops) (now args) (now vals)) ⌝ }
+    ensures { λ r. ⌜ Runs (toks (now (kinds .entry)) (now (words .entry)) (now (reals .entry))) (lastly reader s op) got (areas (now (ops .entry)) (now (args .entry)) (now (vals .entry))) r (areas (now (ops .exit)) (now (args .exit)) (now (vals .exit))) ⌝ }
+{
+    let Got::Next(at, out) = pass(kinds, words, reals, got, s) else {
+        return Got::Refused;
+    };
+    let a = expr(kinds, words, reals, Got::Next(at, out), 0, ops, args, vals);
+    let b = pass(kinds, words, reals, a, 16);
+    emit(ops, args, vals, b, op, 0, 0.0)
+}
+
+// The operators of level `min` and tighter that follow an operand, with their right sides.
+fn more(
+    kinds: &[u8],
+    words: &[u32],
+    reals: &[f32],
+    got: Got,
+    min: u8,
+    ops: &mut [u8],
+    args: &mut [u16],
+    vals: &mut [f32],
+) -> Got
+    requires { ⌜ Ready (toks (now kinds) (now words) (now reals)) 0 got (areas (now ops) (now args) (now vals)) ⌝ }
+    ensures { λ r. ⌜ Runs (toks (now (kinds .entry)) (now (words .entry)) (now (reals .entry))) (reader .more min) got (areas (now (ops .entry)) (now (args .entry)) (now (vals .entry))) r (areas (now (ops .exit)) (now (args .exit)) (now (vals .exit))) ⌝ }
+{
+    let Got::Next(at, out) = got else {
+        return Got::Refused;
+    };
+    match tail_at(kinds, words, reals, at) {
+        Tail::Binary(op, level) => {
+            if min <= level {
+                let a = expr(
+                    kinds,
+                    words,
+                    reals,
+                    Got::Next(at + 1, out),
+                    level + 1,
+                    ops,
+                    args,
+                    vals,
+                );
+                let b = emit(ops, args, vals, a, op, 0, 0.0);
+                more(kinds, words, reals, b, min, ops, args, vals)
+            } else {
+                got
+            }
+        }
+        Tail::Question => {
+            if min == 0 {
+                let a = expr(
+                    kinds,
+                    words,
+                    reals,
+                    Got::Next(at + 1, out),
+                    0,
+                    ops,
+                    args,
+                    vals,
+                );
+                let b = pass(kinds, words, reals, a, 23);
+                let c = expr(kinds, words, reals, b, 0, ops, args, vals);
+                let d = emit(ops, args, vals, c, 22, 0, 0.0);
+                more(kinds, words, reals, d, min, ops, args, vals)
+            } else {
+                got
+            }
+        }
+        Tail::Stop => got,
+    }
+}
