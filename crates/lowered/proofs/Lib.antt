@@ -1,0 +1,7 @@
+pub mod Words
+pub mod Exprs
+pub mod MinusZero
+pub mod Guards
+pub mod Steps
+pub mod Passing
+pub mod Laws
