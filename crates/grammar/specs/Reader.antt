@@ -1,0 +1,123 @@
+-- The reader above expressions, on lists of tokens: the program, and the tokens that are left.
+use Prim.Native.Nat.{ℕ, zero, suc}
+use mathlib.Core.Bool.{Bool, true, false, cond}
+use mathlib.Core.List.{List, [], _∷_}
+use lib.ListN.{length, drop}
+use Rattle.tokens.specs.declared.Token.{Token}
+use Rattle.syntax.specs.Tree.{fieldKind, ksigKind, importsKind}
+use Rattle.syntax.specs.Program.{ins, insArg, instrOp, outputOp, ifOp, elseOp, endOp, storeOp}
+use Rattle.expressions.specs.Roles.{signL}
+use Rattle.expressions.specs.Reader.{Res, no, ok, seq, sign, emit, reader}
+use Rattle.grammar.specs.declared.Start.{Start}
+use Rattle.grammar.specs.declared.Start.the-variants.{Name, Output, If, Stop}
+use Rattle.grammar.specs.declared.Lead.{Lead}
+use Rattle.grammar.specs.declared.Lead.the-variants.{Kind, Imports, Stop as No}
+use Rattle.grammar.specs.declared.Word.{Word}
+use Rattle.grammar.specs.declared.Word.the-variants.{Is, Not}
+use Rattle.grammar.specs.Starts.{startL, leadL, wordL}
+
+-- a reader that calls itself for fewer tokens, n calls deep
+unfoldable pub deep : ((List Token → Res) → List Token → Res) → ℕ → List Token → Res
+deep step zero ts = no
+deep step (suc n) ts = step (deep step n) ts
+
+-- as deep as the tokens can lead
+unfoldable pub whole : ((List Token → Res) → List Token → Res) → List Token → Res
+whole step ts = deep step (suc (length ts)) ts
+
+-- ---- statements
+
+-- = expression ;
+abbrev pub setTo : ℕ → List Token → Res
+setTo n ts = seq (sign 21 ts) (λ p. seq (reader .expr 0 p) (λ q. seq (sign 20 q) (emit (insArg storeOp n))))
+
+-- ( expression ) and a sign
+abbrev pub bracketed : ℕ → ℕ → List Token → Res
+bracketed s o ts = seq (sign 15 ts) (λ p. seq (reader .expr 0 p) (λ q. seq (sign 16 q) (λ r. seq (sign s r) (emit (ins o)))))
+
+-- the } of a block
+abbrev pub close : ℕ → List Token → Res
+close o ts = seq (sign 18 ts) (emit (ins o))
+
+-- with or without else { statements }
+abbrev pub otherwise : (List Token → Res) → List Token → Res
+otherwise B ts = cond (signL ts 8) (seq (sign 17 (drop 1 ts)) (λ p. seq (B p) (close endOp))) (emit (ins endOp) ts)
+
+-- an if, after its first token
+abbrev pub branches : (List Token → Res) → List Token → Res
+branches B ts = seq (bracketed 17 ifOp ts) (λ p. seq (B p) (λ q. seq (close elseOp q) (otherwise B)))
+
+abbrev pub byStart : (List Token → Res) → Start → List Token → Res
+byStart B (Name n) ts = seq (setTo n (drop 1 ts)) B
+byStart B Output ts = seq (bracketed 20 outputOp (drop 1 ts)) B
+byStart B If ts = seq (branches B (drop 1 ts)) B
+byStart B Stop ts = ok [] ts
+
+abbrev pub stepStatements : (List Token → Res) → List Token → Res
+stepStatements B ts = byStart B (startL ts) ts
+
+-- statements, none or more, up to a token that starts none
+abbrev pub statements : List Token → Res
+statements = whole stepStatements
+
+-- ---- declarations
+
+-- a name that must be there, as an instruction
+abbrev pub byWord : ℕ → Word → List Token → Res
+byWord o (Is n) ts = emit (insArg o n) ts
+byWord o Not ts = no
+
+abbrev pub name : ℕ → List Token → Res
+name o ts = byWord o (wordL ts) (drop 1 ts)
+
+abbrev pub stepNames : ℕ → (List Token → Res) → List Token → Res
+stepNames k N ts = seq (name k ts) (λ r. cond (signL r 19) (N (drop 1 r)) (ok [] r))
+
+-- one or more names parted by commas
+abbrev pub names : ℕ → List Token → Res
+names k = whole (stepNames k)
+
+-- names and ;
+abbrev pub listed : ℕ → List Token → Res
+listed k ts = seq (names k ts) (sign 20)
+
+abbrev pub byLead : (List Token → Res) → Lead → List Token → Res
+byLead D (Kind k) ts = seq (listed k (drop 1 ts)) D
+byLead D Imports ts = seq (sign 3 (drop 1 ts)) (λ p. seq (listed importsKind p) D)
+byLead D No ts = ok [] ts
+
+abbrev pub stepDeclarations : (List Token → Res) → List Token → Res
+stepDeclarations D ts = byLead D (leadL ts) ts
+
+-- declarations, none or more, up to a token that starts none
+abbrev pub declarations : List Token → Res
+declarations = whole stepDeclarations
+
+-- ---- instruments
+
+-- names parted by commas, or none before )
+abbrev pub fields : List Token → Res
+fields ts = cond (signL ts 16) (ok [] ts) (names fieldKind ts)
+
+-- name ( fields )
+abbrev pub header : List Token → Res
+header ts = seq (name instrOp ts) (λ p. seq (sign 15 p) (λ q. seq (fields q) (sign 16)))
+
+-- { declarations statements }
+abbrev pub body : List Token → Res
+body ts = seq (sign 17 ts) (λ p. seq (declarations p) (λ q. seq (statements q) (sign 18)))
+
+abbrev pub instrument : List Token → Res
+instrument ts = seq (sign 1 ts) (λ p. seq (header p) body)
+
+-- no tokens are left
+abbrev pub none : List Token → Bool
+none [] = true
+none (t ∷ ts) = false
+
+abbrev pub stepInstruments : (List Token → Res) → List Token → Res
+stepInstruments I ts = seq (instrument ts) (λ r. cond (none r) (ok [] []) (I r))
+
+-- one or more instruments, and nothing after them
+abbrev pub orchestra : List Token → Res
+orchestra = whole stepInstruments
