@@ -1,0 +1,161 @@
+-- The count of missed notes never comes near 64 bits: at most 64 lines a cycle, at least 1,024 ticks a cycle, and a limit on position.
+use mathlib.Core.Path.{_≡_, refl, sym, ap, _∙_, subst}
+use mathlib.Core.Bool.{Bool, true, false, not, _||_, cond}
+use mathlib.Core.List.{List, [], _∷_, _++_}
+use Prim.Native.Nat.{ℕ, suc, _+_, _*_, _≤_, _<_, min}
+use native.Mathlib.Omega.{arith}
+use lib.Dec.{ltb}
+use lib.Ieee.{Float, binary32, ofBits, ofFields, le, lt, eq, span, climb, size, odd}
+use lib.ListN.{length, length-append}
+use borrow.Author.Tests.{ltb-false}
+use Rattle.timebase.specs.Time.{cycleIn, cycleOf}
+use Rattle.score_line.specs.declared.Event.{Event}
+use Rattle.score_line.specs.declared.Event.the-variants.{Instr, Control, End, Tempo}
+use Rattle.score_line.specs.declared.Line.{Line}
+use Rattle.players.specs.Lists.{keep, fold, All}
+use Rattle.players.specs.Cycle.{Voices, Core, Note, Started, isDue, earlier, insert, ordered, dueOf, anyEnd, ends, farthest, tempoFrom, lastTempo, mostNotes, joinedBy, startedBy, started, startedIn, born, stepped, capped, withLines}
+use Rattle.players.specs.Plain.{startingTempo}
+use Rattle.players.proofs.Lists.{cond-true, cond-false, length-keep, all-keep}
+
+-- a tempo of at least 1: 1,024 ticks a cycle or more
+abbrev pub steady : Event → Type 0
+steady (Instr label i d) = Unit {0}
+steady (Control label x value) = Unit {0}
+steady End = Unit {0}
+steady (Tempo t) = 1024 ≤ cycleIn t
+
+abbrev pub AllSteady : List Line → Type 0
+AllSteady ls = All (λ (l : Line). steady (l .event)) ls
+
+-- ---- due lines: as many as wait at most, and of them what holds of all that wait
+
+length-insert : (x : Line) (xs : List Line) → length (insert x xs) ≡ suc (length xs)
+unfolding insert
+length-insert x [] = refl
+length-insert x (y ∷ ys) = go (earlier (x .when) (y .when)) (length-insert x ys)
+  where
+    go : (b : Bool) → length (insert x ys) ≡ suc (length ys) → length (cond b (x ∷ y ∷ ys) (y ∷ insert x ys)) ≡ suc (suc (length ys))
+    go true h = refl
+    go false h = ap suc h
+
+all-insert : (P : Line → Type 0) (x : Line) (xs : List Line) → P x → All P xs → All P (insert x xs)
+unfolding insert
+all-insert P x [] h f = (h, tt)
+all-insert P x (y ∷ ys) h f = go (earlier (x .when) (y .when)) (all-insert P x ys h (f .1))
+  where
+    go : (b : Bool) → All P (insert x ys) → All P (cond b (x ∷ y ∷ ys) (y ∷ insert x ys))
+    go true r = (h, f)
+    go false r = (f .0, r)
+
+length-onto : (acc xs : List Line) → length (fold (λ (a : List Line) (x : Line). insert x a) acc xs) ≡ length acc + length xs
+unfolding fold
+length-onto acc [] = omega arith
+length-onto acc (x ∷ xs) = let a = length-insert x acc in let r = length-onto (insert x acc) xs in omega (arith, a, r)
+
+all-onto : (P : Line → Type 0) (acc xs : List Line) → All P acc → All P xs → All P (fold (λ (a : List Line) (x : Line). insert x a) acc xs)
+unfolding fold
+all-onto P acc [] f g = f
+all-onto P acc (x ∷ xs) f g = all-onto P (insert x acc) xs (all-insert P x acc (g .0) f) (g .1)
+
+last-steady : (t : Float) (ls : List Line) → 1024 ≤ cycleIn t → AllSteady ls → 1024 ≤ cycleIn (lastTempo t ls)
+unfolding lastTempo fold
+last-steady t [] h f = h
+last-steady t (l ∷ ls) h f = last-steady (tempoFrom t (l .event)) ls (go (l .event) (f .0)) (f .1)
+  where
+    go : (x : Event) → steady x → 1024 ≤ cycleIn (tempoFrom t x)
+    go (Instr label i d) s = h
+    go (Control label y value) s = h
+    go End s = h
+    go (Tempo u) s = s
+
+module _ {S : Type 0} (c : Core S) where
+  due-few : length (dueOf c) ≤ length (c .lines)
+  unfolding dueOf ordered
+  due-few =
+      let a = length-onto [] (keep (isDue (c .position)) (c .lines)) in
+      let b = length-keep (isDue (c .position)) (c .lines) in
+      omega (arith, a, b)
+
+  due-all : (P : Line → Type 0) → All P (c .lines) → All P (dueOf c)
+  unfolding dueOf ordered
+  due-all P h = all-onto P [] (keep (isDue (c .position)) (c .lines)) tt (all-keep (isDue (c .position)) P (c .lines) h)
+
+-- ---- each line misses one note at most
+
+module _ {S : Type 0} (v : Voices S) where
+  join-least : (s : Started S) (n : Note S) → joinedBy s n .missed ≤ s .missed + 1
+  unfolding joinedBy
+  join-least s n = go (ltb (length (s .notes)) mostNotes)
+    where
+      go : (b : Bool) → cond {A = Started S} b (record { notes = s .notes ++ (n ∷ []); missed = s .missed }) (record { notes = s .notes; missed = s .missed + 1 }) .missed ≤ s .missed + 1
+      go true = omega arith
+      go false = omega arith
+
+  start-least : (pos : ℕ) (l : Line) (s : Started S) (x : Event) → startedBy v pos l s x .missed ≤ s .missed + 1
+  start-least pos l s (Instr label i d) = join-least s (born v pos l label i d)
+  start-least pos l s (Control label x value) = omega arith
+  start-least pos l s End = omega arith
+  start-least pos l s (Tempo t) = omega arith
+
+  fold-least : (pos : ℕ) (s : Started S) (ls : List Line)
+      → fold (λ (s : Started S) (l : Line). startedBy v pos l s (l .event)) s ls .missed ≤ s .missed + length ls
+  unfolding fold
+  fold-least pos s [] = omega arith
+  fold-least pos s (l ∷ ls) =
+      let a = start-least pos l s (l .event) in
+      let r = fold-least pos (startedBy v pos l s (l .event)) ls in
+      omega (arith, a, r)
+
+  missed-least : (c : Core S) → startedIn v c .missed ≤ length (c .lines)
+  unfolding startedIn started
+  missed-least c =
+      let a = fold-least (c .position) (record { notes = c .notes; missed = 0 }) (dueOf c) in
+      let b = due-few c in
+      omega (arith, a, b)
+
+-- ---- the invariant
+
+-- few notes missed for the position reached, and every tempo at least 1
+pub record Slow {S : Type 0} (c : Core S) : Type 0 where
+  pub few : c .missed * 16 ≤ c .position
+  pub lines : AllSteady (c .lines)
+  pub tempo : 1024 ≤ cycleIn (c .tempo)
+
+or-left : (a b : Bool) → (a || b) ≡ false → a ≡ false
+or-left true b h = h
+or-left false b h = refl
+
+pub within-limit : {S : Type 0} (c : Core S) → ends c ≡ false → c .position ≤ farthest
+unfolding ends
+within-limit c e = ltb-false farthest (c .position) (or-left (ltb farthest (c .position)) _ e)
+
+module _ {S : Type 0} (v : Voices S) (c : Core S) (short : length (c .lines) ≤ 64) (s : Slow c) (near : c .position ≤ farthest) where
+  pub cap-none : capped (stepped v c) ≡ stepped v c
+  unfolding capped stepped
+  cap-none =
+      let m = missed-least v c in
+      let e : min (c .missed + startedIn v c .missed) 18446744073709551615 ≡ c .missed + startedIn v c .missed = omega (arith, m, s .few, near, short) in
+      λ i. record {
+        lines = stepped v c .lines;
+        notes = stepped v c .notes;
+        position = stepped v c .position;
+        tempo = stepped v c .tempo;
+        missed = e i;
+        ended = false;
+      }
+
+  pub slow-stepped : Slow (stepped v c)
+  unfolding stepped
+  slow-stepped =
+      let m = missed-least v c in
+      let t : 1024 ≤ cycleIn (lastTempo (c .tempo) (dueOf c)) = last-steady (c .tempo) (dueOf c) (s .tempo) (due-all c _ (s .lines)) in
+      record {
+        few = omega (arith, m, t, s .few, short);
+        lines = all-keep (λ (l : Line). not (isDue (c .position) l)) (λ (l : Line). steady (l .event)) (c .lines) (s .lines);
+        tempo = t;
+      }
+
+-- the starting tempo is steady
+pub starting : 1024 ≤ cycleIn startingTempo
+unfolding startingTempo cycleIn cycleOf ofBits ofFields le lt eq span climb size odd
+starting = omega arith

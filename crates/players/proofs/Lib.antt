@@ -1,0 +1,8 @@
+pub mod Lists
+pub mod Join
+pub mod Count
+pub mod Works
+pub mod Later
+pub mod Alike
+pub mod Ceiling
+pub mod Loops

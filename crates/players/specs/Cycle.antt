@@ -1,0 +1,280 @@
+-- Document 01, "One cycle, in order", over lists. What the notes do is a parameter, the voices, so that the panel and the plain
+-- player share this one definition.
+use mathlib.Core.Bool.{Bool, true, false, not, _&&_, _||_, cond}
+use mathlib.Core.List.{List, [], _∷_, _++_}
+use Prim.Native.Nat.{ℕ, _+_, min}
+use lib.IntN.{ℤ}
+use lib.ListN.{length, replicate, take}
+use lib.Dec.{ltb, leb, eqb}
+use lib.Ieee.{Float, binary32, lt, eq, ofBits}
+use Rattle.timebase.specs.Time.{ticksIn, cycleIn, endless as withoutEnd}
+use Rattle.float32.specs.Limit.{sampleOf}
+use Rattle.score_line.specs.declared.When.{When}
+use Rattle.score_line.specs.declared.When.the-variants.{Timed, Untimed}
+use Rattle.score_line.specs.declared.Label.{Label}
+use Rattle.score_line.specs.declared.Label.the-variants.{Unlabelled, Labelled}
+use Rattle.score_line.specs.declared.Event.{Event}
+use Rattle.score_line.specs.declared.Event.the-variants.{Instr, Control, End, Tempo}
+use Rattle.score_line.specs.declared.Line.{Line}
+use Rattle.players.specs.Lists.{keep, fold, each}
+
+-- ---- the voices
+
+-- what a note's run leaves: what the note holds, and the summed samples with its outputs added
+pub record Ran (S : Type 0) : Type 0 where
+  pub state : S
+  pub mix : List Float
+
+-- What the orchestra makes of a note. S is what a note holds: its instrument and a float for each name.
+pub record Voices (S : Type 0) : Type 0 where
+  -- a new note of the instrument with this name, given these values: its i statements have run
+  pub birth : ℕ → List Float → S
+  -- the imports ksig with this name set to a value, where the instrument has it
+  pub control : ℕ → Float → S → S
+  -- one cycle: the k statements once, the a statements for each sample, whose outputs are added to it in statement order
+  pub run : S → List Float → Ran S
+
+-- a note that sounds
+pub record Note (S : Type 0) : Type 0 where
+  -- whether it has a label, and which; 0 where it has none
+  pub labelled : Bool
+  pub label : ℕ
+  -- whether it is without end; if not, the position of its birth plus the ticks of its duration
+  pub endless : Bool
+  pub end : ℕ
+  pub state : S
+
+-- what a player holds between two cycles
+pub record Core (S : Type 0) : Type 0 where
+  -- the waiting lines, in order of arrival
+  pub lines : List Line
+  -- the sounding notes, oldest first
+  pub notes : List (Note S)
+  pub position : ℕ
+  pub tempo : Float
+  -- how many notes were missed
+  pub missed : ℕ
+  -- whether the piece is ended
+  pub ended : Bool
+
+-- ---- due lines
+
+abbrev pub dueWhen : ℕ → When → Bool
+dueWhen pos (Timed late t) = leb (ticksIn t) pos
+dueWhen pos Untimed = true
+
+-- A line is due when its ticks are at most the position; an untimed line is due in the next cycle.
+unfoldable pub isDue : ℕ → Line → Bool
+isDue pos l = dueWhen pos (l .when)
+
+-- by exact time; a timed line comes before an untimed one
+abbrev pub earlier : When → When → Bool
+earlier (Timed a t) (Timed b u) = lt t u
+earlier (Timed a t) Untimed = true
+earlier Untimed w = false
+
+-- a line put behind all those that are not later than it
+unfoldable pub insert : Line → List Line → List Line
+insert x [] = x ∷ []
+insert x (y ∷ ys) = cond (earlier (x .when) (y .when)) (x ∷ y ∷ ys) (y ∷ insert x ys)
+
+-- lines by exact time, equal times by arrival, untimed ones last by arrival
+unfoldable pub ordered : List Line → List Line
+ordered xs = fold (λ (before : List Line) (x : Line). insert x before) [] xs
+
+-- ---- step 1
+
+-- the limit on position
+abbrev pub farthest : ℕ
+farthest = 1000000000000
+
+abbrev pub isEnd : Event → Bool
+isEnd (Instr label i d) = false
+isEnd (Control label x value) = false
+isEnd End = true
+isEnd (Tempo t) = false
+
+unfoldable pub anyEnd : List Line → Bool
+anyEnd ls = fold (λ (found : Bool) (l : Line). found || isEnd (l .event)) false ls
+
+-- ---- step 2
+
+abbrev pub tempoFrom : Float → Event → Float
+tempoFrom old (Instr label i d) = old
+tempoFrom old (Control label x value) = old
+tempoFrom old End = old
+tempoFrom old (Tempo t) = t
+
+-- the last tempo line in order sets the tempo
+unfoldable pub lastTempo : Float → List Line → Float
+lastTempo t ls = fold (λ (old : Float) (l : Line). tempoFrom old (l .event)) t ls
+
+-- ---- steps 3 to 7, with the voices
+
+-- the notes, and how many were missed in this cycle
+pub record Started (S : Type 0) : Type 0 where
+  pub notes : List (Note S)
+  pub missed : ℕ
+
+-- the notes after their run, and the summed samples
+pub record Band (S : Type 0) : Type 0 where
+  pub notes : List (Note S)
+  pub mix : List Float
+
+-- most notes that sound at once
+abbrev pub mostNotes : ℕ
+mostNotes = 16
+
+-- samples a cycle
+abbrev pub samples : ℕ
+samples = 320
+
+abbrev pub isLabelled : Label → Bool
+isLabelled Unlabelled = false
+isLabelled (Labelled n) = true
+
+abbrev pub labelNumber : Label → ℕ
+labelNumber Unlabelled = 0
+labelNumber (Labelled n) = n
+
+-- step 6: every summed sample limited by the ceiling
+unfoldable pub limited : ℕ → List Float → List ℤ
+limited ceiling mix = each (λ (x : Float). sampleOf x ceiling) mix
+
+module _ {S : Type 0} where
+  abbrev pub withState : Note S → S → Note S
+  withState n s = record { labelled = n .labelled; label = n .label; endless = n .endless; end = n .end; state = s }
+
+  -- the due lines, in order
+  unfoldable pub dueOf : Core S → List Line
+  dueOf c = ordered (keep (isDue (c .position)) (c .lines))
+
+  -- step 1: an end line is due, or the position is past the limit
+  unfoldable pub ends : Core S → Bool
+  ends c = ltb farthest (c .position) || anyEnd (dueOf c)
+
+  -- one note more; with 16 sounding, one more missed
+  unfoldable pub joinedBy : Started S → Note S → Started S
+  joinedBy s n =
+      cond (ltb (length (s .notes)) mostNotes)
+      (record { notes = s .notes ++ (n ∷ []); missed = s .missed })
+      (record { notes = s .notes; missed = s .missed + 1 })
+
+  -- a note that goes on after a cycle at a position: its end lies above it
+  unfoldable pub goesOn : ℕ → Note S → Bool
+  goesOn pos n = n .endless || ltb pos (n .end)
+
+module _ {S : Type 0} (v : Voices S) where
+  -- the note that an instr line starts; its values are the first of the fields, a duration of -1 is without end
+  unfoldable pub born : ℕ → Line → Label → ℕ → Float → Note S
+  born pos l label instrument duration =
+      record {
+        labelled = isLabelled label;
+        label = labelNumber label;
+        endless = eq duration withoutEnd;
+        end = pos + ticksIn duration;
+        state = v .birth instrument (take (l .count) (l .values));
+      }
+
+  abbrev pub startedBy : ℕ → Line → Started S → Event → Started S
+  startedBy pos l s (Instr label i d) = joinedBy s (born pos l label i d)
+  startedBy pos l s (Control label x value) = s
+  startedBy pos l s End = s
+  startedBy pos l s (Tempo t) = s
+
+  -- step 3: each instr line starts a note
+  unfoldable pub started : ℕ → List (Note S) → List Line → Started S
+  started pos ns ls =
+      fold (λ (s : Started S) (l : Line). startedBy pos l s (l .event)) (record { notes = ns; missed = 0 }) ls
+
+  -- a control line's effect on one note: on a note with that label, and on no other
+  unfoldable pub controlledBy : ℕ → ℕ → Float → Note S → Note S
+  controlledBy label x value n =
+      cond (n .labelled && eqb label (n .label)) (withState n (v .control x value (n .state))) n
+
+  abbrev pub controlEvent : List (Note S) → Event → List (Note S)
+  controlEvent ns (Instr label i d) = ns
+  controlEvent ns (Control label x value) = each (controlledBy label x value) ns
+  controlEvent ns End = ns
+  controlEvent ns (Tempo t) = ns
+
+  -- step 4: each control line in order
+  unfoldable pub controlled : List (Note S) → List Line → List (Note S)
+  controlled ns ls = fold (λ (ms : List (Note S)) (l : Line). controlEvent ms (l .event)) ns ls
+
+  -- step 5: notes run, oldest first, each adding its outputs to the samples
+  unfoldable pub runFrom : List (Note S) → List Float → Band S
+  runFrom [] mix = record { notes = []; mix = mix }
+  runFrom (n ∷ ns) mix =
+      let r = v .run (n .state) mix in
+      let rest = runFrom ns (r .mix) in
+      record {
+        notes = withState n (r .state) ∷ rest .notes;
+        mix = rest .mix;
+      }
+
+  -- each sample starts at +0
+  unfoldable pub runAll : List (Note S) → Band S
+  runAll ns = runFrom ns (replicate samples (ofBits binary32 0))
+
+  -- ---- one cycle of a player
+
+  unfoldable pub startedIn : Core S → Started S
+  startedIn c = started (c .position) (c .notes) (dueOf c)
+
+  -- steps 3 to 5
+  unfoldable pub bandOf : Core S → Band S
+  bandOf c = runAll (controlled (startedIn c .notes) (dueOf c))
+
+  -- step 6: the block of limited samples
+  unfoldable pub blockOf : ℕ → Core S → List ℤ
+  blockOf ceiling c = limited ceiling (bandOf c .mix)
+
+  -- steps 2 to 8: each due line is used once, the notes that are over are removed, the position grows
+  unfoldable pub stepped : Core S → Core S
+  stepped c =
+      record {
+        lines = keep (λ (l : Line). not (isDue (c .position) l)) (c .lines);
+        notes = keep (goesOn (c .position)) (bandOf c .notes);
+        position = c .position + cycleIn (lastTempo (c .tempo) (dueOf c));
+        tempo = lastTempo (c .tempo) (dueOf c);
+        missed = c .missed + startedIn c .missed;
+        ended = false;
+      }
+
+module _ {S : Type 0} where
+  -- the piece is ended: nothing else changes
+  unfoldable pub stopped : Core S → Core S
+  stopped c =
+      record {
+        lines = c .lines;
+        notes = c .notes;
+        position = c .position;
+        tempo = c .tempo;
+        missed = c .missed;
+        ended = true;
+      }
+
+  -- more lines behind those that wait
+  unfoldable pub withLines : Core S → List Line → Core S
+  withLines c ls =
+      record {
+        lines = c .lines ++ ls;
+        notes = c .notes;
+        position = c .position;
+        tempo = c .tempo;
+        missed = c .missed;
+        ended = c .ended;
+      }
+
+  -- the count of missed notes as far as 64 bits go
+  unfoldable pub capped : Core S → Core S
+  capped c =
+      record {
+        lines = c .lines;
+        notes = c .notes;
+        position = c .position;
+        tempo = c .tempo;
+        missed = min (c .missed) 18446744073709551615;
+        ended = c .ended;
+      }

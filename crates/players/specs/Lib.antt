@@ -1,0 +1,4 @@
+pub mod Lists
+pub mod Cycle
+pub mod Plain
+pub mod History

@@ -1,0 +1,28 @@
+-- Functions on lists that the definitions share.
+use mathlib.Core.Bool.{Bool, true, false, cond}
+use mathlib.Core.List.{List, [], _∷_, _++_}
+use lib.ListN.{length, drop}
+
+-- the elements that pass a test, in order
+unfoldable pub keep : {A : Type 0} → (A → Bool) → List A → List A
+keep f [] = []
+keep f (x ∷ xs) = cond (f x) (x ∷ keep f xs) (keep f xs)
+
+-- fold from the left
+unfoldable pub fold : {A B : Type 0} → (B → A → B) → B → List A → B
+fold f b [] = b
+fold f b (x ∷ xs) = fold f (f b x) xs
+
+-- each element's image, in order
+unfoldable pub each : {A B : Type 0} → (A → B) → List A → List B
+each f [] = []
+each f (x ∷ xs) = f x ∷ each f xs
+
+-- a statement of every element
+abbrev pub All : {A : Type 0} → (A → Type 0) → List A → Type 0
+All P [] = Unit {0}
+All P (x ∷ xs) = P x × All P xs
+
+-- an array whose first elements are those of a list, and the others as they were
+abbrev pub over : {A : Type 0} → List A → List A → List A
+over xs old = xs ++ drop (length xs) old
