@@ -1,0 +1,241 @@
+-- The cursor passes exactly the lines of an accepted score. Assumes nothing.
+use Prim.Native.Nat.{ℕ, zero, suc, _-_, _<_}
+use mathlib.Core.Path.{_≡_, refl, sym, ap, ap₂, _∙_, subst}
+use mathlib.Core.Bool.{Bool, true, false, cond}
+use mathlib.Core.List.{List, [], _∷_}
+use native.Mathlib.Omega.{arith}
+use borrow.Author.Tests.{eqb-true}
+use lib.Dec.{eqb}
+use lib.ListN.{length}
+use Rattle.answer.specs.declared.Answer.{Answer}
+use Rattle.answer.specs.declared.Answer.the-variants.{Taken, CutShort, NotCarried, LeftOver}
+use Rattle.answer.specs.Numbers.{isTaken, numberOf}
+use Rattle.bitstream.specs.Reads.{readAt}
+use Rattle.bitstream.specs.Filling.{filled}
+use Rattle.bitstream.specs.declared.Got.{Got}
+use Rattle.bitstream.specs.declared.Got.the-variants.{Value, Short}
+use Rattle.score_line.specs.Source.{bitSource}
+use Rattle.score_line.specs.Reading.{Read, got, refused, lineFrom, lineAt, lineRead, refusedLine, answerOf}
+use Rattle.score_line.specs.declared.Fault.{Fault}
+use Rattle.score_line.specs.declared.Line.{Line}
+use Rattle.score_line.specs.declared.LineRead.{LineRead}
+use Rattle.score.specs.Score.{Lines, all, faulty, before, lineThen, linesFrom, Score, taken, refusedScore, ended, counted, scoreOf, startOf, firstOf, stepOf, nextOf, walked, Ahead, wholeLine, opened, unitOf}
+use Rattle.score.specs.declared.Cursor.{Cursor}
+use Rattle.score.specs.declared.Step.{Step}
+use Rattle.score.proofs.Ways.{fault-not-taken, whole-refused}
+
+-- ---- an accepted score's parts
+
+-- what an accepted score holds: its number of lines, the lines, and a filled end
+pub record Accepted (bits : List Bool) (ls : List Line) : Type 0 where
+  pub count : ℕ
+  pub start : ℕ
+  pub end : ℕ
+  pub counted-there : readAt bits 0 20 ≡ Value count start
+  pub lines-there : linesFrom bits count 0 start ≡ all ls end
+  pub filled-there : filled bits end ≡ true
+
+not-taken : (f : Fault) (i : ℕ) (ls : List Line) → refusedScore (answerOf f) i ≡ taken ls → ⊥
+not-taken f i ls e =
+    let k : true ≡ false = ap (λ (s : Score). isTaken (s .answer)) (sym e) ∙ fault-not-taken f in
+    let z : _≡_ {A = ℕ} 0 1 = cc in
+    omega arith
+
+other : (a : Answer) (i : ℕ) (ls : List Line) → refusedScore a i ≡ taken ls → isTaken a ≡ false → ⊥
+other a i ls e f =
+    let k : true ≡ false = ap (λ (s : Score). isTaken (s .answer)) (sym e) ∙ f in
+    let z : _≡_ {A = ℕ} 0 1 = cc in
+    omega arith
+
+end-back : (bits : List Bool) (n p : ℕ) (ls : List Line) (x : Lines) → readAt bits 0 20 ≡ Value n p → linesFrom bits n 0 p ≡ x → ended bits x ≡ taken ls → Accepted bits ls
+unfolding ended
+end-back bits n p ls (faulty f i) g h e = absurd (not-taken f i ls e)
+end-back bits n p ls (all ms q) g h e = go (filled bits q) refl e
+  where
+    go : (b : Bool) → filled bits q ≡ b → cond b (taken ms) (refusedScore LeftOver 0) ≡ taken ls → Accepted bits ls
+    go false f k = absurd (other LeftOver 0 ls k refl)
+    go true f k = record { count = n; start = p; end = q; counted-there = g; lines-there = h ∙ ap (λ (m : List Line). all m q) (ap (λ (s : Score). s .lines) k); filled-there = f }
+
+count-back : (bits : List Bool) (ls : List Line) (g : Got) → readAt bits 0 20 ≡ g → counted bits g ≡ taken ls → Accepted bits ls
+unfolding counted
+count-back bits ls (Value n p) h e = end-back bits n p ls (linesFrom bits n 0 p) h refl e
+count-back bits ls Short h e = absurd (other CutShort 0 ls e refl)
+
+pub accepted : (bits : List Bool) (ls : List Line) → scoreOf bits ≡ taken ls → Accepted bits ls
+unfolding scoreOf
+accepted bits ls e = count-back bits ls (readAt bits 0 20) refl e
+
+-- and back
+pub accepts : (bits : List Bool) (ls : List Line) → Accepted bits ls → scoreOf bits ≡ taken ls
+unfolding scoreOf counted ended
+accepts bits ls a = ap (counted bits) (a .counted-there) ∙ ap (ended bits) (a .lines-there) ∙ rw (a .filled-there)
+
+-- an answer 0 has the lines that the definition gives
+pub answered : (bits : List Bool) → scoreOf bits .answer ≡ Taken → scoreOf bits ≡ taken (scoreOf bits .lines)
+unfolding scoreOf counted ended
+answered bits e = count (readAt bits 0 20) e
+  where
+    no-more : (a : Answer) (i : ℕ) → isTaken a ≡ false → refusedScore a i .answer ≡ Taken → refusedScore a i ≡ taken []
+    no-more a i f k = absurd (let z : true ≡ false = ap isTaken (sym k) ∙ f in let y : _≡_ {A = ℕ} 0 1 = cc in omega arith)
+
+    filling : (b : Bool) (ms : List Line) → cond b (taken ms) (refusedScore LeftOver 0) .answer ≡ Taken → cond b (taken ms) (refusedScore LeftOver 0) ≡ taken (cond b (taken ms) (refusedScore LeftOver 0) .lines)
+    filling true ms k = refl
+    filling false ms k = no-more LeftOver 0 refl k
+
+    end : (x : Lines) → ended bits x .answer ≡ Taken → ended bits x ≡ taken (ended bits x .lines)
+    end (all ms q) k = filling (filled bits q) ms k
+    end (faulty f i) k = no-more (answerOf f) i (fault-not-taken f) k
+
+    count : (g : Got) → counted bits g .answer ≡ Taken → counted bits g ≡ taken (counted bits g .lines)
+    count (Value n p) k = end (linesFrom bits n 0 p) k
+    count Short k = no-more CutShort 0 refl k
+
+-- ---- an accepted unit's parts
+
+pub record Unit-accepted (bits : List Bool) (x : Line) (p : ℕ) : Type 0 where
+  pub start : ℕ
+  pub opened-there : readAt bits 0 2 ≡ Value 0 start
+  pub line-there : lineFrom (bitSource bits) start ≡ got x p
+  pub filled-there : filled bits p ≡ true
+
+no-line : (a : Answer) (x : Line) (p : ℕ) → isTaken a ≡ false → refusedLine a ≡ lineRead (got x p) → ⊥
+unfolding refusedLine lineRead
+no-line a x p f e =
+    let k : true ≡ false = ap (λ (r : LineRead). isTaken (r .answer)) (sym e) ∙ f in
+    let z : _≡_ {A = ℕ} 0 1 = cc in
+    omega arith
+
+refused-not-taken : (a : Answer) → isTaken a ≡ false → isTaken (refusedLine a .answer) ≡ false
+unfolding refusedLine
+refused-not-taken a e = e
+
+same-line : (x y : Line) (p q : ℕ) → lineRead (got x p) ≡ lineRead (got y q) → got x p ≡ got y q
+unfolding lineRead
+same-line x y p q e = ap₂ (λ (l : Line) (n : ℕ). got l n) (ap (λ (r : LineRead). r .line) e) (ap (λ (r : LineRead). r .next) e)
+
+module _ (bits : List Bool) (x : Line) (p : ℕ) where
+  filling-back : (start q : ℕ) (y : Line) (b : Bool) → readAt bits 0 2 ≡ Value 0 start → lineFrom (bitSource bits) start ≡ got y q → filled bits q ≡ b
+      → cond b (lineRead (got y q)) (refusedLine LeftOver) ≡ lineRead (got x p) → Unit-accepted bits x p
+  filling-back start q y false f g h e = absurd (no-line LeftOver x p refl e)
+  filling-back start q y true f g h e =
+      let s = same-line y x q p e in
+      let k : q ≡ p = cc in
+      record { start = start; opened-there = f; line-there = g ∙ s; filled-there = ap (filled bits) (sym k) ∙ h }
+
+  line-part : (start : ℕ) (r : Read Line) → readAt bits 0 2 ≡ Value 0 start → lineFrom (bitSource bits) start ≡ r → wholeLine bits (lineRead r) ≡ lineRead (got x p) → Unit-accepted bits x p
+  unfolding wholeLine lineRead
+  line-part start (got y q) f g e = filling-back start q y (filled bits q) f g refl e
+  line-part start (refused a) f g e = absurd (no-line (answerOf a) x p (fault-not-taken a) (whole-refused bits (refusedLine (answerOf a)) refl (refused-not-taken (answerOf a) (fault-not-taken a)) ∙ e))
+
+  kind-part : (kind start : ℕ) (b : Bool) → readAt bits 0 2 ≡ Value kind start → eqb kind 0 ≡ b
+      → cond b (wholeLine bits (lineAt bits start)) (refusedLine NotCarried) ≡ lineRead (got x p) → Unit-accepted bits x p
+  unfolding lineAt
+  kind-part kind start false f g e = absurd (no-line NotCarried x p refl e)
+  kind-part kind start true f g e = line-part start (lineFrom (bitSource bits) start) (f ∙ ap (λ (k : ℕ). Value k start) (eqb-true kind 0 g)) refl e
+
+  open-part : (g : Got) → readAt bits 0 2 ≡ g → opened bits g ≡ lineRead (got x p) → Unit-accepted bits x p
+  unfolding opened
+  open-part (Value kind start) f e = kind-part kind start (eqb kind 0) f refl e
+  open-part Short f e = absurd (no-line CutShort x p refl e)
+
+  pub unit-accepted : unitOf bits ≡ lineRead (got x p) → Unit-accepted bits x p
+  unfolding unitOf
+  unit-accepted e = open-part (readAt bits 0 2) refl e
+
+-- ---- the cursor
+
+-- before the first line, all lines of an accepted score lie ahead
+pub ahead-first : (bits : List Bool) (ls : List Line) → scoreOf bits ≡ taken ls → Ahead bits (firstOf bits) ls
+unfolding firstOf
+ahead-first bits ls e =
+    let a = accepted bits ls e in
+    record {
+      number = 0;
+      end = a .end;
+      are = ap (λ (g : Got). linesFrom bits (startOf g .left) 0 (startOf g .at)) (a .counted-there) ∙ a .lines-there;
+    }
+
+-- what a reading of at least one line is
+pub record More (bits : List Bool) (n i at : ℕ) (ls : List Line) (end : ℕ) : Type 0 where
+  pub line : Line
+  pub next : ℕ
+  pub others : List Line
+  pub line-there : lineFrom (bitSource bits) at ≡ got line next
+  pub others-there : linesFrom bits n (suc i) next ≡ all others end
+  pub lines : ls ≡ line ∷ others
+
+before-back : (l : Line) (x : Lines) (ls : List Line) (q : ℕ) → before l x ≡ all ls q → (ms : List Line) × (x ≡ all ms q) × (ls ≡ l ∷ ms)
+before-back l (all ms p) ls q e = let a : p ≡ q = cc in (ms, ap (all ms) a, cc)
+before-back l (faulty f i) ls q e = absurd (let z : _≡_ {A = ℕ} 0 1 = cc in omega arith)
+
+pub lines-back : (bits : List Bool) (n i at : ℕ) (ls : List Line) (q : ℕ) → linesFrom bits (suc n) i at ≡ all ls q → More bits n i at ls q
+unfolding linesFrom
+lines-back bits n i at ls q e = go (lineFrom (bitSource bits) at) refl e
+  where
+    go : (x : Read Line) → lineFrom (bitSource bits) at ≡ x → lineThen x i (λ p. linesFrom bits n (suc i) p) ≡ all ls q → More bits n i at ls q
+    go (got l p) h k =
+        let b = before-back l (linesFrom bits n (suc i) p) ls q k in
+        record { line = l; next = p; others = b .0; line-there = h; others-there = b .1; lines = b .2 }
+    go (refused f) h k = absurd (let z : _≡_ {A = ℕ} 0 1 = cc in omega arith)
+
+-- as many lines are ahead as the cursor says
+lines-length : (bits : List Bool) (n i at : ℕ) (ls : List Line) (q : ℕ) → linesFrom bits n i at ≡ all ls q → length ls ≡ n
+unfolding linesFrom
+lines-length bits zero i at ls q e = let k : ls ≡ [] = cc in ap length k
+lines-length bits (suc n) i at ls q e =
+    let m = lines-back bits n i at ls q e in
+    ap length (m .lines) ∙ ap suc (lines-length bits n (suc i) (m .next) (m .others) q (m .others-there))
+
+pub ahead-left : (bits : List Bool) (c : Cursor) (ls : List Line) → Ahead bits c ls → length ls ≡ c .left
+ahead-left bits c ls a = lines-length bits (c .left) (a .number) (c .at) ls (a .end) (a .are)
+
+-- the next line is the first of them, and the others lie ahead of the cursor past it
+pub record Passed (bits : List Bool) (c : Cursor) (l : Line) (ls : List Line) : Type 0 where
+  pub answer : nextOf bits c .answer ≡ Taken
+  pub line : nextOf bits c .line ≡ l
+  pub left : nextOf bits c .rest .left ≡ c .left - 1
+  pub ahead : Ahead bits (nextOf bits c .rest) ls
+
+pass : (bits : List Bool) (n i at : ℕ) (l : Line) (ls : List Line) (q : ℕ) → linesFrom bits (suc n) i at ≡ all (l ∷ ls) q → Passed bits (record { at = at; left = suc n }) l ls
+unfolding nextOf lineAt lineRead
+pass bits n i at l ls q e =
+    let m = lines-back bits n i at (l ∷ ls) q e in
+    let h : l ≡ m .line = cc in
+    let t : ls ≡ m .others = cc in
+    let k : suc n - 1 ≡ n = omega arith in
+    record {
+      answer = ap (λ (x : Read Line). lineRead x .answer) (m .line-there);
+      line = ap (λ (x : Read Line). lineRead x .line) (m .line-there) ∙ sym h;
+      left = refl;
+      ahead = record {
+        number = suc i;
+        end = q;
+        are = ap₂ (λ (x : ℕ) (y : Read Line). linesFrom bits x (suc i) (lineRead y .next)) k (m .line-there) ∙ m .others-there ∙ ap (λ (x : List Line). all x q) (sym t);
+      };
+    }
+
+pub ahead-next : (bits : List Bool) (c : Cursor) (l : Line) (ls : List Line) → Ahead bits c (l ∷ ls) → Passed bits c l ls
+ahead-next bits c l ls a = go (c .left) refl (a .are)
+  where
+    go : (n : ℕ) → c .left ≡ n → linesFrom bits (c .left) (a .number) (c .at) ≡ all (l ∷ ls) (a .end) → Passed bits c l ls
+    go zero h e = absurd (let k = ahead-left bits c (l ∷ ls) a in omega arith)
+    go (suc n) h e =
+        subst (λ (x : ℕ). Passed bits (record { at = c .at; left = x }) l ls) (sym h)
+        (pass bits n (a .number) (c .at) l ls (a .end) (ap (λ (x : ℕ). linesFrom bits x (a .number) (c .at)) (sym h) ∙ e))
+
+-- ---- the lines that calls of `next` pass
+
+walk : (bits : List Bool) (n : ℕ) (c : Cursor) (ls : List Line) → length ls ≡ n → Ahead bits c ls → walked bits n c ≡ ls
+unfolding walked
+walk bits zero c [] h a = refl
+walk bits zero c (l ∷ ls) h a = absurd (omega arith)
+walk bits (suc n) c [] h a = absurd (omega arith)
+walk bits (suc n) c (l ∷ ls) h a =
+    let p = ahead-next bits c l ls a in
+    ap₂ (λ (x : Line) (y : List Line). x ∷ y) (p .line) (walk bits n (nextOf bits c .rest) ls (omega arith) (p .ahead))
+
+-- walking the cursor over an accepted score gives exactly its lines
+pub walk-all : (bits : List Bool) → scoreOf bits .answer ≡ Taken → walked bits (firstOf bits .left) (firstOf bits) ≡ scoreOf bits .lines
+walk-all bits e =
+    let a = ahead-first bits (scoreOf bits .lines) (answered bits e) in
+    walk bits (firstOf bits .left) (firstOf bits) (scoreOf bits .lines) (ahead-left bits (firstOf bits) (scoreOf bits .lines) a) a

@@ -1,0 +1,173 @@
+-- One law for each way through the readers of scores and units. Assumes nothing.
+use Prim.Native.Nat.{ℕ, zero, suc, _+_, _-_, _<_, _≤_}
+use mathlib.Core.Path.{_≡_, refl, sym, ap, ap₂, _∙_, subst}
+use mathlib.Core.Bool.{Bool, true, false, cond}
+use mathlib.Core.List.{List, [], _∷_}
+use native.Mathlib.Numerals.{add-one}
+use native.Mathlib.Omega.{arith}
+use borrow.Author.Tests.{eq-eqb, ne-eqb}
+use Rattle.answer.specs.Numbers.{isTaken}
+use Rattle.answer.specs.declared.Answer.{Answer}
+use Rattle.answer.specs.declared.Answer.the-variants.{Taken, CutShort, NotCarried, LeftOver}
+use Rattle.bitstream.specs.Reads.{readAt}
+use Rattle.bitstream.specs.Filling.{filled}
+use Rattle.bitstream.specs.declared.Got.{Got}
+use Rattle.bitstream.specs.declared.Got.the-variants.{Value, Short}
+use Rattle.score_line.specs.Source.{bitSource}
+use Rattle.score_line.specs.Reading.{Read, got, refused, lineFrom, lineAt, lineRead, refusedLine, answerOf}
+use Rattle.score_line.specs.declared.Fault.{Fault}
+use Rattle.score_line.specs.declared.Fault.the-variants as fault
+use Rattle.score_line.specs.declared.Line.{Line}
+use Rattle.score_line.specs.declared.LineRead.{LineRead}
+use Rattle.score.specs.Score.{Lines, all, faulty, before, lineThen, linesFrom, taken, refusedScore, ended, counted, scoreOf, heard, startOf, firstOf, stepOf, nextOf, wholeLine, opened, unitOf}
+use Rattle.score.specs.declared.ScoreRead.{ScoreRead}
+use Rattle.score.specs.declared.Cursor.{Cursor}
+use Rattle.score.specs.declared.Step.{Step}
+
+-- ---- one line
+
+pub fault-not-taken : (f : Fault) → isTaken (answerOf f) ≡ false
+unfolding answerOf
+fault-not-taken fault.CutShort = refl
+fault-not-taken fault.NotCarried = refl
+fault-not-taken fault.OutOfRange = refl
+fault-not-taken fault.TooManyValues = refl
+
+-- a reading whose answer is 0 has a line
+pub record Got-line (x : Read Line) : Type 0 where
+  pub line : Line
+  pub next : ℕ
+  pub is : x ≡ got line next
+
+pub line-taken : (x : Read Line) → isTaken (lineRead x .answer) ≡ true → Got-line x
+unfolding lineRead refusedLine
+line-taken (got l p) e = record { line = l; next = p; is = refl }
+line-taken (refused f) e = absurd (let k : true ≡ false = sym e ∙ fault-not-taken f in let z : _≡_ {A = ℕ} 0 1 = cc in omega arith)
+
+-- and any other a fault
+pub record Faulty (x : Read Line) : Type 0 where
+  pub fault : Fault
+  pub is : x ≡ refused fault
+
+pub line-refused : (x : Read Line) → isTaken (lineRead x .answer) ≡ false → Faulty x
+unfolding lineRead
+line-refused (got l p) e = absurd (let z : _≡_ {A = ℕ} 0 1 = cc in omega arith)
+line-refused (refused f) e = record { fault = f; is = refl }
+
+-- ---- the lines of a score
+
+heard-ended : (b : Bool) (ls ms : List Line) → heard (cond b (taken ls) (refusedScore LeftOver 0)) ≡ heard (cond b (taken ms) (refusedScore LeftOver 0))
+heard-ended true ls ms = refl
+heard-ended false ls ms = refl
+
+-- what the call gives does not see the lines
+heard-before : (bits : List Bool) (l : Line) (x : Lines) → heard (ended bits (before l x)) ≡ heard (ended bits x)
+unfolding ended
+heard-before bits l (all ls p) = heard-ended (filled bits p) (l ∷ ls) ls
+heard-before bits l (faulty f i) = refl
+
+-- one more line of n
+lines-more : (bits : List Bool) (n i at : ℕ) → 0 < n → linesFrom bits n i at ≡ lineThen (lineFrom (bitSource bits) at) i (λ p. linesFrom bits (n - 1) (suc i) p)
+unfolding linesFrom
+lines-more bits zero i at h = absurd (omega arith)
+lines-more bits (suc n) i at h =
+    let e : n ≡ suc n - 1 = omega arith in
+    ap (λ (k : ℕ). lineThen (lineFrom (bitSource bits) at) i (λ p. linesFrom bits k (suc i) p)) e
+
+-- the reading of what is left gives what the reading of all gives
+pub record Reading (bits : List Bool) (count start at i : ℕ) : Type 0 where
+  pub within : i ≤ count
+  pub same : heard (ended bits (linesFrom bits (count - i) i at)) ≡ heard (ended bits (linesFrom bits count 0 start))
+
+pub starts : (bits : List Bool) (count start : ℕ) → Reading bits count start start 0
+starts bits count start = record { within = omega arith; same = let e : count - 0 ≡ count = omega arith in rw e }
+
+module _ (bits : List Bool) (count start at i : ℕ) where
+  pub again : {r : LineRead} {b : Bool} → Reading bits count start at i → i < count → r ≡ lineAt bits at → b ≡ isTaken (r .answer) → b ≡ true
+      → Reading bits count start (r .next) (i + 1)
+  unfolding lineAt lineRead
+  again {r} g h e f k =
+      let x = lineFrom (bitSource bits) at in
+      let t = line-taken x (ap (λ (y : LineRead). isTaken (y .answer)) (sym e) ∙ sym f ∙ k) in
+      let p : r .next ≡ t .next = ap (λ (y : LineRead). y .next) e ∙ ap (λ (y : Read Line). lineRead y .next) (t .is) in
+      let n : count - i - 1 ≡ count - (i + 1) = omega arith in
+      let m : linesFrom bits (count - i) i at ≡ before (t .line) (linesFrom bits (count - (i + 1)) (i + 1) (r .next)) =
+      lines-more bits (count - i) i at (omega arith)
+      ∙ ap (λ (y : Read Line). lineThen y i (λ p. linesFrom bits (count - i - 1) (suc i) p)) (t .is)
+      ∙ ap (before (t .line)) (ap₂ (λ (y z : ℕ). linesFrom bits y z (t .next)) n (sym (add-one i)) ∙ ap (linesFrom bits (count - (i + 1)) (i + 1)) (sym p)) in
+      record { within = omega (arith, g .within); same = sym (heard-before bits (t .line) _) ∙ ap (λ (y : Lines). heard (ended bits y)) (sym m) ∙ g .same }
+
+  pub stops : {r : LineRead} {b : Bool} → Reading bits count start at i → i < count → r ≡ lineAt bits at → b ≡ isTaken (r .answer) → b ≡ false
+      → record { answer = r .answer; line = i } ≡ heard (ended bits (linesFrom bits count 0 start))
+  unfolding lineAt lineRead ended refusedLine
+  stops {r} g h e f k =
+      let x = lineFrom (bitSource bits) at in
+      let t = line-refused x (ap (λ (y : LineRead). isTaken (y .answer)) (sym e) ∙ sym f ∙ k) in
+      let a : r .answer ≡ answerOf (t .fault) = ap (λ (y : LineRead). y .answer) e ∙ ap (λ (y : Read Line). lineRead y .answer) (t .is) in
+      let m : linesFrom bits (count - i) i at ≡ faulty (t .fault) i =
+      lines-more bits (count - i) i at (omega arith) ∙ ap (λ (y : Read Line). lineThen y i (λ p. linesFrom bits (count - i - 1) (suc i) p)) (t .is) in
+      (λ j. record { answer = a j; line = i }) ∙ ap (λ (y : Lines). heard (ended bits y)) (sym m) ∙ g .same
+
+  pub ends : {r : ScoreRead} → Reading bits count start at i → count ≤ i → r ≡ heard (ended bits (all [] at)) → r ≡ heard (ended bits (linesFrom bits count 0 start))
+  unfolding linesFrom
+  ends g h e = let n : count - i ≡ 0 = omega arith in e ∙ ap (λ (y : ℕ). heard (ended bits (linesFrom bits y i at))) (sym n) ∙ g .same
+
+-- ---- a whole score
+
+pub end-filled : (bits : List Bool) (p : ℕ) {b : Bool} → b ≡ filled bits p → b ≡ true → record { answer = Taken; line = 0 } ≡ heard (ended bits (all [] p))
+unfolding ended
+end-filled bits p e f = sym (rw (sym e ∙ f))
+
+pub end-left : (bits : List Bool) (p : ℕ) {b : Bool} → b ≡ filled bits p → b ≡ false → record { answer = LeftOver; line = 0 } ≡ heard (ended bits (all [] p))
+unfolding ended
+end-left bits p e f = sym (rw (sym e ∙ f))
+
+pub score-counted : (bits : List Bool) (n p : ℕ) {g : Got} {r : ScoreRead} → g ≡ readAt bits 0 20 → g ≡ Value n p → r ≡ heard (ended bits (linesFrom bits n 0 p)) → r ≡ heard (scoreOf bits)
+unfolding scoreOf counted
+score-counted bits n p e f h = h ∙ ap (λ (y : Got). heard (counted bits y)) (sym f ∙ e)
+
+pub score-short : (bits : List Bool) {g : Got} → g ≡ readAt bits 0 20 → g ≡ Short → record { answer = CutShort; line = 0 } ≡ heard (scoreOf bits)
+unfolding scoreOf counted
+score-short bits e f = ap (λ (y : Got). heard (counted bits y)) (sym f ∙ e)
+
+-- ---- the cursor
+
+pub first-counted : (bits : List Bool) (n p : ℕ) {g : Got} → g ≡ readAt bits 0 20 → g ≡ Value n p → record { at = p; left = n } ≡ firstOf bits
+unfolding firstOf
+first-counted bits n p e f = ap startOf (sym f ∙ e)
+
+pub first-short : (bits : List Bool) {g : Got} → g ≡ readAt bits 0 20 → g ≡ Short → record { at = 0; left = 0 } ≡ firstOf bits
+unfolding firstOf
+first-short bits e f = ap startOf (sym f ∙ e)
+
+pub next-step : (bits : List Bool) (c : Cursor) {r : LineRead} {k : ℕ} → r ≡ lineAt bits (c .at) → k ≡ c .left - 1
+    → record { answer = r .answer; line = r .line; rest = record { at = r .next; left = k } } ≡ nextOf bits c
+unfolding nextOf
+next-step bits c {r} e f = (λ j. record { answer = r .answer; line = r .line; rest = record { at = r .next; left = f j } }) ∙ ap (stepOf (c .left)) e
+
+-- ---- an access unit
+
+pub whole-filled : (bits : List Bool) (r : LineRead) {a b : Bool} → a ≡ isTaken (r .answer) → a ≡ true → b ≡ filled bits (r .next) → b ≡ true → r ≡ wholeLine bits r
+unfolding wholeLine
+whole-filled bits r e f g h = sym (rw (sym e ∙ f, sym g ∙ h))
+
+pub whole-left : (bits : List Bool) (r : LineRead) {a b : Bool} {x : LineRead} → a ≡ isTaken (r .answer) → a ≡ true → b ≡ filled bits (r .next) → b ≡ false → x ≡ refusedLine LeftOver → x ≡ wholeLine bits r
+unfolding wholeLine
+whole-left bits r e f g h k = k ∙ sym (rw (sym e ∙ f, sym g ∙ h))
+
+pub whole-refused : (bits : List Bool) (r : LineRead) {a : Bool} → a ≡ isTaken (r .answer) → a ≡ false → r ≡ wholeLine bits r
+unfolding wholeLine
+whole-refused bits r e f = sym (rw (sym e ∙ f))
+
+pub unit-line : (bits : List Bool) (kind p : ℕ) {g : Got} {r x : LineRead} → g ≡ readAt bits 0 2 → g ≡ Value kind p → kind ≡ 0 → r ≡ lineAt bits p → x ≡ wholeLine bits r → x ≡ unitOf bits
+unfolding unitOf opened
+unit-line bits kind p e f z h k =
+    k ∙ ap (wholeLine bits) h ∙ sym (ap (λ (b : Bool). cond b (wholeLine bits (lineAt bits p)) (refusedLine NotCarried)) (eq-eqb kind 0 z)) ∙ ap (opened bits) (sym f ∙ e)
+
+pub unit-other : (bits : List Bool) (kind p : ℕ) {g : Got} {x : LineRead} → g ≡ readAt bits 0 2 → g ≡ Value kind p → (kind ≡ 0 → ⊥) → x ≡ refusedLine NotCarried → x ≡ unitOf bits
+unfolding unitOf opened
+unit-other bits kind p e f z k = k ∙ sym (ap (λ (b : Bool). cond b (wholeLine bits (lineAt bits p)) (refusedLine NotCarried)) (ne-eqb kind 0 z)) ∙ ap (opened bits) (sym f ∙ e)
+
+pub unit-short : (bits : List Bool) {g : Got} {x : LineRead} → g ≡ readAt bits 0 2 → g ≡ Short → x ≡ refusedLine CutShort → x ≡ unitOf bits
+unfolding unitOf opened
+unit-short bits e f k = k ∙ ap (opened bits) (sym f ∙ e)
