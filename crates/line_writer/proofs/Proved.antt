@@ -1,0 +1,169 @@
+-- The round trips of a line. Assumes nothing.
+use Prim.Native.Nat.{ℕ, _+_, _^_, _<_, _≤_}
+use mathlib.Core.Path.{_≡_, refl, sym, ap, ap₂, _∙_}
+use mathlib.Core.Bool.{Bool, true, false, _&&_, cond}
+use mathlib.Core.List.{List, [], _++_, append-nil}
+use native.Mathlib.Nat.{add-zero, zero-add}
+use native.Mathlib.Omega.{arith}
+use borrow.Author.Tests.{eqb-true, eq-eqb}
+use lib.Dec.{T, eqb, leb, eqb→eq}
+use lib.ListN.{length, getD, take, drop, length-drop, take-append-drop}
+use lib.Seq.{drop-at, drop-length}
+use lib.Ieee.Fits.{and-l, and-r}
+use Rattle.answer.specs.Numbers.{isTaken}
+use Rattle.answer.specs.declared.Answer.the-variants as answer
+use Rattle.bitstream.specs.Fields.{farthest}
+use Rattle.score_line.specs.Source.{bitSource, keypadSource}
+use Rattle.score_line.specs.Reading.{Read, got, refused, lineFrom, answerOf, refusedLine, lineRead, lineAt, lineInWords, wholeRun, keypadLine}
+use Rattle.score_line.specs.declared.Line.{Line}
+use Rattle.score_line.specs.declared.LineRead.{LineRead}
+use Rattle.score_line.specs.declared.Fault.{Fault}
+use Rattle.score_line.specs.declared.Fault.the-variants as fault
+use Rattle.score_line.specs.declared.Range.the-variants as range
+use Rattle.line_writer.specs.Fields.{lineFields, fieldWords, lineBefore, lineBits, lineWords}
+use Rattle.line_writer.specs.Packed.{widths}
+use Rattle.line_writer.specs.Lawful.{lawfulFloat, lawfulWhen, lawfulEvent, mostValues, every, isZero, lawfulValues, lawful}
+use Rattle.line_writer.specs.Claims.{taken, BitsReadBack, WordsReadBack, BitsWrittenBack, WordsWrittenBack, BitsTellLines}
+use Rattle.line_writer.proofs.Gives.{line-there}
+use Rattle.line_writer.proofs.Back.{line-back}
+use Rattle.line_writer.proofs.InBits.{bits-bounded, bits-there, bits-back, length-bits, bits-append, line-small, line-wide}
+use Rattle.line_writer.proofs.InWords.{words-bounded, words-there, words-back, length-words}
+
+-- ---- what a result tells of the reading
+
+pub read-taken : (x : Read Line) (l : Line) (p : ℕ) → lineRead x ≡ taken l p → x ≡ got l p
+unfolding lineRead refusedLine
+read-taken (got m q) l p e = ap₂ (λ (y : Line) (z : ℕ). got y z) (ap (λ (r : LineRead). r .line) e) (ap (λ (r : LineRead). r .next) e)
+read-taken (refused f) l p e = absurd (none f (ap (λ (r : LineRead). r .answer) e))
+  where
+    none : (g : Fault) → answerOf g ≡ answer.Taken → ⊥
+    none fault.CutShort k = unfold answerOf in let z : _≡_ {A = ℕ} 0 1 = cc in omega arith
+    none fault.NotCarried k = unfold answerOf in let z : _≡_ {A = ℕ} 0 1 = cc in omega arith
+    none fault.OutOfRange k = unfold answerOf in let z : _≡_ {A = ℕ} 0 1 = cc in omega arith
+    none fault.TooManyValues k = unfold answerOf in let z : _≡_ {A = ℕ} 0 1 = cc in omega arith
+
+-- ---- lengths
+
+-- a lawful line has eight places for values
+pub values-long : (l : Line) → T (lawful l) → length (l .values) ≡ 8
+unfolding lawful lawfulValues
+values-long l h =
+    let e = l .event in
+    let n = l .count in
+    let xs = l .values in
+    let h2 = and-r (lawfulEvent e) (leb n (mostValues e) && lawfulValues n xs) (and-r (lawfulWhen (l .when)) (lawfulEvent e && (leb n (mostValues e) && lawfulValues n xs)) h) in
+    eqb→eq (length xs) 8 (and-l (eqb (length xs) 8) (every (lawfulFloat range.Value) (take n xs) && every isZero (drop n xs)) (and-r (leb n (mostValues e)) (lawfulValues n xs) h2))
+
+pub length-line : (l : Line) → length (lineBits l) ≡ widths (lineFields l)
+unfolding lineBits lineBefore
+length-line l = length-bits (lineFields l) [] ∙ add-zero (widths (lineFields l))
+
+pub length-before : (l : Line) (rest : List Bool) → length (lineBefore l rest) ≡ length (lineBits l) + length rest
+unfolding lineBefore
+length-before l rest = length-bits (lineFields l) rest ∙ ap (λ (k : ℕ). k + length rest) (sym (length-line l))
+
+-- a line is at least 1 bit long, a lawful one at most 367
+pub line-long : (l : Line) → T (lawful l) → (0 < length (lineBits l)) × (length (lineBits l) ≤ 367)
+line-long l h = let w = line-wide l (values-long l h) in (omega (arith, length-line l, w .0), omega (arith, length-line l, w .1))
+
+pub before-append : (l : Line) (rest : List Bool) → lineBits l ++ rest ≡ lineBefore l rest
+unfolding lineBits lineBefore
+before-append l rest = bits-append (lineFields l) [] rest
+
+-- ---- bits
+
+-- where a lawful line's bits stand, it is read, and what follows it follows
+pub line-here : (bits : List Bool) (at : ℕ) (l : Line) (rest : List Bool) → T (lawful l) → at + length (lineBits l) ≤ farthest → drop at bits ≡ lineBefore l rest
+    → (lineAt bits at ≡ taken l (at + length (lineBits l))) × (drop (at + length (lineBits l)) bits ≡ rest)
+unfolding lineAt lineRead lineBefore
+line-here bits at l rest h near d =
+    let g = bits-there bits (lineFields l) at (at + length (lineBits l)) rest near (line-small l h) (ap (λ (k : ℕ). at + k) (sym (length-line l))) d in
+    (ap lineRead (line-there (bitSource bits) at (at + length (lineBits l)) l h (g .0)), g .1)
+
+-- where a line is read, its bits stand
+pub record LineHere (bits : List Bool) (at : ℕ) (l : Line) (p : ℕ) : Type 0 where
+  pub is-lawful : T (lawful l)
+  pub within : p ≤ length bits
+  pub past : p ≡ at + length (lineBits l)
+  pub here : drop at bits ≡ lineBefore l (drop p bits)
+
+pub line-back-here : (bits : List Bool) (at : ℕ) (l : Line) (p : ℕ) → lineAt bits at ≡ taken l p → LineHere bits at l p
+unfolding lineAt lineBefore
+line-back-here bits at l p e =
+    let b = line-back (bitSource bits) (bits-bounded bits) at l p (read-taken (lineFrom (bitSource bits) at) l p e) in
+    let k = bits-back bits (lineFields l) at p (b .gives) in
+    let w = line-wide l (values-long l (b .lawful-line)) in
+    let n : length (drop at bits) ≡ widths (lineFields l) + length (drop p bits) = ap length (k .here) ∙ length-bits (lineFields l) (drop p bits) in
+    let m : at ≤ length bits = omega (arith, length-drop at bits, w .0) in
+    record { is-lawful = b .lawful-line; within = k .room m; past = k .next ∙ ap (λ (x : ℕ). at + x) (sym (length-line l)); here = k .here }
+
+pub bits-read-back : BitsReadBack
+bits-read-back l before after h near =
+    line-here (before ++ (lineBits l ++ after)) (length before) l after h near (drop-at before (lineBits l ++ after) (length before) refl ∙ before-append l after) .0
+
+pub bits-written-back : BitsWrittenBack
+bits-written-back bits at l p e =
+    let k = line-back-here bits at l p e in
+    record {
+      is-lawful = k .is-lawful;
+      within = k .within;
+      past = k .past;
+      bits-are = sym (take-append-drop at bits) ∙ ap (λ (x : List Bool). take at bits ++ x) (k .here ∙ sym (before-append l (drop p bits)));
+    }
+
+pub bits-tell-lines : BitsTellLines
+bits-tell-lines a b r t ha hb e =
+    let la = line-long a ha in
+    let lb = line-long b hb in
+    let x = line-here (lineBefore a r) 0 a r ha (omega (arith, la .1)) refl in
+    let y = line-here (lineBefore a r) 0 b t hb (omega (arith, lb .1)) e in
+    let same : taken a (0 + length (lineBits a)) ≡ taken b (0 + length (lineBits b)) = sym (x .0) ∙ y .0 in
+    let n : 0 + length (lineBits a) ≡ 0 + length (lineBits b) = ap (λ (z : LineRead). z .next) same in
+    (ap (λ (z : LineRead). z .line) same, sym (x .1) ∙ ap (λ (k : ℕ). drop k (lineBefore a r)) n ∙ y .1)
+
+-- ---- keypad numbers
+
+-- a lawful line's numbers, and whatever follows them, are read as that line
+pub words-here : (words : List ℕ) (at : ℕ) (l : Line) (rest : List ℕ) → T (lawful l) → drop at words ≡ lineWords l ++ rest → lineInWords words at ≡ taken l (at + length (lineWords l))
+unfolding lineInWords lineRead lineWords
+words-here words at l rest h d =
+    ap lineRead (line-there (keypadSource words) at (at + length (fieldWords (lineFields l))) l h
+    (words-there words (lineFields l) at (at + length (fieldWords (lineFields l))) rest (ap (λ (k : ℕ). at + k) (sym (length-words (lineFields l)))) d))
+
+pub words-back-here : (words : List ℕ) (at : ℕ) (l : Line) (p : ℕ) → ((i : ℕ) → getD words i 0 < 2 ^ 32) → lineInWords words at ≡ taken l p
+    → T (lawful l) × (drop at words ≡ lineWords l ++ drop p words) × (p ≡ at + length (lineWords l))
+unfolding lineInWords lineWords
+words-back-here words at l p h e =
+    let b = line-back (keypadSource words) (words-bounded words h) at l p (read-taken (lineFrom (keypadSource words) at) l p e) in
+    let k = words-back words (lineFields l) at p (b .gives) in
+    (b .lawful-line, k .0, k .1 ∙ ap (λ (x : ℕ). at + x) (sym (length-words (lineFields l))))
+
+pub words-read-back : WordsReadBack
+unfolding keypadLine wholeRun
+words-read-back l h =
+    let r = words-here (lineWords l) 0 l [] h (sym (append-nil (lineWords l))) in
+    let n : 0 + length (lineWords l) ≡ length (lineWords l) = zero-add (length (lineWords l)) in
+    ap (wholeRun (length (lineWords l))) (r ∙ ap (taken l) n) ∙ whole l (length (lineWords l))
+  where
+    whole : (m : Line) (k : ℕ) → wholeRun k (taken m k) ≡ taken m k
+    whole m k = unfold wholeRun in rw (eq-eqb k k refl)
+
+-- a run that was taken whole
+whole-taken : (n : ℕ) (r : LineRead) (l : Line) (p : ℕ) → wholeRun n r ≡ taken l p → (r ≡ taken l p) × (p ≡ n)
+unfolding wholeRun refusedLine
+whole-taken n r l p e = go (isTaken (r .answer)) refl e
+  where
+    inner : (t : Bool) → eqb (r .next) n ≡ t → cond t r (refusedLine answer.LeftOver) ≡ taken l p → (r ≡ taken l p) × (p ≡ n)
+    inner true f k = (k, sym (ap (λ (x : LineRead). x .next) k) ∙ eqb-true (r .next) n f)
+    inner false f k = absurd (let z : answer.LeftOver ≡ answer.Taken = ap (λ (x : LineRead). x .answer) k in let y : _≡_ {A = ℕ} 0 1 = cc in omega arith)
+
+    go : (t : Bool) → isTaken (r .answer) ≡ t → cond t (cond (eqb (r .next) n) r (refusedLine answer.LeftOver)) r ≡ taken l p → (r ≡ taken l p) × (p ≡ n)
+    go true f k = inner (eqb (r .next) n) refl k
+    go false f k = absurd (let z : isTaken (r .answer) ≡ true = ap (λ (x : LineRead). isTaken (x .answer)) k in let y : true ≡ false = sym z ∙ f in mathlib.Core.Bool.true≢false y)
+
+pub words-written-back : WordsWrittenBack
+unfolding keypadLine
+words-written-back words l p h e =
+    let w = whole-taken (length words) (lineInWords words 0) l p e in
+    let k = words-back-here words 0 l p h (w .0) in
+    (k .0, sym (k .1 ∙ ap (λ (x : List ℕ). lineWords l ++ x) (ap (λ (j : ℕ). drop j words) (w .1) ∙ drop-length words) ∙ append-nil (lineWords l)))

@@ -1,0 +1,12 @@
+use mathlib.Core.Path.{refl}
+use Rattle.line_writer.specs.Fields.{fieldWords}
+use Rattle.line_writer.specs.Packed.{packed, toEighteen, fieldWidths}
+use Rattle.line_writer.proofs.no_fields.Statement.{statement}
+use Rattle.line_writer.proofs.no_fields.Tie as tie
+
+returns : tie.Need-returns
+unfolding packed toEighteen fieldWidths fieldWords
+returns c = refl
+
+pub no-fields-spec : {M : Type 1} → statement M
+no-fields-spec = tie.close (tie.spec returns)

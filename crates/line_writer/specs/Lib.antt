@@ -1,0 +1,5 @@
+pub mod Fields
+pub mod Packed
+pub mod Lawful
+pub mod Writing
+pub mod Claims
