@@ -1,0 +1,74 @@
+-- The round trips of whole scores and units, and document 01's worked score. Assumes nothing.
+use Prim.Native.Nat.{ℕ, _+_, _*_, _%_, _^_, _<_, _≤_}
+use mathlib.Core.Path.{_≡_, refl, sym, ap, ap₂, _∙_, subst}
+use mathlib.Core.Bool.{Bool, true, false}
+use mathlib.Core.List.{List, [], _∷_}
+use native.Mathlib.Omega.{arith}
+use lib.Dec.{T}
+use lib.Ieee.{binary32, ofBits, toBits}
+use lib.ListN.{length, getD}
+use Rattle.answer.specs.declared.Answer.{Answer}
+use Rattle.answer.specs.declared.Answer.the-variants.{Taken}
+use Rattle.answer.specs.Numbers.{isTaken}
+use Rattle.bitstream.specs.Bits.{bitsOf, bit, field, valueOf}
+use Rattle.bitstream.specs.Filling.{filledUp, bytesFrom, bytesOf}
+use Rattle.bitstream.proofs.Laws.{length-bitsOf}
+use Rattle.bitstream.proofs.Filling.{bitsOf-bytesOf, bytesOf-bitsOf}
+use Rattle.score_line.specs.Reading.{got, lineRead, lineOf, padded}
+use Rattle.score_line.specs.declared.Line.{Line}
+use Rattle.score_line.specs.declared.LineRead.{LineRead}
+use Rattle.line_writer.specs.Fields.{whenBefore, eventBefore, valueFields, lineFields, fieldBits, lineBefore, lineBits}
+use Rattle.line_writer.specs.Lawful.{lawful}
+use Rattle.score.specs.Score.{Score, taken, scoreOf, unitOf}
+use Rattle.score.proofs.Walk.{answered}
+use Rattle.score_writer.specs.Writing.{linesBits, scoreBits, scoreBytes, unitBits, unitBytes, mostLines, allLawful}
+use Rattle.score_writer.specs.Claims.{Bytes, ScoreReadBack, ScoreOfBytes, ScoreWrittenBack, BytesTellScores, UnitRead, UnitReadBack, UnitWrittenBack, BytesTellUnits, Example, endAtBeat1}
+use Rattle.score_writer.proofs.Whole.{score-here, whole-bytes, Score-back, score-back, unit-here, whole-unit, Unit-back, unit-back}
+
+pub score-read-back : ScoreReadBack
+unfolding scoreBytes
+score-read-back ls w h = ap scoreOf (bitsOf-bytesOf (scoreBits ls) (whole-bytes ls)) ∙ score-here ls w h
+
+whole : (s : List ℕ) → length (bitsOf s) % 8 ≡ 0
+whole s = omega (arith, length-bitsOf s)
+
+pub score-written-back : ScoreWrittenBack
+unfolding scoreBytes
+score-written-back s h e =
+    let ls = scoreOf (bitsOf s) .lines in
+    let b = score-back (bitsOf s) ls (whole s) (answered (bitsOf s) e) in
+    record { lawful-lines = b .lawful; count = b .count; bytes-are = ap bytesOf (sym (b .bits)) ∙ bytesOf-bitsOf s h }
+
+pub bytes-tell-scores : BytesTellScores
+bytes-tell-scores ls ms a b c d e =
+    ap (λ (x : Score). x .lines) (sym (score-read-back ls a c) ∙ ap (λ (x : List ℕ). scoreOf (bitsOf x)) e ∙ score-read-back ms b d)
+
+unit-whole : (l : Line) → T (lawful l) → unitOf (bitsOf (unitBytes l)) ≡ lineRead (got l (2 + length (lineBits l)))
+unfolding unitBytes
+unit-whole l w = ap unitOf (bitsOf-bytesOf (unitBits l) (whole-unit l)) ∙ unit-here l w
+
+pub unit-read-back : UnitReadBack
+unfolding lineRead
+unit-read-back l w =
+    let e = unit-whole l w in
+    record { answer = ap (λ (r : LineRead). r .answer) e; line = ap (λ (r : LineRead). r .line) e }
+
+-- a unit that was taken, as its line and the position past it
+unit-answered : (bits : List Bool) → unitOf bits .answer ≡ Taken → unitOf bits ≡ lineRead (got (unitOf bits .line) (unitOf bits .next))
+unfolding lineRead
+unit-answered bits e = λ i. record { answer = e i; line = unitOf bits .line; next = unitOf bits .next }
+
+pub unit-written-back : UnitWrittenBack
+unfolding unitBytes
+unit-written-back s h e =
+    let r = unitOf (bitsOf s) in
+    let b = unit-back (bitsOf s) (r .line) (r .next) (whole s) (unit-answered (bitsOf s) e) in
+    (b .lawful, ap bytesOf (sym (b .bits)) ∙ bytesOf-bitsOf s h)
+
+pub bytes-tell-units : BytesTellUnits
+bytes-tell-units l m a b e = sym (unit-read-back l a .line) ∙ ap (λ (x : List ℕ). unitOf (bitsOf x) .line) e ∙ unit-read-back m b .line
+
+-- 00 00 18 FE 00 00 01 00
+pub example : Example
+unfolding scoreBytes scoreBits linesBits lineBits lineBefore lineFields whenBefore eventBefore valueFields fieldBits lineOf padded filledUp bytesFrom bytesOf bit field valueOf toBits ofBits
+example = refl
