@@ -43,14 +43,14 @@ stored-append m out u v i = record {
 }
 
 -- stores change no length
-holds-stored : {n : ℕ} {m : Areas} (out : ℕ) (c : List Ins) → Holds n m → Holds n (stored m out c)
+pub holds-stored : {n : ℕ} {m : Areas} (out : ℕ) (c : List Ins) → Holds n m → Holds n (stored m out c)
 holds-stored {m = m} out c h = record {
   ops = rw (length-sets (m .ops) out (map opOf c)) (h .ops);
   args = rw (length-sets (m .args) out (map argOf c)) (h .args);
   vals = rw (length-sets (m .vals) out (map valOf c)) (h .vals);
 }
 
-holds-less : {n k : ℕ} {m : Areas} → k ≤ n → Holds n m → Holds k m
+pub holds-less : {n k : ℕ} {m : Areas} → k ≤ n → Holds n m → Holds k m
 holds-less le h = record { ops = omega (arith, h .ops); args = omega (arith, h .args); vals = omega (arith, h .vals) }
 
 -- ---- readings in a row
@@ -111,7 +111,7 @@ runs-sign ts s (Next at out) {m = m} e = go (signL (drop at ts) s) refl e
 took-ok : {P : List Ins → List Token → Type 0} {c : List Ins} {r : List Token} → All P (ok c r) → P c r
 took-ok (some h) = h
 
-took-of : {P : List Ins → List Token → Type 0} {x : Res} {c : List Ins} {r : List Token} → All P x → x ≡ ok c r → P c r
+pub took-of : {P : List Ins → List Token → Type 0} {x : Res} {c : List Ins} {r : List Token} → All P x → x ≡ ok c r → P c r
 took-of all e = took-ok (rw e at all)
 
 module _ {ts : List Token} {k : ℕ} {g : Got} {m : Areas} where
@@ -154,7 +154,7 @@ module _ {ts : List Token} {k : ℕ} {g : Got} {m : Areas} where
       let t = took-of (b (drop at ts)) v in
       come to (out + length c) x le (rw s (holds-stored out c (holds-less (omega (arith, t, length-drop to ts, length-drop at ts)) r)))
 
-left-runs : {ts : List Token} {f : List Token → Res} {g h : Got} {m n : Areas} → ((z : List Token) → All (Took z) (f z)) → Runs ts f g m h n → left ts h ≤ left ts g
+pub left-runs : {ts : List Token} {f : List Token → Res} {g h : Got} {m n : Areas} → ((z : List Token) → All (Took z) (f z)) → Runs ts f g m h n → left ts h ≤ left ts g
 left-runs b (gone e x) = rw (x, e) (omega arith)
 left-runs b (refused at out e v x) = rw x (omega arith)
 left-runs {ts} b (done at out to c e v le x s) =

@@ -99,7 +99,7 @@ expr-bad ts j at q x y = let z : headL (drop at ts) ≡ Bad = sym x ∙ y in ref
 
 -- ---- what goes on after an operand
 
-stays : {ts : List Token} {f : List Token → Res} {k at out : ℕ} {g : Got} {m : Areas} → Ready ts k g m → g ≡ Next at out
+pub stays : {ts : List Token} {f : List Token → Res} {k at out : ℕ} {g : Got} {m : Areas} → Ready ts k g m → g ≡ Next at out
     → f (drop at ts) ≡ ok [] (drop at ts) → Runs ts f g m (Next at out) m
 stays (gone e) q x = let z : _≡_ {A = ℕ} 0 1 = cc in absurd (omega arith)
 stays {at = at} {out = out} (come p o e le r) q x =

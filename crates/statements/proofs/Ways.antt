@@ -1,0 +1,82 @@
+-- The ways through the readers of statements.
+use Prim.Native.Nat.{ℕ, zero, suc, _+_, _-_, _≤_, _<_}
+use native.Mathlib.Omega.{arith}
+use mathlib.Core.Path.{_≡_, refl, sym, ap, _∙_}
+use mathlib.Core.List.{List, [], _∷_, _++_}
+use mathlib.Core.Bool.{Bool, true, false, cond}
+use lib.ListN.{length, drop}
+use Rattle.tokens.specs.declared.Token.{Token}
+use Rattle.syntax.specs.Program.{Ins, ins, endOp}
+use Rattle.expressions.specs.declared.Got.{Got}
+use Rattle.expressions.specs.declared.Got.the-variants.{Next, Refused}
+use Rattle.expressions.specs.Roles.{signL}
+use Rattle.expressions.specs.Reader.{Res, no, ok, seq, sign, emit, reader}
+use Rattle.expressions.specs.Areas.{Areas, left, Ready, gone, come, Runs}
+use Rattle.expressions.proofs.Laws.{All, All-weaken, reader-bounded}
+use Rattle.expressions.proofs.Runs.{runs-as, runs-after, ready-runs, Past, past-start}
+use Rattle.expressions.proofs.Ways.{stays}
+use Rattle.grammar.specs.declared.Start.{Start}
+use Rattle.grammar.specs.declared.Start.the-variants.{Name, Output, If, Stop}
+use Rattle.grammar.specs.Starts.{startL}
+use Rattle.grammar.specs.Reader.{close, otherwise, byStart, statements, stepStatements}
+use Rattle.grammar.proofs.Results.{Took}
+use Rattle.grammar.proofs.Whole.{whole-took}
+use Rattle.grammar.proofs.Steps.{steady-statements, statements·law}
+
+-- a statement starts with a token
+abbrev pub Goes : Start → Type 0
+Goes (Name n) = Unit {0}
+Goes Output = Unit {0}
+Goes If = Unit {0}
+Goes Stop = ⊥
+
+goes-in : (ts : List Token) (at : ℕ) → Goes (startL (drop at ts)) → at < length ts
+goes-in [] zero f = absurd f
+goes-in [] (suc at) f = absurd f
+goes-in (t ∷ ts) zero f = omega arith
+goes-in (t ∷ ts) (suc at) f = let h = goes-in ts at f in omega arith
+
+pub start-in : (ts : List Token) (at : ℕ) {k h : Start} → k ≡ startL (drop at ts) → k ≡ h → Goes h → at < length ts
+start-in ts at e q f = goes-in ts at (rw (sym e ∙ q) f)
+
+pub start-past : (ts : List Token) {t : ℕ} {g : Got} {m : Areas} (at : ℕ) {out : ℕ} {k h : Start} → Ready ts 0 g m → left ts g ≡ t → g ≡ Next at out
+    → k ≡ startL (drop at ts) → k ≡ h → Goes h → Past ts t 1 (Next (at + 1) out) m
+start-past ts at r e q x y f = past-start r q e (start-in ts at x y f)
+
+pub statements-took : (ts : List Token) → All (Took 0 ts) (statements ts)
+statements-took ts = whole-took stepStatements steady-statements ts
+
+pub ready-expr : {ts : List Token} {k : ℕ} {g h : Got} {m n : Areas} (j : ℕ) → Ready ts k g m → Runs ts (reader .expr j) g m h n → Ready ts k h n
+ready-expr j r x = ready-runs (λ z. All-weaken (reader-bounded .expr j z) (λ c r h. h .0)) r x
+
+-- the same place by another name
+pub ready-at : {ts : List Token} {k : ℕ} {g h : Got} {m : Areas} → g ≡ h → Ready ts k g m → Ready ts k h m
+ready-at q (gone e) = gone (sym q ∙ e)
+ready-at q (come at out e le r) = come at out (sym q ∙ e) le r
+
+-- a statement, and those that follow it
+pub statements-as : (ts : List Token) (at : ℕ) {out : ℕ} {g r : Got} {m n : Areas} {k : Start} (h : Start) (f : List Token → Res)
+    → ((z : List Token) → byStart statements h z ≡ f (drop 1 z)) → g ≡ Next at out → k ≡ startL (drop at ts) → k ≡ h
+    → Runs ts f (Next (at + 1) out) m r n → Runs ts statements g m r n
+statements-as ts at h f l q x y w =
+    let z : startL (drop at ts) ≡ h = sym x ∙ y in
+    rw q (runs-as statements refl (statements·law (drop at ts) ∙ rw z (l (drop at ts))) (runs-after w))
+
+pub statements-stop : (ts : List Token) (at : ℕ) {out : ℕ} {g : Got} {m : Areas} {k : Start} → Ready ts 0 g m → g ≡ Next at out
+    → k ≡ startL (drop at ts) → k ≡ Stop → Runs ts statements g m (Next at out) m
+statements-stop ts at r q x y =
+    let z : startL (drop at ts) ≡ Stop = sym x ∙ y in
+    stays r q (statements·law (drop at ts) ∙ rw z)
+
+-- with else and without
+module _ (ts : List Token) (at : ℕ) {out : ℕ} {g r : Got} {m n : Areas} {b : Bool} (q : g ≡ Next at out) (x : b ≡ signL (drop at ts) 8) where
+  pub else-on : b ≡ true → Runs ts (λ z. seq (sign 17 z) (λ p. seq (statements p) (close endOp))) (Next (at + 1) out) m r n
+      → Runs ts (otherwise statements) g m r n
+  else-on y w =
+      let z : signL (drop at ts) 8 ≡ true = sym x ∙ y in
+      rw q (runs-as (otherwise statements) refl (rw z) (runs-after w))
+
+  pub else-off : b ≡ false → Runs ts (emit (ins endOp)) (Next at out) m r n → Runs ts (otherwise statements) g m r n
+  else-off y w =
+      let z : signL (drop at ts) 8 ≡ false = sym x ∙ y in
+      rw q (runs-as (otherwise statements) refl (rw z) w)

@@ -1,0 +1,76 @@
+use borrow.Author.Needs.{needs}
+use native.Mathlib.Omega.{arith}
+use mathlib.Core.Path.{_≡_, refl, sym, ap, _∙_}
+use Rattle.tokens.specs.Token.{toks}
+use Rattle.syntax.specs.Program.{Ins, ins, insArg, storeOp, elseOp, endOp}
+use Rattle.expressions.specs.Reader.{reader, seq, sign}
+use Rattle.expressions.specs.Reader as E
+use Rattle.expressions.specs.Areas.{left, gone}
+use Rattle.expressions.proofs.Toks.{length-toks}
+use Rattle.expressions.proofs.Moves.{sign-in}
+use Rattle.expressions.proofs.Runs.{runs-seq, runs-sign, runs-emit, ready-sign, ready-place, ready-less, past-ready, past-sign, past-start}
+use Rattle.statements.proofs.Past.{runs-to, past-took, past-first}
+use Rattle.statements.proofs.Ways.{start-in, start-past, statements-took, ready-expr, ready-at, statements-as, statements-stop, else-on, else-off}
+use Rattle.grammar.specs.Reader as R
+use Rattle.grammar.specs.declared.Start.the-variants.{Name, Output, If, Stop}
+use Rattle.grammar.proofs.Results.{sign-emit}
+use Rattle.grammar.proofs.Steps.{setTo-took, bracketed-took, branches-took}
+use borrow.Author.Needs.{needs}
+use Rattle.statements.proofs.set_to.Statement.{statement}
+use Rattle.statements.proofs.set_to.Tie as tie
+use Rattle.statements.proofs.set_to.Reads as reads
+use Rattle.statements.proofs.set_to.Lts as lts
+use Rattle.expressions.proofs.emit.Reads as emit-reads
+use Rattle.expressions.proofs.expr.Reads as expr-reads
+use Rattle.expressions.proofs.pass.Reads as pass-reads
+
+pass-requires : tie.Need-pass-requires
+pass-requires c κs = search needs
+
+expr-requires : tie.Need-expr-requires
+expr-requires c κs =
+    let T = toks (c .before .before .before .before .before .before .before .before .before .before .args .kinds .now) (c .before .before .before .before .before .before .before .before .before .before .args .words .now) (c .before .before .before .before .before .before .before .before .before .before .args .reals .now) in
+    let r₁ = ready-sign 21 (c .before .before .before .before .before .before .before .before .before .before .pre) (c .before .before .before .pass .ensures) in
+    ready-less (omega arith) r₁
+
+pass-requires-2 : tie.Need-pass-requires-2
+pass-requires-2 c κs = search needs
+
+emit-requires : tie.Need-emit-requires
+emit-requires c κs =
+    let T = toks (c .before .before .before .before .before .before .before .before .before .before .before .before .before .before .before .before .before .before .before .before .before .args .kinds .now) (c .before .before .before .before .before .before .before .before .before .before .before .before .before .before .before .before .before .before .before .before .before .args .words .now) (c .before .before .before .before .before .before .before .before .before .before .before .before .before .before .before .before .before .before .before .before .before .args .reals .now) in
+    let r₁ = ready-sign 21 (c .before .before .before .before .before .before .before .before .before .before .before .before .before .before .before .before .before .before .before .before .before .pre) (c .before .before .before .before .before .before .before .before .before .before .before .before .before .before .pass .ensures) in
+    let r₂ = ready-expr 0 r₁ (c .before .before .before .before .before .before .before .before .before .before .expr .ensures) in
+    let r₃ = ready-sign 20 r₂ (c .before .before .before .pass2 .ensures) in
+    ready-place r₃
+
+same-length : tie.Need-same-length
+same-length c = search needs
+
+same-length-2 : tie.Need-same-length-2
+same-length-2 c = search needs
+
+same-length-3 : tie.Need-same-length-3
+same-length-3 c = search needs
+
+returns : tie.Need-returns
+returns c =
+    let T = toks (c .before .before .before .before .before .before .before .before .before .before .before .before .before .before .before .before .before .before .before .before .before .before .before .before .before .before .before .before .args .kinds .now) (c .before .before .before .before .before .before .before .before .before .before .before .before .before .before .before .before .before .before .before .before .before .before .before .before .before .before .before .before .args .words .now) (c .before .before .before .before .before .before .before .before .before .before .before .before .before .before .before .before .before .before .before .before .before .before .before .before .before .before .before .before .args .reals .now) in
+    let r₁ = ready-sign 21 (c .before .before .before .before .before .before .before .before .before .before .before .before .before .before .before .before .before .before .before .before .before .before .before .before .before .before .before .before .pre) (c .before .before .before .before .before .before .before .before .before .before .before .before .before .before .before .before .before .before .before .before .before .pass .ensures) in
+    let r₂ = ready-expr 0 r₁ (c .before .before .before .before .before .before .before .before .before .before .before .before .before .before .before .before .before .expr .ensures) in
+    let r₃ = ready-sign 20 r₂ (c .before .before .before .before .before .before .before .before .before .before .pass2 .ensures) in
+    runs-seq (λ p. seq (reader .expr 0 p) (λ q. seq (sign 20 q) (E.emit (insArg storeOp (c .before .before .before .before .before .before .before .before .before .before .before .before .before .before .before .before .before .before .before .before .before .before .before .before .before .before .before .before .args .n))))) (runs-sign T 21 (c .before .before .before .before .before .before .before .before .before .before .before .before .before .before .before .before .before .before .before .before .before .before .before .before .before .before .before .before .args .got) (c .before .before .before .before .before .before .before .before .before .before .before .before .before .before .before .before .before .before .before .before .before .pass .ensures))
+    (runs-seq (λ q. seq (sign 20 q) (E.emit (insArg storeOp (c .before .before .before .before .before .before .before .before .before .before .before .before .before .before .before .before .before .before .before .before .before .before .before .before .before .before .before .before .args .n)))) (c .before .before .before .before .before .before .before .before .before .before .before .before .before .before .before .before .before .expr .ensures) (runs-seq (E.emit (insArg storeOp (c .before .before .before .before .before .before .before .before .before .before .before .before .before .before .before .before .before .before .before .before .before .before .before .before .before .before .before .before .args .n))) (runs-sign T 20 _ (c .before .before .before .before .before .before .before .before .before .before .pass2 .ensures)) (runs-emit (insArg storeOp (c .before .before .before .before .before .before .before .before .before .before .before .before .before .before .before .before .before .before .before .before .before .before .before .before .before .before .before .before .args .n)) r₃ (c .before .before .before .before .before .before .emit .ensures .0) (c .before .before .before .before .before .before .emit .ensures .1))))
+
+pub set-to-spec : {M : Type 1} → statement M
+set-to-spec =
+    tie.close
+    (tie.spec
+    pass-requires
+    expr-requires
+    pass-requires-2
+    emit-requires
+    same-length
+    same-length-2
+    same-length-3
+    returns)
