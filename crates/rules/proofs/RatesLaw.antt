@@ -1,0 +1,260 @@
+-- The pass over the program of a placed tree says whether the tree keeps the rate rules.
+use Prim.Native.Nat.{ℕ, zero, suc, _+_, _-_, _*_, _/_, _%_, _≤_, _<_, max}
+use native.Mathlib.Omega.{arith}
+use mathlib.Core.Path.{_≡_, refl, sym, ap, ap₂, _∙_, subst}
+use mathlib.Core.List.{List, [], _∷_, _++_, map, append-assoc}
+use mathlib.Core.Bool.{Bool, true, false, not, _&&_, cond, and-assoc}
+use lib.ListN.{length}
+use lib.Dec.{leb, ltb, eqb}
+use borrow.Author.Tests.{le-leb, lt-leb, lt-ltb, le-ltb, ltb-true, ltb-false, leb-true, leb-false}
+use Rattle.syntax.specs.Tree.{Expr, number, name, unary, binary, choose, Statements, done, assign, output, branch, Instrument}
+use Rattle.syntax.specs.Program.{Ins, ins, insArg, actOf, nameOp, numberOp, storeOp, chooseOp, outputOp, ifOp, elseOp, endOp, instrOp, compile, code, instrument, program}
+use Rattle.syntax.specs.Names.{Named, namesOf, namesKept, eachKept, nameRules, rateOfKind, placeFrom, place, putIn, put, placed}
+use Rattle.syntax.specs.Rates.{rateOf, rate, ratesKept, rateRules}
+use Rattle.syntax.specs.declared.Act.{Act}
+use Rattle.syntax.specs.declared.Act.the-variants.{Value, Name, Store, Output, If, Else, End, Declare, Instr}
+use Rattle.rules.specs.Rating.{rates, guard, entered, left, ratesLawful, ratesAfter, ratesFrom, ratesPass}
+use Rattle.rules.specs.Formed.{FormedIn, Formed, FormedKinds, FormedAll, opsOf, argsOf}
+use Rattle.rules.specs.declared.Rates.{Rates}
+use Rattle.rules.proofs.Declaring.{declareAll, Kinds, instrument-is, kinds-of}
+use Rattle.rules.proofs.PlacesLaw.{and-left, and-right, at-most-16, each-kept}
+
+abbrev on : List Ins → Rates → Bool
+on c q = ratesFrom (opsOf c) (argsOf c) q
+
+rates-next : (i : Ins) (c : List Ins) (q : Rates) (a : Act) → actOf (i .op) ≡ a → on (i ∷ c) q ≡ (ratesLawful a (i .arg) q && on c (ratesAfter a (i .arg) q))
+unfolding ratesFrom
+rates-next i c q a e = ap (λ (x : Act). ratesLawful x (i .arg) q && on c (ratesAfter x (i .arg) q)) e
+
+rates-op : (o : ℕ) (c : List Ins) (q : Rates) → actOf o ≡ Value → on (ins o ∷ c) q ≡ on c q
+rates-op o c q e = rates-next (ins o) c q Value e
+
+-- ---- an expression has the rate of its fastest part
+
+module _ (k a : ℕ) where
+  abbrev at : List Ins → ℕ → Bool
+  at c m = on c (rates m k a)
+
+  rates-expr : (e : Expr) (c : List Ins) (m : ℕ) → FormedIn e → at (compile e ++ c) m ≡ at c (max m (rate e))
+  unfolding compile rate FormedIn ratesFrom
+  rates-expr (number x) c m p = let z : m ≡ max m 0 = omega arith in ap (at c) z
+  rates-expr (name n) c m p = refl
+  rates-expr (unary o e) c m p = simp append-assoc (rates-expr e (ins o ∷ c) m (p .1) ∙ rates-op o c (rates (max m (rate e)) k a) (p .0))
+  rates-expr (binary o x y) c m p =
+      let z : max (max m (rate x)) (rate y) ≡ max m (max (rate x) (rate y)) = omega arith in
+      simp append-assoc
+      (rates-expr x (compile y ++ ins o ∷ c) m (p .1 .0)
+      ∙ rates-expr y (ins o ∷ c) (max m (rate x)) (p .1 .1)
+      ∙ rates-op o c (rates (max (max m (rate x)) (rate y)) k a) (p .0)
+      ∙ ap (at c) z)
+  rates-expr (choose t x y) c m p =
+      let z : max (max (max m (rate t)) (rate x)) (rate y) ≡ max m (max (rate t) (max (rate x) (rate y))) = omega arith in
+      simp append-assoc
+      (rates-expr t (compile x ++ (compile y ++ ins chooseOp ∷ c)) m (p .0)
+      ∙ rates-expr x (compile y ++ ins chooseOp ∷ c) (max m (rate t)) (p .1 .0)
+      ∙ rates-expr y (ins chooseOp ∷ c) (max (max m (rate t)) (rate x)) (p .1 .1)
+      ∙ rates-op chooseOp c (rates (max (max (max m (rate t)) (rate x)) (rate y)) k a) refl
+      ∙ ap (at c) z)
+
+  rates-whole : (e : Expr) (c : List Ins) → FormedIn e → at (compile e ++ c) 0 ≡ at c (rate e)
+  rates-whole e c p = let z : max 0 (rate e) ≡ rate e = omega arith in rates-expr e c 0 p ∙ ap (at c) z
+
+-- ---- ifs inside each other
+
+-- the fastest guard of k and a ifs open with guards of rate k or faster, and of rate a
+abbrev around : ℕ → ℕ → ℕ
+around k a = cond (ltb 0 a) 2 (cond (ltb 0 k) 1 0)
+
+-- an if whose fastest guard is m: inside it m is the fastest, and after it all is as before
+record Inside (k a m : ℕ) : Type 0 where
+  kin : ℕ
+  ain : ℕ
+  opens : (f : ℕ) → entered m (rates f k a) ≡ rates 0 kin ain
+  least : ain ≤ kin
+  guards : around kin ain ≡ m
+  back-k : kin - 1 ≡ k
+  back-a : ain - 1 ≡ a
+
+inside : (k a m : ℕ) → a ≤ k → around k a ≤ m → m ≤ 2 → Inside k a m
+inside k a m le g h = by-two (leb 2 m) refl
+  where
+    not-a : (b : Bool) → ltb 0 a ≡ b → m < 2 → cond b 2 (cond (ltb 0 k) 1 0) ≤ m → a ≡ 0
+    not-a true e lt g = absurd (omega arith)
+    not-a false e lt g = omega (arith, ltb-false 0 a e)
+
+    not-k : (b : Bool) → ltb 0 k ≡ b → a ≡ 0 → m < 1 → cond (ltb 0 a) 2 (cond b 1 0) ≤ m → k ≡ 0
+    not-k true e z lt g = absurd (omega (arith, rw z at g))
+    not-k false e z lt g = omega (arith, ltb-false 0 k e)
+
+    by-one : (b : Bool) → leb 1 m ≡ b → leb 2 m ≡ false → Inside k a m
+    by-one true e f =
+        let lo = leb-true 1 m e in
+        let hi = leb-false 2 m f in
+        let z = not-a (ltb 0 a) refl hi g in
+        let one : m ≡ 1 = omega arith in
+        record { kin = k + 1; ain = a; opens = λ x. rw (f, e); least = omega arith; guards = rw (z, lt-ltb 0 (k + 1) (omega arith)) (sym one); back-k = omega arith; back-a = omega arith }
+    by-one false e f =
+        let lo = leb-false 1 m e in
+        let hi = leb-false 2 m f in
+        let z = not-a (ltb 0 a) refl hi g in
+        let y = not-k (ltb 0 k) refl z lo g in
+        let none : m ≡ 0 = omega arith in
+        record { kin = k; ain = a; opens = λ x. rw (f, e); least = omega arith; guards = rw (z, y) (sym none); back-k = omega arith; back-a = omega arith }
+
+    by-two : (b : Bool) → leb 2 m ≡ b → Inside k a m
+    by-two true e =
+        let lo = leb-true 2 m e in
+        let two : m ≡ 2 = omega arith in
+        record { kin = k + 1; ain = a + 1; opens = λ x. rw e; least = omega arith; guards = rw (lt-ltb 0 (a + 1) (omega arith)) (sym two); back-k = omega arith; back-a = omega arith }
+    by-two false e = by-one (leb 1 m) refl e
+
+around-low : (k a : ℕ) → around k a ≤ 2
+around-low k a = go (ltb 0 a) (ltb 0 k)
+  where
+    go : (x y : Bool) → cond x 2 (cond y 1 0) ≤ 2
+    go true y = omega arith
+    go false true = omega arith
+    go false false = omega arith
+
+-- no guard is faster than a
+unfoldable Slow : Statements → Type 0
+Slow done = Unit {0}
+Slow (assign n e r) = Slow r
+Slow (output e r) = Slow r
+Slow (branch e a b r) = (rate e ≤ 2) × (Slow a × (Slow b × Slow r))
+
+-- ---- statements
+
+module _ (k a : ℕ) where
+  rates-store : (n f : ℕ) (c : List Ins) → on (insArg storeOp n ∷ c) (rates f k a) ≡ ((leb f (rateOf n) && leb (around k a) (rateOf n)) && on c (rates 0 k a))
+  rates-store n f c = rates-next (insArg storeOp n) c (rates f k a) Store refl
+
+  rates-output : (f : ℕ) (c : List Ins) → on (ins outputOp ∷ c) (rates f k a) ≡ on c (rates 0 k a)
+  rates-output f c = rates-next (ins outputOp) c (rates f k a) Output refl
+
+  rates-if : (f : ℕ) (c : List Ins) → on (ins ifOp ∷ c) (rates f k a) ≡ on c (entered (max (around k a) f) (rates f k a))
+  rates-if f c = rates-next (ins ifOp) c (rates f k a) If refl
+
+  rates-else : (c : List Ins) → on (ins elseOp ∷ c) (rates 0 k a) ≡ on c (rates 0 k a)
+  rates-else c = rates-next (ins elseOp) c (rates 0 k a) Else refl
+
+  rates-end : (c : List Ins) → on (ins endOp ∷ c) (rates 0 k a) ≡ on c (rates 0 (k - 1) (a - 1))
+  rates-end c = rates-next (ins endOp) c (rates 0 k a) End refl
+
+rates-code : (t : Statements) (c : List Ins) (k a : ℕ) → Formed t → Slow t → a ≤ k → on (code t ++ c) (rates 0 k a) ≡ (ratesKept (around k a) t && on c (rates 0 k a))
+unfolding code ratesKept Formed Slow
+rates-code done c k a p s le = refl
+rates-code (assign n e t) c k a p s le =
+    let x = leb (rate e) (rateOf n) && leb (around k a) (rateOf n) in
+    simp append-assoc
+    (rates-whole k a e (insArg storeOp n ∷ (code t ++ c)) (p .0)
+    ∙ rates-store k a n (rate e) (code t ++ c)
+    ∙ ap (λ b. x && b) (rates-code t c k a (p .1) s le)
+    ∙ sym (and-assoc x (ratesKept (around k a) t) (on c (rates 0 k a))))
+rates-code (output e t) c k a p s le =
+    simp append-assoc
+    (rates-whole k a e (ins outputOp ∷ (code t ++ c)) (p .0)
+    ∙ rates-output k a (rate e) (code t ++ c)
+    ∙ rates-code t c k a (p .1) s le
+    ∙ sym (ap (λ b. (b && ratesKept (around k a) t) && on c (rates 0 k a)) (le-leb (around k a) 2 (around-low k a))))
+rates-code (branch e x y t) c k a p s le =
+    let C = code t ++ c in
+    let B = code y ++ ins endOp ∷ C in
+    let A = code x ++ ins elseOp ∷ B in
+    let m = max (around k a) (rate e) in
+    let low = around-low k a in
+    let r = s .0 in
+    let i = inside k a m le (omega arith) (omega arith) in
+    let K = i .kin in
+    let D = i .ain in
+    let u = ratesKept m x in
+    let v = ratesKept m y in
+    let w = ratesKept (around k a) t in
+    simp append-assoc
+    (rates-whole k a e (ins ifOp ∷ A) (p .0)
+    ∙ rates-if k a (rate e) A
+    ∙ ap (on A) (i .opens (rate e))
+    ∙ rates-code x (ins elseOp ∷ B) K D (p .1 .0) (s .1 .0) (i .least)
+    ∙ ap₂ (λ (g : ℕ) b. ratesKept g x && b) (i .guards)
+    (rates-else K D B
+    ∙ rates-code y (ins endOp ∷ C) K D (p .1 .1 .0) (s .1 .1 .0) (i .least)
+    ∙ ap₂ (λ (g : ℕ) b. ratesKept g y && b) (i .guards)
+    (rates-end K D C
+    ∙ ap₂ (λ (f g : ℕ). on C (rates 0 f g)) (i .back-k) (i .back-a)
+    ∙ rates-code t c k a (p .1 .1 .1) (s .1 .1 .1) le))
+    ∙ sym (and-assoc u v (w && on c (rates 0 k a)))
+    ∙ sym (and-assoc (u && v) w (on c (rates 0 k a))))
+
+-- ---- placed trees
+
+rate-of-kind-low : (k : ℕ) → rateOfKind k ≤ 2
+rate-of-kind-low k = go (leb k 2) (eqb k 4)
+  where
+    go : (x y : Bool) → cond x 0 (cond y 2 1) ≤ 2
+    go true y = omega arith
+    go false true = omega arith
+    go false false = omega arith
+
+place-low : (ms : List Named) (n p : ℕ) → p + length ms ≤ 16 → rateOf (placeFrom p n ms) ≤ 2
+unfolding placeFrom
+place-low [] n p h = omega arith
+place-low (m ∷ ms) n p h = go (eqb (m .name) n) (place-low ms n (suc p) (omega arith))
+  where
+    go : (b : Bool) → rateOf (placeFrom (suc p) n ms) ≤ 2 → rateOf (cond b (16 * rateOfKind (m .kind) + p) (placeFrom (suc p) n ms)) ≤ 2
+    go true ih = let k = rate-of-kind-low (m .kind) in omega (arith, k)
+    go false ih = ih
+
+module _ (ms : List Named) (h : length ms ≤ 16) where
+  rate-low : (e : Expr) → rate (putIn ms e) ≤ 2
+  unfolding rate putIn
+  rate-low (number x) = omega arith
+  rate-low (name n) = place-low ms n 0 (omega arith)
+  rate-low (unary o e) = rate-low e
+  rate-low (binary o a b) = let x = rate-low a in let y = rate-low b in omega arith
+  rate-low (choose t a b) = let z = rate-low t in let x = rate-low a in let y = rate-low b in omega arith
+
+  slow-put : (t : Statements) → Slow (put ms t)
+  unfolding put Slow
+  slow-put done = tt
+  slow-put (assign n e t) = slow-put t
+  slow-put (output e t) = slow-put t
+  slow-put (branch e a b t) = (rate-low e, (slow-put a, (slow-put b, slow-put t)))
+
+module _ (ms : List Named) where
+  formed-in : (e : Expr) → FormedIn e → FormedIn (putIn ms e)
+  unfolding FormedIn putIn
+  formed-in (number x) p = p
+  formed-in (name n) p = p
+  formed-in (unary o e) p = (p .0, formed-in e (p .1))
+  formed-in (binary o a b) p = (p .0, (formed-in a (p .1 .0), formed-in b (p .1 .1)))
+  formed-in (choose t a b) p = (formed-in t (p .0), (formed-in a (p .1 .0), formed-in b (p .1 .1)))
+
+  formed-put : (t : Statements) → Formed t → Formed (put ms t)
+  unfolding Formed put
+  formed-put done p = p
+  formed-put (assign n e t) p = (formed-in e (p .0), formed-put t (p .1))
+  formed-put (output e t) p = (formed-in e (p .0), formed-put t (p .1))
+  formed-put (branch e a b t) p = (formed-in e (p .0), (formed-put a (p .1 .0), (formed-put b (p .1 .1 .0), formed-put t (p .1 .1 .1))))
+
+rates-declare : (ns : List Named) (c : List Ins) (q : Rates) → Kinds ns → on (declareAll ns ++ c) q ≡ on c q
+unfolding declareAll Kinds
+rates-declare [] c q k = refl
+rates-declare (n ∷ ns) c q k = rates-next (insArg (n .kind) (n .name)) (declareAll ns ++ c) q Declare (k .0) ∙ rates-declare ns c q (k .1)
+
+rates-program : (is : List Instrument) → FormedAll is → eachKept is ≡ true → on (program (map placed is)) (rates 0 0 0) ≡ rateRules is
+unfolding program FormedAll eachKept rateRules ratesFrom
+rates-program [] f e = refl
+rates-program (i ∷ is) f e =
+    let ms = namesOf i in
+    let r = program (map placed is) in
+    let k = at-most-16 i (and-left (namesKept i) (eachKept is) e) in
+    ap (λ l. on l (rates 0 0 0)) (instrument-is (placed i) r)
+    ∙ rates-next (insArg instrOp (i .name)) (declareAll ms ++ (code (put ms (i .body)) ++ r)) (rates 0 0 0) Instr refl
+    ∙ rates-declare ms (code (put ms (i .body)) ++ r) (rates 0 0 0) (kinds-of i (f .0))
+    ∙ rates-code (put ms (i .body)) r 0 0 (formed-put ms (i .body) (f .1 .0)) (slow-put ms k (i .body)) (omega arith)
+    ∙ ap (λ b. ratesKept 0 (put ms (i .body)) && b) (rates-program is (f .1 .1) (and-right (namesKept i) (eachKept is) e))
+
+-- the pass over a placed tree's program is the tree's rate rules
+pub rates-law : (is : List Instrument) → FormedAll is → nameRules is ≡ true
+    → ratesPass (opsOf (program (map placed is))) (argsOf (program (map placed is))) ≡ rateRules is
+rates-law is f e = rates-program is f (each-kept is e)

@@ -1,0 +1,4 @@
+pub mod Naming
+pub mod Rating
+pub mod Table
+pub mod Formed
