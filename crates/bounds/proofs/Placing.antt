@@ -1,0 +1,89 @@
+-- Names put by their places change neither the operands, nor the parts that wait, nor the lengths.
+use Prim.Native.Nat.{ℕ, suc}
+use native.Mathlib.Omega.{arith}
+use mathlib.Core.Path.{_≡_, refl, sym, _∙_}
+use mathlib.Core.List.{List, [], _∷_, map}
+use lib.ListN.{length, length-append}
+use Rattle.syntax.specs.Tree.{Expr, number, name, unary, binary, choose, Statements, done, assign, output, branch, Instrument}
+use Rattle.syntax.specs.Program.{compile, code, instrument, program}
+use Rattle.syntax.specs.Names.{Named, place, putIn, put, placed}
+use Rattle.lowered.specs.Lowered.{after, past}
+use Rattle.lowered.specs.Statements.{depth, Proper}
+use Rattle.bounds.specs.Sizes.{Shallow, Small}
+use Rattle.bounds.proofs.Exprs.{length-name, length-unary, length-binary, length-choose, length-assign, length-output, length-branch, after-length, past-length}
+
+module _ (ms : List Named) where
+  pub proper-put : (e : Expr) → Proper e → Proper (putIn ms e)
+  unfolding Proper putIn
+  proper-put (number x) p = tt
+  proper-put (name c) p = tt
+  proper-put (unary o e) p = (p .0, proper-put e (p .1))
+  proper-put (binary o a b) p = (p .0, (proper-put a (p .1 .0), proper-put b (p .1 .1)))
+  proper-put (choose c a b) p = (proper-put c (p .0), (proper-put a (p .1 .0), proper-put b (p .1 .1)))
+
+  pub depth-put : (e : Expr) → depth (putIn ms e) ≡ depth e
+  unfolding depth putIn
+  depth-put (number x) = refl
+  depth-put (name c) = refl
+  depth-put (unary o e) = depth-put e
+  depth-put (binary o a b) = rw (depth-put a, depth-put b)
+  depth-put (choose c a b) = rw (depth-put c, depth-put a, depth-put b)
+
+  pub compile-put : (e : Expr) → length (compile (putIn ms e)) ≡ length (compile e)
+  unfolding putIn
+  compile-put (number x) = refl
+  compile-put (name c) = length-name (place ms c) ∙ sym (length-name c)
+  compile-put (unary o e) = omega (arith, length-unary o e, length-unary o (putIn ms e), compile-put e)
+  compile-put (binary o a b) =
+      omega (arith, length-binary o a b, length-binary o (putIn ms a) (putIn ms b), compile-put a, compile-put b)
+  compile-put (choose c a b) =
+      omega (arith, length-choose c a b, length-choose (putIn ms c) (putIn ms a) (putIn ms b), compile-put c, compile-put a, compile-put b)
+
+  pub code-put : (t : Statements) → length (code (put ms t)) ≡ length (code t)
+  unfolding put
+  code-put done = refl
+  code-put (assign c e t) = omega (arith, length-assign c e t, length-assign (place ms c) (putIn ms e) (put ms t), compile-put e, code-put t)
+  code-put (output e t) = omega (arith, length-output 0 e t, length-output 0 (putIn ms e) (put ms t), compile-put e, code-put t)
+  code-put (branch e a b t) =
+      omega (
+        arith,
+        length-branch e a b t,
+        length-branch (putIn ms e) (put ms a) (put ms b) (put ms t),
+        compile-put e,
+        code-put a,
+        code-put b,
+        code-put t,
+      )
+
+  pub after-put : (n : ℕ) (e : Expr) → after n (putIn ms e) ≡ after n e
+  after-put n e = omega (arith, after-length n e, after-length n (putIn ms e), compile-put e)
+
+  pub past-put : (n : ℕ) (t : Statements) → past n (put ms t) ≡ past n t
+  past-put n t = omega (arith, past-length n t, past-length n (put ms t), code-put t)
+
+  pub shallow-put : (e : Expr) → Shallow e → Shallow (putIn ms e)
+  shallow-put e s = record { proper = proper-put e (s .proper); deep = omega (arith, depth-put e) }
+
+  pub small-put : (g : ℕ) (t : Statements) → Small g t → Small g (put ms t)
+  unfolding Small put
+  small-put g done s = tt
+  small-put g (assign c e t) s = (shallow-put e (s .0), small-put g t (s .1))
+  small-put g (output e t) s = (shallow-put e (s .0), small-put g t (s .1))
+  small-put g (branch e a b t) s =
+      (shallow-put e (s .0), (s .1 .0, (small-put (suc g) a (s .1 .1 .0), (small-put (suc g) b (s .1 .1 .1 .0), small-put g t (s .1 .1 .1 .1)))))
+
+-- an instrument's code, and a program, are as long with names by their places
+pub instrument-put : (i : Instrument) → length (instrument (placed i)) ≡ length (instrument i)
+instrument-put i = simp (length-append, code-put)
+
+pub program-put : (is : List Instrument) → length (program (map placed is)) ≡ length (program is)
+unfolding program
+program-put [] = refl
+program-put (i ∷ is) =
+    omega (
+      arith,
+      length-append (instrument i) (program is),
+      length-append (instrument (placed i)) (program (map placed is)),
+      instrument-put i,
+      program-put is,
+    )
