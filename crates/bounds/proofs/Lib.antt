@@ -5,3 +5,4 @@ pub mod Statements
 pub mod Stands
 pub mod Whole
 pub mod Lengths
+pub mod Sounding
