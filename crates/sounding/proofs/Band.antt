@@ -1,0 +1,187 @@
+-- The steps of a cycle over all notes: the code's notes are the notes of the program's voices.
+use mathlib.Core.Path.{_≡_, refl, sym, ap, _∙_}
+use mathlib.Core.Bool.{Bool, true, false, cond, _&&_}
+use mathlib.Core.List.{List, [], _∷_, _++_}
+use Prim.Native.Nat.{ℕ, suc, _+_, _≤_, _<_}
+use native.Mathlib.Omega.{arith}
+use native.Mathlib.Numerals.{add-one}
+use lib.Dec.{eqb}
+use lib.Ieee.{Float}
+use lib.ListN.{length, take, getD, set, length-set}
+use lib.Seq.{take-suc, take-suc-set}
+use Rattle.score_line.specs.declared.Label.{Label}
+use Rattle.score_line.specs.declared.Event.{Event}
+use Rattle.score_line.specs.declared.Event.the-variants.{Instr, Control, End, Tempo}
+use Rattle.score_line.specs.declared.Line.{Line}
+use Rattle.players.specs.Lists.{each, fold, keep}
+use Rattle.players.specs.Cycle.{Voices, Ran, Band, born, joinedBy, startedBy, withState, runFrom, controlledBy, controlEvent, controlled, goesOn}
+use Rattle.players.specs.Cycle as cycle
+use Rattle.synth.specs.Passes.{stretch, once, sums, played}
+use Rattle.synth.specs.declared.Note.{Note}
+use Rattle.sounding.specs.Voices.{Held, instrumentIn, foundIn, voices, birthOf, ranValues, ranMixOf, named, noteOf, structOf, notesIn, bandIn, bornNote, controlledNote, controlledIn, controlsIn, controlledAll, kNote, ranNote, ranMix, goesOnIn}
+use Rattle.synth.specs.Notes.{withValues}
+use Rattle.sounding.specs.declared.Instrument.{Instrument}
+use Rattle.sounding.specs.declared.Found.{Found}
+use Rattle.sounding.proofs.Steps.{each-append, each-one}
+
+-- one more of an array's elements, each made into another
+pub each-step : {A : Type 0} (g : A → A) (l a : List A) (i : ℕ) (d y : A) → i < length l → i < length a
+    → take i a ≡ each g (take i l) → y ≡ g (getD l i d) → take (i + 1) (set a i y) ≡ each g (take (i + 1) l)
+each-step g l a i d y h k p q =
+    rw (add-one, take-suc-set a i y k, take-suc l i d h, each-append g (take i l) (getD l i d ∷ []), each-one g (getD l i d), p, q)
+
+pub control-in : (table : List Instrument) (label variable : ℕ) (value : Float) (n : Note) (f : Found) (y : Note)
+    → f ≡ foundIn (n .instrument) table → y ≡ controlledNote (f .instrument) n label variable value
+    → y ≡ controlledIn table label variable value n
+unfolding controlledIn
+control-in table label variable value n f y e q =
+    q ∙ ap (λ (g : Found). controlledNote (g .instrument) n label variable value) e
+
+one-more : (l : List Note) (j : ℕ) (d : Note) → j < length l → notesIn l (j + 1) ≡ notesIn l j ++ (noteOf (getD l j d) ∷ [])
+one-more l j d h =
+    rw (add-one, take-suc l j d h) (each-append noteOf (take j l) (getD l j d ∷ []) ∙ ap (λ (t : List (cycle.Note Held)). notesIn l j ++ t) (each-one noteOf (getD l j d)))
+
+one-set : (a : List Note) (j : ℕ) (y : Note) → j < length a → notesIn (set a j y) (j + 1) ≡ notesIn a j ++ (noteOf y ∷ [])
+one-set a j y h =
+    rw (add-one, take-suc-set a j y h) (each-append noteOf (take j a) (y ∷ []) ∙ ap (λ (t : List (cycle.Note Held)). notesIn a j ++ t) (each-one noteOf y))
+
+module _ (table : List Instrument) (code : List ℕ) (vals : List Float) where
+  pub born-same : (position : ℕ) (l : Line) (label : Label) (name : ℕ) (duration : Float)
+      → noteOf (bornNote code vals (instrumentIn table name) l position label name duration) ≡ born (voices table code vals) position l label name duration
+  unfolding bornNote born voices birthOf
+  born-same position l label name duration = refl
+
+  -- ---- step 4
+
+  control-one : (label variable : ℕ) (value : Float) (n : Note)
+      → noteOf (controlledIn table label variable value n) ≡ controlledBy (voices table code vals) label variable value (noteOf n)
+  unfolding controlledIn controlledNote controlledBy voices
+  control-one label variable value n = go (n .labelled && eqb label (n .label))
+    where
+      vs : List Float
+      vs = named variable value (instrumentIn table (n .instrument) .imports) (n .values)
+
+      go : (b : Bool) → noteOf (cond b (withValues vs n) n) ≡ cond b (withState (noteOf n) (record { instrument = n .instrument; values = vs })) (noteOf n)
+      go true = refl
+      go false = refl
+
+  control-each : (label variable : ℕ) (value : Float) (ns : List Note)
+      → each noteOf (each (controlledIn table label variable value) ns) ≡ each (controlledBy (voices table code vals) label variable value) (each noteOf ns)
+  unfolding each
+  control-each label variable value [] = refl
+  control-each label variable value (n ∷ ns) = λ i. control-one label variable value n i ∷ control-each label variable value ns i
+
+  control-event : (ns : List Note) (e : Event) → each noteOf (controlsIn table ns e) ≡ controlEvent (voices table code vals) (each noteOf ns) e
+  control-event ns (Instr label name duration) = refl
+  control-event ns (Control label variable value) = control-each label variable value ns
+  control-event ns End = refl
+  control-event ns (Tempo t) = refl
+
+  pub control-all : (ns : List Note) (ls : List Line) → each noteOf (controlledAll table ns ls) ≡ controlled (voices table code vals) (each noteOf ns) ls
+  unfolding controlledAll controlled fold
+  control-all ns [] = refl
+  control-all ns (l ∷ ls) =
+      control-all (controlsIn table ns (l .event)) ls
+      ∙ ap (λ (ms : List (cycle.Note Held)). controlled (voices table code vals) ms ls) (control-event ns (l .event))
+
+  -- ---- step 5
+
+  -- one note's run after others
+  ranOn : Band Held → cycle.Note Held → Band Held
+  ranOn b n =
+      record {
+        notes = b .notes ++ (withState n (voices table code vals .run (n .state) (b .mix) .state) ∷ []);
+        mix = voices table code vals .run (n .state) (b .mix) .mix;
+      }
+
+  run-more : (ns : List (cycle.Note Held)) (n : cycle.Note Held) (mix : List Float)
+      → runFrom (voices table code vals) (ns ++ (n ∷ [])) mix ≡ ranOn (runFrom (voices table code vals) ns mix) n
+  unfolding runFrom ranOn
+  run-more [] n mix = refl
+  run-more (m ∷ ns) n mix =
+      let v = voices table code vals in
+      ap (λ (b : Band Held). record { notes = withState m (v .run (m .state) mix .state) ∷ b .notes; mix = b .mix })
+      (run-more ns n (v .run (m .state) mix .mix))
+
+  -- what a note's run gives
+  ran-same : (n : Note) (mix : List Float)
+      → (noteOf (ranNote code vals (instrumentIn table (n .instrument)) n mix) ≡ withState (noteOf n) (voices table code vals .run (noteOf n .state) mix .state))
+      × (ranMix code vals (instrumentIn table (n .instrument)) n mix ≡ voices table code vals .run (noteOf n .state) mix .mix)
+  unfolding ranNote ranMix kNote voices ranValues ranMixOf
+  ran-same n mix = (refl, refl)
+
+  length-sums : (ws : List ℕ) (f mix : List Float) → length (sums vals ws f mix .mix) ≡ length mix
+  unfolding sums
+  length-sums ws f [] = refl
+  length-sums ws f (x ∷ xs) = ap suc (length-sums ws _ xs)
+
+  length-ran : (x : Instrument) (n : Note) (mix : List Float) → length (ranMix code vals x n mix) ≡ length mix
+  unfolding ranMix kNote played
+  length-ran x n mix = length-sums _ _ mix
+
+  -- the first j notes have run
+  pub record Running (notes a : List Note) (start mix : List Float) (j : ℕ) : Type 0 where
+    pub long : length a ≡ 16
+    pub samples : length mix ≡ length start
+    pub are : bandIn a j mix ≡ runFrom (voices table code vals) (notesIn notes j) start
+
+  pub running-none : (notes : List Note) (mix : List Float) → length notes ≡ 16 → Running notes notes mix mix 0
+  unfolding runFrom each
+  running-none notes mix h = record { long = h; samples = refl; are = refl }
+
+  pub running-step : (notes a : List Note) (start mix : List Float) (j : ℕ) (d : Note) → length notes ≡ 16 → j < 16
+      → (f : Found) → f ≡ foundIn (getD notes j d .instrument) table
+      → (y : Note) → y ≡ ranNote code vals (f .instrument) (getD notes j d) mix
+      → (mix′ : List Float) → mix′ ≡ ranMix code vals (f .instrument) (getD notes j d) mix
+      → Running notes a start mix j → Running notes (set a j y) start mix′ (j + 1)
+  unfolding ranOn
+  running-step notes a start mix j d ln h f ef y ey mix′ em r =
+      let n = getD notes j d in
+      let v = voices table code vals in
+      let y-is : noteOf y ≡ withState (noteOf n) (v .run (noteOf n .state) mix .state) =
+      ap noteOf (ey ∙ ap (λ (g : Found). ranNote code vals (g .instrument) n mix) ef) ∙ ran-same n mix .0 in
+      let m-is : mix′ ≡ v .run (noteOf n .state) mix .mix =
+      em ∙ ap (λ (g : Found). ranMix code vals (g .instrument) n mix) ef ∙ ran-same n mix .1 in
+      record {
+        long = length-set a j y ∙ r .long;
+        samples = ap length em ∙ length-ran (f .instrument) n mix ∙ r .samples;
+        are =
+            ap (λ (l : List (cycle.Note Held)). record { notes = l; mix = mix′ }) (one-set a j y (omega (arith, r .long)))
+            ∙ (λ i. record { notes = notesIn a j ++ (y-is i ∷ []); mix = m-is i })
+            ∙ ap (λ (b : Band Held). ranOn b (noteOf n)) (r .are)
+            ∙ sym (run-more (notesIn notes j) (noteOf n) start)
+            ∙ ap (λ (l : List (cycle.Note Held)). runFrom v l start) (sym (one-more notes j d (omega arith)));
+      }
+
+  -- ---- step 3
+
+  pub start-instr : (position : ℕ) (l : Line) (s s′ : cycle.Started Held) (e : Event) (label : Label) (name : ℕ) (duration : Float)
+      → e ≡ Instr label name duration → (f : Found) → f ≡ foundIn name table
+      → (n : Note) → n ≡ bornNote code vals (f .instrument) l position label name duration
+      → s′ ≡ joinedBy s (noteOf n) → s′ ≡ startedBy (voices table code vals) position l s e
+  start-instr position l s s′ e label name duration ee f ef n en q =
+      q ∙ ap (joinedBy s) (ap noteOf (en ∙ ap (λ (g : Found). bornNote code vals (g .instrument) l position label name duration) ef)
+      ∙ born-same position l label name duration)
+      ∙ ap (startedBy (voices table code vals) position l s) (sym ee)
+
+-- ---- step 7
+
+keep-each : (position : ℕ) (ns : List Note) → each noteOf (keep (goesOnIn position) ns) ≡ keep (goesOn position) (each noteOf ns)
+unfolding keep each
+keep-each position [] = refl
+keep-each position (n ∷ ns) = go (goesOn position (noteOf n)) (keep-each position ns)
+  where
+    go : (b : Bool) → each noteOf (keep (goesOnIn position) ns) ≡ keep (goesOn position) (each noteOf ns)
+        → each noteOf (cond b (n ∷ keep (goesOnIn position) ns) (keep (goesOnIn position) ns))
+        ≡ cond b (noteOf n ∷ keep (goesOn position) (each noteOf ns)) (keep (goesOn position) (each noteOf ns))
+    go true h = ap (λ (l : List (cycle.Note Held)). noteOf n ∷ l) h
+    go false h = h
+
+pub struct-note : (ns : List Note) → each structOf (each noteOf ns) ≡ ns
+unfolding each
+struct-note [] = refl
+struct-note (n ∷ ns) = ap (λ (l : List Note). n ∷ l) (struct-note ns)
+
+-- the notes that go on, as the panel holds them
+pub going : (position : ℕ) (ns : List Note) → keep (goesOnIn position) ns ≡ each structOf (keep (goesOn position) (each noteOf ns))
+going position ns = sym (struct-note (keep (goesOnIn position) ns)) ∙ ap (each structOf) (keep-each position ns)

@@ -1,0 +1,184 @@
+-- The voices of a program, and the panel's notes as the notes of a cycle.
+use mathlib.Core.Bool.{Bool, true, false, cond, _&&_}
+use mathlib.Core.List.{List, [], _∷_}
+use Prim.Native.Nat.{ℕ, _+_}
+use lib.ListN.{replicate, take}
+use lib.Dec.{eqb}
+use lib.Ieee.{Float, eq}
+use Rattle.timebase.specs.Time.{ticksIn, endless as withoutEnd}
+use Rattle.score_line.specs.declared.Event.{Event}
+use Rattle.score_line.specs.declared.Event.the-variants.{Instr, Control, End, Tempo}
+use Rattle.score_line.specs.declared.Label.{Label}
+use Rattle.score_line.specs.declared.Line.{Line}
+use Rattle.synth.specs.Passes.{stretch, freshOf, once, played}
+use Rattle.synth.specs.Notes.{withValues}
+use Rattle.synth.specs.declared.Note.{Note}
+use Rattle.waiting.specs.declared.Fields.{Fields}
+use Rattle.waiting.specs.declared.Fields.the-variants.{Count, NoSuch}
+use Rattle.players.specs.Lists.{each, fold}
+use Rattle.players.specs.Cycle.{Voices, Ran, isLabelled, labelNumber, goesOn}
+use Rattle.players.specs.Cycle as cycle
+use Rattle.sounding.specs.declared.Instrument.{Instrument}
+use Rattle.sounding.specs.declared.Found.{Found}
+
+-- what a note holds of its instrument and names
+pub record Held : Type 0 where
+  pub instrument : ℕ
+  pub values : List Float
+
+-- no instrument: no fields, no code, no imports
+unfoldable pub blank : Instrument
+blank =
+    record {
+      name = 0;
+      fields = 0;
+      istart = 0;
+      iend = 0;
+      kstart = 0;
+      kend = 0;
+      astart = 0;
+      aend = 0;
+      imports = replicate 16 65536;
+    }
+
+-- the first instrument with a name
+unfoldable pub foundIn : ℕ → List Instrument → Found
+foundIn name [] = record { there = false; instrument = blank }
+foundIn name (x ∷ xs) = cond (eqb (x .name) name) (record { there = true; instrument = x }) (foundIn name xs)
+
+abbrev pub instrumentIn : List Instrument → ℕ → Instrument
+instrumentIn table name = foundIn name table .instrument
+
+abbrev pub fieldsFound : Found → Fields
+fieldsFound f = cond (f .there) (Count (f .instrument .fields)) NoSuch
+
+-- how many fields a line's instrument has
+abbrev pub fieldsIn : List Instrument → Event → Fields
+fieldsIn table (Instr label name duration) = fieldsFound (foundIn name table)
+fieldsIn table (Control label x value) = NoSuch
+fieldsIn table End = NoSuch
+fieldsIn table (Tempo t) = NoSuch
+
+-- the values with the one at the place of the imports ksig x set to a
+unfoldable pub named : ℕ → Float → List ℕ → List Float → List Float
+named x a [] vs = vs
+named x a (i ∷ is) [] = []
+named x a (i ∷ is) (v ∷ vs) = cond (eqb i x) a v ∷ named x a is vs
+
+-- ---- the program's voices: its instruments, its code and its numbers
+
+module _ (table : List Instrument) (code : List ℕ) (vals : List Float) where
+  abbrev pub iCode : ℕ → List ℕ
+  iCode name = stretch (instrumentIn table name .istart) (instrumentIn table name .iend) code
+
+  abbrev pub kCode : ℕ → List ℕ
+  kCode name = stretch (instrumentIn table name .kstart) (instrumentIn table name .kend) code
+
+  abbrev pub aCode : ℕ → List ℕ
+  aCode name = stretch (instrumentIn table name .astart) (instrumentIn table name .aend) code
+
+  -- the fields have the values and then zeros, all else is +0, and the i pass runs
+  unfoldable pub birthOf : ℕ → List Float → List Float
+  birthOf name xs = once vals (iCode name) (freshOf xs)
+
+  -- the k pass, then an a pass for each sample
+  unfoldable pub ranValues : ℕ → List Float → List Float → List Float
+  ranValues name vs mix = played vals (aCode name) (once vals (kCode name) vs) mix .values
+
+  unfoldable pub ranMixOf : ℕ → List Float → List Float → List Float
+  ranMixOf name vs mix = played vals (aCode name) (once vals (kCode name) vs) mix .mix
+
+  unfoldable pub voices : Voices Held
+  voices =
+      record {
+        birth = λ (name : ℕ) (xs : List Float). record { instrument = name; values = birthOf name xs };
+        control = λ (x : ℕ) (a : Float) (s : Held).
+            record { instrument = s .instrument; values = named x a (instrumentIn table (s .instrument) .imports) (s .values) };
+        run = λ (s : Held) (mix : List Float).
+            record {
+              state = record { instrument = s .instrument; values = ranValues (s .instrument) (s .values) mix };
+              mix = ranMixOf (s .instrument) (s .values) mix;
+            };
+      }
+
+-- ---- the panel's notes
+
+abbrev pub noteOf : Note → cycle.Note Held
+noteOf n =
+    record {
+      labelled = n .labelled;
+      label = n .label;
+      endless = n .endless;
+      end = n .end;
+      state = record { instrument = n .instrument; values = n .values };
+    }
+
+abbrev pub structOf : cycle.Note Held → Note
+structOf n =
+    record {
+      values = n .state .values;
+      labelled = n .labelled;
+      label = n .label;
+      instrument = n .state .instrument;
+      endless = n .endless;
+      end = n .end;
+    }
+
+-- the first notes of an array
+abbrev pub notesIn : List Note → ℕ → List (cycle.Note Held)
+notesIn ns n = each noteOf (take n ns)
+
+abbrev pub startedIn : List Note → ℕ → ℕ → cycle.Started Held
+startedIn ns n missed = record { notes = notesIn ns n; missed = missed }
+
+abbrev pub bandIn : List Note → ℕ → List Float → cycle.Band Held
+bandIn ns n mix = record { notes = notesIn ns n; mix = mix }
+
+-- ---- the code's notes, with the instrument at hand
+
+-- the note that a line starts, its i pass run
+unfoldable pub bornNote : List ℕ → List Float → Instrument → Line → ℕ → Label → ℕ → Float → Note
+bornNote code vals x l position label name duration =
+    withValues (once vals (stretch (x .istart) (x .iend) code) (freshOf (take (l .count) (l .values))))
+    (record {
+      values = freshOf (take (l .count) (l .values));
+      labelled = isLabelled label;
+      label = labelNumber label;
+      instrument = name;
+      endless = eq duration withoutEnd;
+      end = position + ticksIn duration;
+    })
+
+unfoldable pub controlledNote : Instrument → Note → ℕ → ℕ → Float → Note
+controlledNote x n label variable value =
+    cond (n .labelled && eqb label (n .label)) (withValues (named variable value (x .imports) (n .values)) n) n
+
+unfoldable pub kNote : List ℕ → List Float → Instrument → Note → Note
+kNote code vals x n = withValues (once vals (stretch (x .kstart) (x .kend) code) (n .values)) n
+
+unfoldable pub ranNote : List ℕ → List Float → Instrument → Note → List Float → Note
+unfolding kNote
+ranNote code vals x n mix =
+    withValues (played vals (stretch (x .astart) (x .aend) code) (kNote code vals x n .values) mix .values) (kNote code vals x n)
+
+unfoldable pub ranMix : List ℕ → List Float → Instrument → Note → List Float → List Float
+unfolding kNote
+ranMix code vals x n mix = played vals (stretch (x .astart) (x .aend) code) (kNote code vals x n .values) mix .mix
+
+-- ---- control lines on the panel's notes
+
+unfoldable pub controlledIn : List Instrument → ℕ → ℕ → Float → Note → Note
+controlledIn table label variable value n = controlledNote (instrumentIn table (n .instrument)) n label variable value
+
+abbrev pub controlsIn : List Instrument → List Note → Event → List Note
+controlsIn table ns (Instr label name duration) = ns
+controlsIn table ns (Control label variable value) = each (controlledIn table label variable value) ns
+controlsIn table ns End = ns
+controlsIn table ns (Tempo t) = ns
+
+unfoldable pub controlledAll : List Instrument → List Note → List Line → List Note
+controlledAll table ns ls = fold (λ (ms : List Note) (l : Line). controlsIn table ms (l .event)) ns ls
+
+-- a note that goes on
+abbrev pub goesOnIn : ℕ → Note → Bool
+goesOnIn position n = goesOn position (noteOf n)
