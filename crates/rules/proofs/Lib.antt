@@ -3,6 +3,6 @@ mod Entering
 mod Passing
 mod Rated
 mod Declaring
-mod NamesLaw
-mod PlacesLaw
-mod RatesLaw
+pub mod NamesLaw
+pub mod PlacesLaw
+pub mod RatesLaw

@@ -227,6 +227,21 @@ unfolding allLawful
 tokens-lawful [] bs e = refl
 tokens-lawful (t ∷ ts) bs e = more-lawful t ts bs (λ cs f. tokens-lawful ts cs f) e
 
+-- ---- bytes are no tokens exactly when they are the bytes of no lawful tokens
+
+pub none-spelt : (bs : List ℕ) (ts : List Token) → tokensOf bs ≡ none → allLawful ts ≡ true → bytesOf ts ≡ bs → ⊥
+none-spelt bs ts n l e =
+    let f : none ≡ some ts = sym n ∙ ap tokensOf (sym e) ∙ tokens-bytes ts l in
+    let z : _≡_ {A = ℕ} 0 1 = cc in
+    omega arith
+
+pub unspelt : (bs : List ℕ) → Bytes bs → ((ts : List Token) → allLawful ts ≡ true → bytesOf ts ≡ bs → ⊥) → tokensOf bs ≡ none
+unspelt bs b h = go (tokensOf bs) refl
+  where
+    go : (g : Got) → tokensOf bs ≡ g → tokensOf bs ≡ none
+    go none e = e
+    go (some ts) e = absurd (h ts (tokens-lawful ts bs e) (bytes-tokens ts bs b e))
+
 -- ---- what is stored
 
 stored-one : (t : Token) → lawful t ≡ true → tokenOf (kindOf t) (wordOf t) (realOf t) ≡ t

@@ -5,4 +5,4 @@ mod Counting
 mod Passing
 mod Storing
 mod Whole
-mod Laws
+pub mod Laws
