@@ -3,9 +3,9 @@ use Prim.Native.Nat.{ℕ, zero, suc, _+_, _≤_, _<_}
 use native.Mathlib.Omega.{arith}
 use mathlib.Core.Path.{_≡_, refl, sym, ap, _∙_}
 use mathlib.Core.List.{List, [], _∷_, _++_, append-assoc, append-nil}
-use mathlib.Core.Bool.{Bool, true, false}
-use lib.ListN.{length, drop}
-use lib.Dec.{eqb, leb}
+use mathlib.Core.Bool.{true}
+use lib.ListN.{drop}
+use lib.Dec.{eqb}
 use lib.Ieee.{binary32, ofInt}
 use lib.IntN.{pos}
 use borrow.Author.Tests.{le-leb, lt-leb}
@@ -13,15 +13,14 @@ use Rattle.tokens.specs.declared.Token.{Token}
 use Rattle.tokens.specs.declared.Token.the-variants.{Number, Symbol, Whole, Sign}
 use Rattle.syntax.specs.Tree.{Expr, number, name, unary, binary, choose}
 use Rattle.syntax.specs.Program.{Ins, ins, chooseOp, compile}
-use Rattle.expressions.specs.declared.Head.{Head}
 use Rattle.expressions.specs.declared.Tail.{Tail}
 use Rattle.expressions.specs.declared.Tail.the-variants.{Binary, Question, Stop}
-use Rattle.expressions.specs.Roles.{headOf, headL, tailOf, tailL, tailSign, signL}
-use Rattle.expressions.specs.Reader.{Res, no, ok, prepend, seq, sign, emit, lastly, byHead, right, parts, byTail, reader}
+use Rattle.expressions.specs.Roles.{headL, tailOf, tailL, tailSign}
+use Rattle.expressions.specs.Reader.{Res, no, ok, prepend, seq, sign, lastly, byHead, byTail, reader}
 use Rattle.expressions.specs.Grammar.{Derives, real, whole, named, prefixed, bracketed, called, called2, sides, chosen, Operator}
 use Rattle.expressions.proofs.Laws.{expr·law, more·law}
 use Rattle.expressions.proofs.Tables as Tables
-use Rattle.expressions.proofs.Tables.{Tails, question, stop, tails, levels, tail-operator, head-prefix, head-call, head-call2}
+use Rattle.expressions.proofs.Tables.{Tails, tails, levels, tail-operator, head-prefix, head-call, head-call2}
 
 -- a token that does not go on with an expression of level m
 abbrev pub Ends : ℕ → Tail → Type 0

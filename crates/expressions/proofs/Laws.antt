@@ -15,7 +15,7 @@ use Rattle.expressions.specs.declared.Head.{Head}
 use Rattle.expressions.specs.declared.Head.the-variants.{Push, Unary, Open, Call, Call2, Bad}
 use Rattle.expressions.specs.declared.Tail.{Tail}
 use Rattle.expressions.specs.declared.Tail.the-variants.{Binary, Question, Stop}
-use Rattle.expressions.specs.Roles.{headOf, tailOf, headL, tailL, signL}
+use Rattle.expressions.specs.Roles.{headOf, tailOf, headL, tailL}
 use Rattle.expressions.specs.Reader.{Res, no, ok, prepend, seq, sign, emit, Sys, lastly, byHead, right, parts, byTail, step, deep, reader}
 
 pub data All (P : List Ins → List Token → Type 0) : Res → Type 0 where

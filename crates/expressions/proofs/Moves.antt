@@ -1,7 +1,7 @@
 -- The ways through the small functions: what a token starts, past a sign, and one instruction more.
-use Prim.Native.Nat.{ℕ, zero, suc, _+_, _*_, _≤_, _<_}
+use Prim.Native.Nat.{ℕ, zero, suc, _+_, _<_}
 use native.Mathlib.Omega.{arith}
-use mathlib.Core.Path.{_≡_, refl, sym, ap, _∙_}
+use mathlib.Core.Path.{_≡_, sym, _∙_}
 use mathlib.Core.List.{List, [], _∷_}
 use mathlib.Core.Bool.{Bool, true, false}
 use lib.ListN.{length, drop, set}
@@ -10,14 +10,13 @@ use lib.Ieee.{Float, binary32, ofInt}
 use lib.IntN.{pos}
 use Rattle.tokens.specs.Token.{toks}
 use Rattle.tokens.specs.declared.Token.{Token}
-use Rattle.tokens.specs.declared.Token.the-variants.{Number, Symbol, Whole, Sign}
+use Rattle.tokens.specs.declared.Token.the-variants.{Whole, Sign}
 use Rattle.syntax.specs.Program.{Ins, numberOp}
-use Rattle.expressions.specs.declared.Head.{Head}
 use Rattle.expressions.specs.declared.Head.the-variants.{Push}
 use Rattle.expressions.specs.declared.Got.{Got}
 use Rattle.expressions.specs.declared.Got.the-variants.{Next, Refused}
 use Rattle.expressions.specs.Roles.{headOf, isSign, signL}
-use Rattle.expressions.specs.Areas.{Areas, areas, stored, storedAt, oneMore, passed, Holds, Place}
+use Rattle.expressions.specs.Areas.{Areas, areas, storedAt, oneMore, passed, Place}
 use Rattle.expressions.proofs.Toks.{length-toks}
 
 pub whole-head : {t : Token} {w : ℕ} {x : Float} → t ≡ Whole w → x ≡ ofInt binary32 (pos w) → Push numberOp 0 x ≡ headOf t

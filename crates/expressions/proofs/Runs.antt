@@ -1,23 +1,21 @@
 -- From what a call of the reading code ensures to what its caller must ensure.
-use Prim.Native.Nat.{ℕ, zero, suc, _+_, _-_, _≤_, _<_}
-use native.Mathlib.Nat.{add-zero, add-assoc}
+use Prim.Native.Nat.{ℕ, suc, _+_, _-_, _≤_, _<_}
+use native.Mathlib.Nat.{add-zero}
 use native.Mathlib.Omega.{arith}
-use mathlib.Core.Path.{_≡_, refl, sym, ap, ap₂, _∙_}
+use mathlib.Core.Path.{_≡_, refl, sym, ap, _∙_}
 use mathlib.Core.List.{List, [], _∷_, _++_, map}
 use mathlib.Core.Bool.{Bool, true, false, cond}
 use lib.ListN.{length, drop, set, length-append, length-drop, length-map}
 use lib.Seq.{drop-drop, sets, length-sets}
-use lib.Ieee.{Float}
 use Rattle.tokens.specs.declared.Token.{Token}
 use Rattle.syntax.specs.Program.{Ins}
 use Rattle.expressions.specs.declared.Got.{Got}
 use Rattle.expressions.specs.declared.Got.the-variants.{Next, Refused}
 use Rattle.expressions.specs.Roles.{signL}
-use Rattle.expressions.specs.Reader.{Res, no, ok, prepend, seq, sign, emit}
-use Rattle.expressions.specs.Areas.{Areas, areas, opOf, argOf, valOf, stored, storedAt, oneMore, passed, left, Holds, Place, Ready, gone, come, Runs, refused, done}
-use Rattle.expressions.specs.Areas as Areas
+use Rattle.expressions.specs.Reader.{Res, no, ok, seq, sign, emit}
+use Rattle.expressions.specs.Areas.{Areas, opOf, argOf, valOf, stored, storedAt, oneMore, passed, left, Holds, Place, Ready, gone, come, Runs, refused, done}
 use Rattle.expressions.proofs.Moves.{sign-in}
-use Rattle.expressions.proofs.Laws.{All, none, some, Took}
+use Rattle.expressions.proofs.Laws.{All, some, Took}
 
 -- ---- stores in a row
 

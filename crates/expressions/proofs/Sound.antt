@@ -1,24 +1,22 @@
 -- What the reader reads is an expression of the grammar, and its code.
-use Prim.Native.Nat.{ℕ, zero, suc, _+_, _≤_, _<_}
+use Prim.Native.Nat.{ℕ, zero, suc, _+_, _≤_}
 use native.Mathlib.Omega.{arith}
 use mathlib.Core.Path.{_≡_, refl, sym, ap, _∙_}
 use mathlib.Core.List.{List, [], _∷_, _++_, append-assoc, append-nil}
-use mathlib.Core.Bool.{Bool, true, false}
-use lib.ListN.{length, drop}
-use lib.Dec.{eqb, leb}
+use lib.ListN.{length}
+use lib.Dec.{leb}
 use borrow.Author.Tests.{leb-true, leb-false}
 use Rattle.tokens.specs.declared.Token.{Token}
-use Rattle.tokens.specs.declared.Token.the-variants.{Number, Symbol, Whole, Sign}
-use Rattle.syntax.specs.Tree.{Expr, number, name, unary, binary, choose}
+use Rattle.tokens.specs.declared.Token.the-variants.{Sign}
+use Rattle.syntax.specs.Tree.{Expr, unary, binary, choose}
 use Rattle.syntax.specs.Program.{Ins, ins, chooseOp, compile}
 use Rattle.expressions.specs.declared.Head.{Head}
-use Rattle.expressions.specs.declared.Head.the-variants.{Push, Unary, Open, Call, Call2, Bad}
 use Rattle.expressions.specs.declared.Tail.{Tail}
 use Rattle.expressions.specs.declared.Tail.the-variants.{Binary, Question, Stop}
-use Rattle.expressions.specs.Roles.{headOf, headL, tailOf, tailL}
-use Rattle.expressions.specs.Reader.{Res, no, ok, prepend, seq, sign, emit, Sys, lastly, byHead, right, parts, byTail, step, deep, reader}
-use Rattle.expressions.specs.Grammar.{Derives, prefixed, bracketed, called, called2, sides, chosen, Operator}
-use Rattle.expressions.proofs.Laws.{All, none, some, All-weaken, All-prepend, All-seq, All-cond, All-sign, Signed, signed}
+use Rattle.expressions.specs.Roles.{tailOf, tailL}
+use Rattle.expressions.specs.Reader.{sign, emit, Sys, lastly, byHead, right, parts, byTail, step, deep, reader}
+use Rattle.expressions.specs.Grammar.{Derives, prefixed, bracketed, called, called2, sides, chosen}
+use Rattle.expressions.proofs.Laws.{All, none, some, All-weaken, All-seq, All-cond, All-sign, signed}
 use Rattle.expressions.proofs.Tables as Tables
 use Rattle.expressions.proofs.Tables.{Heads, heads, Tails, tails, levels}
 use Rattle.expressions.proofs.Complete.{Ends}

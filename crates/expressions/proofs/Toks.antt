@@ -1,14 +1,12 @@
 -- What stands at a place among the tokens of three lists.
-use Prim.Native.Nat.{ℕ, zero, suc, _+_, _≤_, _<_}
-use native.Mathlib.Numerals.{add-one}
+use Prim.Native.Nat.{ℕ, zero, suc, _≤_, _<_}
 use native.Mathlib.Omega.{arith}
-use mathlib.Core.Path.{_≡_, refl, sym, ap, _∙_}
+use mathlib.Core.Path.{_≡_, refl, ap, _∙_}
 use mathlib.Core.List.{List, [], _∷_}
-use mathlib.Core.Bool.{Bool, true, false}
+use mathlib.Core.Bool.{Bool, false}
 use lib.ListN.{length, drop, getD, drop-of-length-le}
-use lib.Seq.{drop-drop}
 use lib.Ieee.{Float}
-use Rattle.tokens.specs.Token.{tokenOf, tokenAt, zeroF, toks}
+use Rattle.tokens.specs.Token.{tokenAt, zeroF, toks}
 use Rattle.tokens.specs.declared.Token.{Token}
 use Rattle.expressions.specs.declared.Head.{Head}
 use Rattle.expressions.specs.declared.Head.the-variants.{Bad}

@@ -2,13 +2,11 @@
 use Prim.Native.Nat.{ℕ}
 use mathlib.Core.Path.{_≡_, refl, sym, ap, _∙_}
 use mathlib.Core.List.{List, [], _∷_, _++_, append-assoc, append-nil}
-use mathlib.Core.Bool.{Bool, true, false, cond}
+use mathlib.Core.Bool.{cond}
 use lib.Dec.{eqb, leb}
-use lib.Ieee.{Float}
 use Rattle.tokens.specs.declared.Token.{Token}
 use Rattle.syntax.specs.Tree.{Expr, number, name, unary, binary, choose}
 use Rattle.syntax.specs.Program.{Ins, ins, chooseOp, compile}
-use Rattle.expressions.specs.Reader.{Res, no, ok, reader}
 use Rattle.expressions.specs.Grammar.{Derives, real, whole, named, prefixed, bracketed, called, called2, sides, chosen, Operator, Prefix, Call, Call2, or, and, equal, unequal, less, greater, atMost, atLeast, plus, minus, times, over, negative, not, abs, sgn, int, frac, min, max}
 use Rattle.expressions.proofs.Complete.{complete}
 

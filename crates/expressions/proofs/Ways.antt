@@ -3,22 +3,20 @@ use Prim.Native.Nat.{ℕ, zero, suc, _+_, _-_, _≤_, _<_}
 use native.Mathlib.Numerals.{add-one}
 use native.Mathlib.Omega.{arith}
 use mathlib.Core.Path.{_≡_, refl, sym, ap, _∙_}
-use mathlib.Core.List.{List, [], _∷_, _++_}
-use mathlib.Core.Bool.{Bool, true, false, cond}
+use mathlib.Core.List.{List, [], _∷_}
 use lib.ListN.{length, drop}
 use borrow.Author.Tests.{le-leb, lt-leb}
 use Rattle.tokens.specs.declared.Token.{Token}
-use Rattle.syntax.specs.Program.{Ins, ins}
 use Rattle.expressions.specs.declared.Got.{Got}
 use Rattle.expressions.specs.declared.Got.the-variants.{Next, Refused}
 use Rattle.expressions.specs.declared.Head.{Head}
 use Rattle.expressions.specs.declared.Head.the-variants.{Push, Unary, Open, Call, Call2, Bad}
 use Rattle.expressions.specs.declared.Tail.{Tail}
 use Rattle.expressions.specs.declared.Tail.the-variants.{Binary, Question, Stop}
-use Rattle.expressions.specs.Roles.{headL, tailL, tailOf}
-use Rattle.expressions.specs.Reader.{Res, no, ok, seq, sign, emit, lastly, byHead, right, parts, reader}
-use Rattle.expressions.specs.Areas.{Areas, stored, left, Ready, gone, come, Runs, refused, done}
-use Rattle.expressions.proofs.Laws.{All, none, some, All-weaken, All-seq, All-sign, Took, reader-bounded, expr·law, more·law, lastly-took}
+use Rattle.expressions.specs.Roles.{headL, tailL}
+use Rattle.expressions.specs.Reader.{Res, ok, seq, lastly, byHead, right, parts, reader}
+use Rattle.expressions.specs.Areas.{Areas, left, Ready, gone, come, Runs, refused, done}
+use Rattle.expressions.proofs.Laws.{All-weaken, reader-bounded, expr·law, more·law, lastly-took}
 use Rattle.expressions.proofs.Tables as Tables
 use Rattle.expressions.proofs.Tables.{Tails, tails, levels}
 use Rattle.expressions.proofs.Runs.{runs-as, runs-after, Past, past-start, past-runs}

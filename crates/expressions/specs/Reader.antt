@@ -1,7 +1,7 @@
 -- The expression reader on lists of tokens: postfix code, and the tokens that are left.
 use Prim.Native.Nat.{ℕ, zero, suc}
 use mathlib.Core.List.{List, [], _∷_, _++_}
-use mathlib.Core.Bool.{Bool, true, false, cond}
+use mathlib.Core.Bool.{cond}
 use lib.ListN.{length, drop}
 use lib.Dec.{leb}
 use Rattle.tokens.specs.declared.Token.{Token}

@@ -1,21 +1,18 @@
 -- Every orchestra of the grammar is read as the program of its tree.
-use Prim.Native.Nat.{ℕ, zero, suc, _+_, _-_, _≤_, _<_}
-use native.Mathlib.Omega.{arith}
+use Prim.Native.Nat.{ℕ, _+_, _-_}
 use mathlib.Core.Path.{_≡_, refl, sym, ap, _∙_}
 use mathlib.Core.List.{List, [], _∷_, _++_, append-assoc, append-nil}
-use mathlib.Core.Bool.{Bool, true, false, cond}
-use lib.ListN.{length, drop}
+use mathlib.Core.Bool.{false}
 use Rattle.tokens.specs.declared.Token.{Token}
-use Rattle.tokens.specs.declared.Token.the-variants.{Number, Symbol, Whole, Sign}
-use Rattle.syntax.specs.Tree.{Expr, Statements, done, assign, output, branch, Declaration, Instrument, fieldKind, importsKind}
-use Rattle.syntax.specs.Program.{Ins, ins, insArg, instrOp, outputOp, ifOp, elseOp, endOp, storeOp, compile, code, declare, declared, program}
+use Rattle.tokens.specs.declared.Token.the-variants.{Symbol, Sign}
+use Rattle.syntax.specs.Tree.{Expr, Statements, Declaration, Instrument, fieldKind}
+use Rattle.syntax.specs.Program.{ins, insArg, instrOp, outputOp, ifOp, elseOp, endOp, storeOp, compile, code, declare, declared, program}
 use Rattle.syntax.specs.Program.{instrument as code·of}
-use Rattle.expressions.specs.Roles.{signL, isSign}
-use Rattle.expressions.specs.Reader.{Res, no, ok, prepend, seq, sign, emit, reader}
-use Rattle.grammar.specs.declared.Start.the-variants.{Name, Output, If, Stop}
-use Rattle.grammar.specs.declared.Lead.the-variants.{Kind, Imports, Stop as No}
-use Rattle.grammar.specs.Starts.{startL, leadL}
-use Rattle.grammar.specs.Reader.{setTo, bracketed, close, otherwise, branches, byStart, statements, name, names, stepNames, listed, byLead, declarations, fields, header, body, instrument, orchestra, stepInstruments}
+use Rattle.expressions.specs.Roles.{signL}
+use Rattle.expressions.specs.Reader.{Res, no, ok, prepend}
+use Rattle.grammar.specs.declared.Lead.the-variants.{Stop as No}
+use Rattle.grammar.specs.Starts.{leadL}
+use Rattle.grammar.specs.Reader.{setTo, bracketed, branches, statements, names, listed, byLead, declarations, fields, header, body, instrument, orchestra}
 use Rattle.grammar.specs.Grammar.{IsExpr, Stmts, none, set, out, when, either, Names, one, more, Fields, none as no·fields, some as some·fields, Kinds, ivar, ksig, asig, imports, Decls, none as no·decls, some as some·decls, Instr, is, Orchestra, last, next}
 use Rattle.grammar.proofs.Steps.{statements·law, names·law, declarations·law, orchestra·law}
 use Rattle.expressions.proofs.Complete.{complete as expr-complete}

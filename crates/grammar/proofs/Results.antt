@@ -1,14 +1,14 @@
 -- How many tokens a reading took: `Took k ts c r` says that from ts the code c was read and r is left, with k tokens more than instructions.
-use Prim.Native.Nat.{ℕ, zero, suc, _+_, _≤_, _<_}
+use Prim.Native.Nat.{ℕ, _+_, _≤_}
 use native.Mathlib.Omega.{arith}
-use mathlib.Core.Path.{_≡_, refl, ap, _∙_}
+use mathlib.Core.Path.{_≡_}
 use mathlib.Core.List.{List, [], _∷_, _++_}
-use mathlib.Core.Bool.{Bool, true, false, cond}
+use mathlib.Core.Bool.{true}
 use lib.ListN.{length, drop, length-append}
 use Rattle.tokens.specs.declared.Token.{Token}
-use Rattle.syntax.specs.Program.{Ins, ins}
-use Rattle.expressions.specs.Roles.{signL, isSign}
-use Rattle.expressions.specs.Reader.{Res, no, ok, seq, sign, emit, reader}
+use Rattle.syntax.specs.Program.{Ins}
+use Rattle.expressions.specs.Roles.{signL}
+use Rattle.expressions.specs.Reader.{Res, seq, sign, emit, reader}
 use Rattle.expressions.proofs.Laws.{All, none, some, All-weaken, All-seq, All-cond, reader-bounded}
 
 pub record Took (k : ℕ) (ts : List Token) (c : List Ins) (r : List Token) : Type 0 where

@@ -1,10 +1,10 @@
 -- What the reader reads is an orchestra of the grammar, and the program of its tree.
-use Prim.Native.Nat.{ℕ, zero, suc, _+_, _-_, _≤_, _<_}
+use Prim.Native.Nat.{ℕ, _+_, _-_}
 use native.Mathlib.Omega.{arith}
 use mathlib.Core.Path.{_≡_, refl, sym, ap, _∙_}
 use mathlib.Core.List.{List, [], _∷_, _++_, append-assoc, append-nil}
 use mathlib.Core.Bool.{Bool, true, false, cond}
-use lib.ListN.{length, drop}
+use lib.ListN.{drop}
 use lib.Dec.{eqb}
 use borrow.Author.Tests.{eqb-true}
 use Rattle.tokens.specs.declared.Token.{Token}
@@ -13,19 +13,17 @@ use Rattle.syntax.specs.Tree.{Expr, Statements, done, assign, output, branch, D
 use Rattle.syntax.specs.Program.{Ins, ins, insArg, instrOp, outputOp, ifOp, elseOp, endOp, storeOp, compile, code, declare, declared, program}
 use Rattle.syntax.specs.Program.{instrument as code·of}
 use Rattle.expressions.specs.Roles.{signL, isSign}
-use Rattle.expressions.specs.Reader.{Res, no, ok, prepend, seq, sign, emit, reader}
+use Rattle.expressions.specs.Reader.{Res, ok, seq, sign, reader}
 use Rattle.grammar.specs.declared.Start.{Start}
 use Rattle.grammar.specs.declared.Start.the-variants.{Name, Output, If, Stop}
 use Rattle.grammar.specs.declared.Lead.{Lead}
 use Rattle.grammar.specs.declared.Lead.the-variants.{Kind, Imports, Stop as No}
-use Rattle.grammar.specs.declared.Word.{Word}
-use Rattle.grammar.specs.declared.Word.the-variants.{Is, Not}
-use Rattle.grammar.specs.Starts.{startL, startOf, startSign, leadL, leadOf, leadSign, wordL, wordOf}
-use Rattle.grammar.specs.Reader.{setTo, bracketed, close, otherwise, branches, byStart, stepStatements, statements, byWord, name, names, stepNames, listed, byLead, stepDeclarations, declarations, fields, header, body, instrument, orchestra, stepInstruments, none as nothing}
+use Rattle.grammar.specs.Starts.{startL, leadL}
+use Rattle.grammar.specs.Reader.{setTo, bracketed, close, otherwise, branches, byStart, stepStatements, statements, name, names, stepNames, listed, byLead, stepDeclarations, declarations, fields, header, body, instrument, orchestra, stepInstruments, none as nothing}
 use Rattle.grammar.specs.Grammar.{IsExpr, Stmts, none, set, out, when, either, Names, one, more, Fields, none as no·fields, some as some·fields, Kinds, ivar, ksig, asig, imports, Decls, none as no·decls, some as some·decls, Instr, is, Orchestra, last, next}
 use Rattle.expressions.proofs.Laws.{All, none as unread, some as read, All-weaken, All-seq, All-cond}
 use Rattle.grammar.proofs.Whole.{whole-all}
-use Rattle.expressions.proofs.Sound.{Parsed, sound as expr-sound}
+use Rattle.expressions.proofs.Sound.{sound as expr-sound}
 
 never : {A : Type 0} → _≡_ {A = ℕ} 0 1 → A
 never z = absurd (omega arith)

@@ -1,26 +1,25 @@
 -- The steps of the four readers that call themselves are steady, and so each reader is its own next step.
-use Prim.Native.Nat.{ℕ, zero, suc, _+_, _-_, _≤_, _<_}
+use Prim.Native.Nat.{ℕ, suc, _+_, _-_, _≤_, _<_}
 use native.Mathlib.Omega.{arith}
-use mathlib.Core.Path.{_≡_, refl, sym, ap, _∙_}
+use mathlib.Core.Path.{_≡_, refl, sym}
 use mathlib.Core.List.{List, [], _∷_, _++_}
 use mathlib.Core.Bool.{Bool, true, false, cond}
 use lib.ListN.{length, drop, length-append}
 use Rattle.tokens.specs.declared.Token.{Token}
-use Rattle.tokens.specs.declared.Token.the-variants.{Number, Symbol, Whole, Sign}
 use Rattle.syntax.specs.Program.{Ins, ins, insArg, instrOp, outputOp, ifOp, elseOp, endOp, storeOp}
 use Rattle.syntax.specs.Tree.{fieldKind, importsKind}
 use Rattle.expressions.specs.Roles.{signL}
-use Rattle.expressions.specs.Reader.{Res, no, ok, seq, sign, emit, reader}
+use Rattle.expressions.specs.Reader.{Res, ok, seq, sign, emit, reader}
 use Rattle.grammar.specs.declared.Start.{Start}
 use Rattle.grammar.specs.declared.Start.the-variants.{Name, Output, If, Stop}
 use Rattle.grammar.specs.declared.Lead.{Lead}
 use Rattle.grammar.specs.declared.Lead.the-variants.{Kind, Imports, Stop as No}
 use Rattle.grammar.specs.declared.Word.{Word}
 use Rattle.grammar.specs.declared.Word.the-variants.{Is, Not}
-use Rattle.grammar.specs.Starts.{startL, startOf, startSign, leadL, leadOf, wordL, wordOf}
-use Rattle.grammar.specs.Reader.{deep, whole, setTo, bracketed, close, otherwise, branches, byStart, stepStatements, statements, byWord, name, stepNames, names, listed, byLead, stepDeclarations, declarations, fields, header, body, instrument, stepInstruments, orchestra, none as nothing}
+use Rattle.grammar.specs.Starts.{startL, leadL, wordOf}
+use Rattle.grammar.specs.Reader.{setTo, bracketed, close, otherwise, branches, byStart, stepStatements, statements, byWord, name, stepNames, names, listed, byLead, stepDeclarations, declarations, fields, header, body, instrument, stepInstruments, orchestra, none as nothing}
 use Rattle.expressions.proofs.Laws.{All, none, some, All-weaken, All-seq, All-cond, seq-same}
-use Rattle.grammar.proofs.Results.{Took, took-none, took-join, took-less, took-past, sign-took, seq-took, sign-emit, expr-took}
+use Rattle.grammar.proofs.Results.{Took, took-none, took-less, took-past, sign-took, seq-took, sign-emit, expr-took}
 use Rattle.grammar.proofs.Whole.{Bounded, Steady, whole-took, whole·law}
 
 less : {k l : ℕ} {ts : List Token} {x : Res} → All (Took k ts) x → l ≤ k → All (Took l ts) x

@@ -1,15 +1,15 @@
 -- No tokens have two trees: each part of an orchestra, in front of what may follow it, is read in one way only.
-use Prim.Native.Nat.{ℕ, zero, suc}
+use Prim.Native.Nat.{ℕ}
 use native.Mathlib.Omega.{arith}
 use mathlib.Core.Path.{_≡_, refl, sym, ap, _∙_}
 use mathlib.Core.List.{List, [], _∷_, _++_, append-assoc, append-nil}
-use mathlib.Core.Bool.{Bool, true, false}
+use mathlib.Core.Bool.{true, false}
 use Rattle.tokens.specs.declared.Token.{Token}
-use Rattle.tokens.specs.declared.Token.the-variants.{Number, Symbol, Whole, Sign}
-use Rattle.syntax.specs.Tree.{Expr, Statements, done, assign, output, branch, Declaration, Instrument}
+use Rattle.tokens.specs.declared.Token.the-variants.{Sign}
+use Rattle.syntax.specs.Tree.{Expr, Statements, Declaration, Instrument}
 use Rattle.syntax.specs.Program.{compile}
 use Rattle.expressions.specs.Roles.{signL, tailL}
-use Rattle.expressions.specs.Reader.{Res, ok, reader}
+use Rattle.expressions.specs.Reader.{ok, reader}
 use Rattle.grammar.specs.declared.Lead.the-variants.{Stop as No}
 use Rattle.grammar.specs.Starts.{leadL}
 use Rattle.grammar.specs.Grammar.{IsExpr, Stmts, none, set, out, when, either, Names, one, more, Fields, none as no·fields, some as some·fields, Kinds, ivar, ksig, asig, imports, Decls, none as no·decls, some as some·decls, Instr, is, Orchestra, last, next}

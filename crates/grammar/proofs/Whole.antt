@@ -1,15 +1,15 @@
 -- A reader that calls itself for fewer tokens is its own next step, however deep it is followed.
-use Prim.Native.Nat.{ℕ, zero, suc, _+_, _-_, _≤_, _<_}
+use Prim.Native.Nat.{ℕ, zero, suc, _+_, _-_, _<_}
 use native.Mathlib.Nat.{suc-add}
 use native.Mathlib.Omega.{arith}
-use mathlib.Core.Path.{_≡_, refl, sym, ap, _∙_}
-use mathlib.Core.List.{List, [], _∷_}
+use mathlib.Core.Path.{_≡_, sym}
+use mathlib.Core.List.{List}
 use lib.ListN.{length}
 use Rattle.tokens.specs.declared.Token.{Token}
 use Rattle.syntax.specs.Program.{Ins}
-use Rattle.expressions.specs.Reader.{Res, no, ok}
+use Rattle.expressions.specs.Reader.{Res, no}
 use Rattle.grammar.specs.Reader.{deep, whole}
-use Rattle.expressions.proofs.Laws.{All, none, some}
+use Rattle.expressions.proofs.Laws.{All, none}
 use Rattle.grammar.proofs.Results.{Took}
 
 -- a reader that reads no more instructions than tokens

@@ -4,7 +4,7 @@ use mathlib.Core.Bool.{Bool, true, false, cond}
 use mathlib.Core.List.{List, [], _∷_}
 use lib.ListN.{length, drop}
 use Rattle.tokens.specs.declared.Token.{Token}
-use Rattle.syntax.specs.Tree.{fieldKind, ksigKind, importsKind}
+use Rattle.syntax.specs.Tree.{fieldKind, importsKind}
 use Rattle.syntax.specs.Program.{ins, insArg, instrOp, outputOp, ifOp, elseOp, endOp, storeOp}
 use Rattle.expressions.specs.Roles.{signL}
 use Rattle.expressions.specs.Reader.{Res, no, ok, seq, sign, emit, reader}

@@ -1,16 +1,15 @@
 -- From what a reader above expressions ensures to what its caller must ensure. A reading of surplus j takes j tokens more than it gives
 -- instructions, so that there is room for j more of them.
-use Prim.Native.Nat.{ℕ, zero, suc, _+_, _-_, _≤_, _<_}
+use Prim.Native.Nat.{ℕ, suc, _+_, _-_, _≤_}
 use native.Mathlib.Omega.{arith}
-use mathlib.Core.Path.{_≡_, refl, sym, ap, _∙_, subst}
-use mathlib.Core.List.{List, [], _∷_, _++_}
+use mathlib.Core.Path.{_≡_, sym, _∙_}
+use mathlib.Core.List.{List}
 use lib.ListN.{length, drop, length-drop}
 use Rattle.tokens.specs.declared.Token.{Token}
-use Rattle.syntax.specs.Program.{Ins}
 use Rattle.expressions.specs.declared.Got.{Got}
-use Rattle.expressions.specs.declared.Got.the-variants.{Next, Refused}
-use Rattle.expressions.specs.Reader.{Res, no, ok}
-use Rattle.expressions.specs.Areas.{Areas, stored, left, Holds, Ready, gone, come, Runs, refused, done}
+use Rattle.expressions.specs.declared.Got.the-variants.{Next}
+use Rattle.expressions.specs.Reader.{Res}
+use Rattle.expressions.specs.Areas.{Areas, left, Ready, gone, come, Runs, refused, done}
 use Rattle.expressions.proofs.Laws.{All, All-weaken}
 use Rattle.expressions.proofs.Runs.{Past, holds-stored, holds-less, took-of}
 use Rattle.grammar.proofs.Results.{Took}

@@ -1,16 +1,16 @@
 -- The ways through the readers of statements.
-use Prim.Native.Nat.{ℕ, zero, suc, _+_, _-_, _≤_, _<_}
+use Prim.Native.Nat.{ℕ, zero, suc, _+_, _-_, _<_}
 use native.Mathlib.Omega.{arith}
-use mathlib.Core.Path.{_≡_, refl, sym, ap, _∙_}
-use mathlib.Core.List.{List, [], _∷_, _++_}
-use mathlib.Core.Bool.{Bool, true, false, cond}
+use mathlib.Core.Path.{_≡_, refl, sym, _∙_}
+use mathlib.Core.List.{List, [], _∷_}
+use mathlib.Core.Bool.{Bool, true, false}
 use lib.ListN.{length, drop}
 use Rattle.tokens.specs.declared.Token.{Token}
-use Rattle.syntax.specs.Program.{Ins, ins, endOp}
+use Rattle.syntax.specs.Program.{ins, endOp}
 use Rattle.expressions.specs.declared.Got.{Got}
-use Rattle.expressions.specs.declared.Got.the-variants.{Next, Refused}
+use Rattle.expressions.specs.declared.Got.the-variants.{Next}
 use Rattle.expressions.specs.Roles.{signL}
-use Rattle.expressions.specs.Reader.{Res, no, ok, seq, sign, emit, reader}
+use Rattle.expressions.specs.Reader.{Res, seq, sign, emit, reader}
 use Rattle.expressions.specs.Areas.{Areas, left, Ready, gone, come, Runs}
 use Rattle.expressions.proofs.Laws.{All, All-weaken, reader-bounded}
 use Rattle.expressions.proofs.Runs.{runs-as, runs-after, ready-runs, Past, past-start}

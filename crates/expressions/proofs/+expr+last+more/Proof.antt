@@ -20,20 +20,16 @@ use Rattle.expressions.proofs.+expr+last+more.{statement}
 use Rattle.expressions.proofs.+expr+last+more.Tie.{close}
 use borrow.Author.Needs.{needs}
 use native.Mathlib.Omega.{arith}
-use mathlib.Core.Path.{_≡_, refl, sym, ap, _∙_}
-use mathlib.Core.List.{List}
-use lib.ListN.{length, drop}
-use lib.Ieee.{Float}
+use mathlib.Core.Path.{refl, sym, _∙_}
 use native.Mathlib.Nat.{pos-of-ne-zero}
 use Rattle.tokens.specs.Token.{toks}
-use Rattle.syntax.specs.Program.{Ins, ins, chooseOp}
-use Rattle.expressions.specs.declared.Got.the-variants.{Next, Refused}
-use Rattle.expressions.specs.declared.Head.the-variants.{Push, Unary, Open, Call, Call2, Bad}
+use Rattle.syntax.specs.Program.{ins, chooseOp}
+use Rattle.expressions.specs.declared.Head.the-variants.{Push, Unary, Open, Call, Call2}
 use Rattle.expressions.specs.Reader.{reader, seq, sign, lastly}
 use Rattle.expressions.specs.Reader as Reader
-use Rattle.expressions.specs.Areas.{left, Ready, gone, Runs}
+use Rattle.expressions.specs.Areas.{left, gone}
 use Rattle.expressions.proofs.Toks.{length-toks}
-use Rattle.expressions.proofs.Runs.{runs-seq, runs-sign, runs-emit, Past, past-ready, past-place, past-sign, past-emit, past-passed}
+use Rattle.expressions.proofs.Runs.{runs-seq, runs-sign, runs-emit, past-ready, past-place, past-sign, past-emit, past-passed}
 use Rattle.expressions.proofs.Ways.{head-in, tail-in, tail-small, head-past, tail-past, past-expr, past-last, expr-as, expr-bad, more-binary, more-question, stop-binary, stop-question, stop-here}
 
 abbrev μ-expr : Measures 6 expr-kinds.ps ℕ

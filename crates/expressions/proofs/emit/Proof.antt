@@ -3,8 +3,6 @@ use Rattle.expressions.proofs.Moves.{place-ops, place-args, place-vals,
 use borrow.Author.Needs.{needs}
 use Rattle.expressions.proofs.emit.Statement.{statement}
 use Rattle.expressions.proofs.emit.Tie as tie
-use Rattle.expressions.proofs.emit.Reads as reads
-use Rattle.expressions.proofs.emit.Lts as lts
 
 -- src/lib.rt:148:19
 enum-known-got : tie.Need-enum-known-got

@@ -2,10 +2,6 @@ use Rattle.expressions.proofs.Toks.{head-here, head-past}
 use borrow.Author.Needs.{needs}
 use Rattle.expressions.proofs.head_at.Statement.{statement}
 use Rattle.expressions.proofs.head_at.Tie as tie
-use Rattle.expressions.proofs.head_at.Reads as reads
-use Rattle.expressions.proofs.head_at.Lts as lts
-use Rattle.expressions.proofs.head_of.Reads as head-of-reads
-use Rattle.tokens.proofs.token_at.Reads as token-at-reads
 
 -- src/lib.rt:102:17
 token-at-requires : tie.Need-token-at-requires

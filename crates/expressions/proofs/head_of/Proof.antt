@@ -3,9 +3,6 @@ use Rattle.expressions.proofs.Moves.{whole-head}
 use borrow.Author.Needs.{needs}
 use Rattle.expressions.proofs.head_of.Statement.{statement}
 use Rattle.expressions.proofs.head_of.Tie as tie
-use Rattle.expressions.proofs.head_of.Reads as reads
-use Rattle.expressions.proofs.head_of.Lts as lts
-use Rattle.std.proofs.num.nearest_u32_to_f32.Reads as nearest-u32-to-f32-reads
 
 -- src/lib.rt:39:23
 enum-known-t : tie.Need-enum-known-t

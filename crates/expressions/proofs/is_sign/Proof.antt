@@ -2,8 +2,6 @@ use Rattle.expressions.proofs.Moves.{sign-told}
 use borrow.Author.Needs.{needs}
 use Rattle.expressions.proofs.is_sign.Statement.{statement}
 use Rattle.expressions.proofs.is_sign.Tie as tie
-use Rattle.expressions.proofs.is_sign.Reads as reads
-use Rattle.expressions.proofs.is_sign.Lts as lts
 
 -- src/lib.rt:90:21
 enum-known-t : tie.Need-enum-known-t

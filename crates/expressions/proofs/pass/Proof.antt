@@ -3,9 +3,6 @@ use Rattle.expressions.proofs.Moves.{sign-fits, passed-on, passed-no}
 use borrow.Author.Needs.{needs}
 use Rattle.expressions.proofs.pass.Statement.{statement}
 use Rattle.expressions.proofs.pass.Tie as tie
-use Rattle.expressions.proofs.pass.Reads as reads
-use Rattle.expressions.proofs.pass.Lts as lts
-use Rattle.expressions.proofs.sign_at.Reads as sign-at-reads
 
 -- src/lib.rt:132:19
 enum-known-got : tie.Need-enum-known-got

@@ -2,10 +2,6 @@ use Rattle.expressions.proofs.Toks.{sign-here, sign-past}
 use borrow.Author.Needs.{needs}
 use Rattle.expressions.proofs.sign_at.Statement.{statement}
 use Rattle.expressions.proofs.sign_at.Tie as tie
-use Rattle.expressions.proofs.sign_at.Reads as reads
-use Rattle.expressions.proofs.sign_at.Lts as lts
-use Rattle.expressions.proofs.is_sign.Reads as is-sign-reads
-use Rattle.tokens.proofs.token_at.Reads as token-at-reads
 
 -- src/lib.rt:122:17
 token-at-requires : tie.Need-token-at-requires

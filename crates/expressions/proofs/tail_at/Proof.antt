@@ -2,10 +2,6 @@ use Rattle.expressions.proofs.Toks.{tail-here, tail-past}
 use borrow.Author.Needs.{needs}
 use Rattle.expressions.proofs.tail_at.Statement.{statement}
 use Rattle.expressions.proofs.tail_at.Tie as tie
-use Rattle.expressions.proofs.tail_at.Reads as reads
-use Rattle.expressions.proofs.tail_at.Lts as lts
-use Rattle.expressions.proofs.tail_of.Reads as tail-of-reads
-use Rattle.tokens.proofs.token_at.Reads as token-at-reads
 
 -- src/lib.rt:112:17
 token-at-requires : tie.Need-token-at-requires

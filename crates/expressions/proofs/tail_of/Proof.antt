@@ -2,8 +2,6 @@ use borrow.Author.Tests.{ne-eqb}
 use borrow.Author.Needs.{needs}
 use Rattle.expressions.proofs.tail_of.Statement.{statement}
 use Rattle.expressions.proofs.tail_of.Tie as tie
-use Rattle.expressions.proofs.tail_of.Reads as reads
-use Rattle.expressions.proofs.tail_of.Lts as lts
 
 -- src/lib.rt:64:21
 enum-known-t : tie.Need-enum-known-t

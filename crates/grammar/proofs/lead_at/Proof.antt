@@ -2,10 +2,6 @@ use Rattle.grammar.proofs.Firsts.{lead-here, lead-past}
 use borrow.Author.Needs.{needs}
 use Rattle.grammar.proofs.lead_at.Statement.{statement}
 use Rattle.grammar.proofs.lead_at.Tie as tie
-use Rattle.grammar.proofs.lead_at.Reads as reads
-use Rattle.grammar.proofs.lead_at.Lts as lts
-use Rattle.grammar.proofs.lead_of.Reads as lead-of-reads
-use Rattle.tokens.proofs.token_at.Reads as token-at-reads
 
 -- src/lib.rt:87:17
 token-at-requires : tie.Need-token-at-requires

@@ -2,8 +2,6 @@ use borrow.Author.Tests.{ne-eqb}
 use borrow.Author.Needs.{needs}
 use Rattle.grammar.proofs.lead_of.Statement.{statement}
 use Rattle.grammar.proofs.lead_of.Tie as tie
-use Rattle.grammar.proofs.lead_of.Reads as reads
-use Rattle.grammar.proofs.lead_of.Lts as lts
 
 -- src/lib.rt:48:29
 enum-told : tie.Need-enum-told

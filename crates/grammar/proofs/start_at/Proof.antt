@@ -2,10 +2,6 @@ use Rattle.grammar.proofs.Firsts.{start-here, start-past}
 use borrow.Author.Needs.{needs}
 use Rattle.grammar.proofs.start_at.Statement.{statement}
 use Rattle.grammar.proofs.start_at.Tie as tie
-use Rattle.grammar.proofs.start_at.Reads as reads
-use Rattle.grammar.proofs.start_at.Lts as lts
-use Rattle.grammar.proofs.start_of.Reads as start-of-reads
-use Rattle.tokens.proofs.token_at.Reads as token-at-reads
 
 -- src/lib.rt:77:18
 token-at-requires : tie.Need-token-at-requires

@@ -3,8 +3,6 @@ use borrow.Author.Tests.{ne-eqb}
 use borrow.Author.Needs.{needs}
 use Rattle.grammar.proofs.start_of.Statement.{statement}
 use Rattle.grammar.proofs.start_of.Tie as tie
-use Rattle.grammar.proofs.start_of.Reads as reads
-use Rattle.grammar.proofs.start_of.Lts as lts
 
 -- src/lib.rt:33:29
 enum-told : tie.Need-enum-told

@@ -2,10 +2,6 @@ use Rattle.grammar.proofs.Firsts.{word-here, word-past}
 use borrow.Author.Needs.{needs}
 use Rattle.grammar.proofs.word_at.Statement.{statement}
 use Rattle.grammar.proofs.word_at.Tie as tie
-use Rattle.grammar.proofs.word_at.Reads as reads
-use Rattle.grammar.proofs.word_at.Lts as lts
-use Rattle.grammar.proofs.word_of.Reads as word-of-reads
-use Rattle.tokens.proofs.token_at.Reads as token-at-reads
 
 -- src/lib.rt:97:17
 token-at-requires : tie.Need-token-at-requires

@@ -2,8 +2,6 @@ use Rattle.grammar.proofs.Firsts.{name-word}
 use borrow.Author.Needs.{needs}
 use Rattle.grammar.proofs.word_of.Statement.{statement}
 use Rattle.grammar.proofs.word_of.Tie as tie
-use Rattle.grammar.proofs.word_of.Reads as reads
-use Rattle.grammar.proofs.word_of.Lts as lts
 
 -- src/lib.rt:65:29
 enum-told : tie.Need-enum-told

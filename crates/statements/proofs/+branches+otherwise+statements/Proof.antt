@@ -23,19 +23,18 @@ use Rattle.statements.proofs.+branches+otherwise+statements.{statement}
 use Rattle.statements.proofs.+branches+otherwise+statements.Tie.{close}
 use borrow.Author.Needs.{needs}
 use native.Mathlib.Omega.{arith}
-use mathlib.Core.Path.{_≡_, refl, sym, ap, _∙_}
+use mathlib.Core.Path.{refl, sym, _∙_}
 use Rattle.tokens.specs.Token.{toks}
-use Rattle.syntax.specs.Program.{Ins, ins, insArg, storeOp, elseOp, endOp}
-use Rattle.expressions.specs.Reader.{reader, seq, sign}
-use Rattle.expressions.specs.Reader as E
+use Rattle.syntax.specs.Program.{ins, elseOp, endOp}
+use Rattle.expressions.specs.Reader.{seq}
 use Rattle.expressions.specs.Areas.{left, gone}
 use Rattle.expressions.proofs.Toks.{length-toks}
 use Rattle.expressions.proofs.Moves.{sign-in}
-use Rattle.expressions.proofs.Runs.{runs-seq, runs-sign, runs-emit, ready-sign, ready-place, ready-less, past-ready, past-sign, past-start}
+use Rattle.expressions.proofs.Runs.{runs-seq, runs-sign, runs-emit, ready-place, ready-less, past-ready, past-sign, past-start}
 use Rattle.statements.proofs.Past.{runs-to, past-took, past-first}
-use Rattle.statements.proofs.Ways.{start-in, start-past, statements-took, ready-expr, ready-at, statements-as, statements-stop, else-on, else-off}
+use Rattle.statements.proofs.Ways.{start-in, start-past, statements-took, ready-at, statements-as, statements-stop, else-on, else-off}
 use Rattle.grammar.specs.Reader as R
-use Rattle.grammar.specs.declared.Start.the-variants.{Name, Output, If, Stop}
+use Rattle.grammar.specs.declared.Start.the-variants.{Name, Output, If}
 use Rattle.grammar.proofs.Results.{sign-emit}
 use Rattle.grammar.proofs.Steps.{setTo-took, bracketed-took, branches-took}
 

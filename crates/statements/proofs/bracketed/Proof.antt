@@ -1,28 +1,14 @@
 use borrow.Author.Needs.{needs}
 use native.Mathlib.Omega.{arith}
-use mathlib.Core.Path.{_≡_, refl, sym, ap, _∙_}
 use Rattle.tokens.specs.Token.{toks}
-use Rattle.syntax.specs.Program.{Ins, ins, insArg, storeOp, elseOp, endOp}
+use Rattle.syntax.specs.Program.{ins}
 use Rattle.expressions.specs.Reader.{reader, seq, sign}
 use Rattle.expressions.specs.Reader as E
-use Rattle.expressions.specs.Areas.{left, gone}
-use Rattle.expressions.proofs.Toks.{length-toks}
-use Rattle.expressions.proofs.Moves.{sign-in}
-use Rattle.expressions.proofs.Runs.{runs-seq, runs-sign, runs-emit, ready-sign, ready-place, ready-less, past-ready, past-sign, past-start}
-use Rattle.statements.proofs.Past.{runs-to, past-took, past-first}
-use Rattle.statements.proofs.Ways.{start-in, start-past, statements-took, ready-expr, ready-at, statements-as, statements-stop, else-on, else-off}
-use Rattle.grammar.specs.Reader as R
-use Rattle.grammar.specs.declared.Start.the-variants.{Name, Output, If, Stop}
-use Rattle.grammar.proofs.Results.{sign-emit}
-use Rattle.grammar.proofs.Steps.{setTo-took, bracketed-took, branches-took}
+use Rattle.expressions.proofs.Runs.{runs-seq, runs-sign, runs-emit, ready-sign, ready-place, ready-less}
+use Rattle.statements.proofs.Ways.{ready-expr}
 use borrow.Author.Needs.{needs}
 use Rattle.statements.proofs.bracketed.Statement.{statement}
 use Rattle.statements.proofs.bracketed.Tie as tie
-use Rattle.statements.proofs.bracketed.Reads as reads
-use Rattle.statements.proofs.bracketed.Lts as lts
-use Rattle.expressions.proofs.emit.Reads as emit-reads
-use Rattle.expressions.proofs.expr.Reads as expr-reads
-use Rattle.expressions.proofs.pass.Reads as pass-reads
 
 pass-requires : tie.Need-pass-requires
 pass-requires c κs = search needs

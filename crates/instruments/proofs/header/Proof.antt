@@ -1,0 +1,56 @@
+use borrow.Author.Needs.{needs}
+use native.Mathlib.Omega.{arith}
+use Rattle.tokens.specs.Token.{toks}
+use Rattle.syntax.specs.Program.{instrOp}
+use Rattle.expressions.specs.Reader.{seq, sign}
+use Rattle.expressions.proofs.Runs.{runs-seq, runs-sign, ready-sign, ready-less}
+use Rattle.statements.proofs.Past.{ready-took}
+use Rattle.grammar.specs.Reader as R
+use Rattle.grammar.proofs.Steps.{name-took}
+use borrow.Author.Needs.{needs}
+use Rattle.instruments.proofs.header.Statement.{statement}
+use Rattle.instruments.proofs.header.Tie as tie
+
+name-requires : tie.Need-name-requires
+name-requires c κs = c .before .before .before .before .before .before .before .before .before .pre
+
+pass-requires : tie.Need-pass-requires
+pass-requires c κs = search needs
+
+fields-requires : tie.Need-fields-requires
+fields-requires c κs =
+    let T = toks (c .before .before .before .before .before .before .before .before .before .before .before .before .before .before .before .before .before .before .before .before .args .kinds .now) (c .before .before .before .before .before .before .before .before .before .before .before .before .before .before .before .before .before .before .before .before .args .words .now) (c .before .before .before .before .before .before .before .before .before .before .before .before .before .before .before .before .before .before .before .before .args .reals .now) in
+    let r₁ = ready-took 0 (name-took instrOp) (c .before .before .before .before .before .before .before .before .before .before .before .before .before .before .before .before .before .before .before .before .pre) (c .before .before .before .before .before .before .before .before .before .before .name .ensures) in
+    let r₂ = ready-sign 15 r₁ (c .before .before .before .pass .ensures) in
+    ready-less (omega arith) r₂
+
+pass-requires-2 : tie.Need-pass-requires-2
+pass-requires-2 c κs = search needs
+
+same-length : tie.Need-same-length
+same-length c = search needs
+
+same-length-2 : tie.Need-same-length-2
+same-length-2 c = search needs
+
+same-length-3 : tie.Need-same-length-3
+same-length-3 c = search needs
+
+returns : tie.Need-returns
+returns c =
+    let T = toks (c .before .before .before .before .before .before .before .before .before .before .before .before .before .before .before .before .before .before .before .before .before .before .before .before .before .before .before .before .args .kinds .now) (c .before .before .before .before .before .before .before .before .before .before .before .before .before .before .before .before .before .before .before .before .before .before .before .before .before .before .before .before .args .words .now) (c .before .before .before .before .before .before .before .before .before .before .before .before .before .before .before .before .before .before .before .before .before .before .before .before .before .before .before .before .args .reals .now) in
+    runs-seq (λ p. seq (sign 15 p) (λ q. seq (R.fields q) (sign 16))) (c .before .before .before .before .before .before .before .before .before .before .before .before .before .before .before .before .before .before .name .ensures)
+    (runs-seq (λ q. seq (R.fields q) (sign 16)) (runs-sign T 15 _ (c .before .before .before .before .before .before .before .before .before .before .before .pass .ensures)) (runs-seq (sign 16) (c .before .before .before .before .before .before .before .fields .ensures) (runs-sign T 16 _ (c .pass2 .ensures))))
+
+pub header-spec : {M : Type 1} → statement M
+header-spec =
+    tie.close
+    (tie.spec
+    name-requires
+    pass-requires
+    fields-requires
+    pass-requires-2
+    same-length
+    same-length-2
+    same-length-3
+    returns)

@@ -1,0 +1,32 @@
+use borrow.Author.Needs.{needs}
+use Rattle.tokens.specs.Token.{toks}
+use Rattle.expressions.specs.Reader.{sign}
+use Rattle.expressions.proofs.Runs.{runs-seq, runs-sign}
+use borrow.Author.Needs.{needs}
+use Rattle.instruments.proofs.listed.Statement.{statement}
+use Rattle.instruments.proofs.listed.Tie as tie
+
+names-requires : tie.Need-names-requires
+names-requires c κs = c .before .before .before .before .before .before .before .before .before .pre
+
+pass-requires : tie.Need-pass-requires
+pass-requires c κs = search needs
+
+same-length : tie.Need-same-length
+same-length c = search needs
+
+same-length-2 : tie.Need-same-length-2
+same-length-2 c = search needs
+
+same-length-3 : tie.Need-same-length-3
+same-length-3 c = search needs
+
+returns : tie.Need-returns
+returns c =
+    let T = toks (c .before .before .before .before .before .before .before .before .before .before .before .before .before .before .before .before .before .args .kinds .now) (c .before .before .before .before .before .before .before .before .before .before .before .before .before .before .before .before .before .args .words .now) (c .before .before .before .before .before .before .before .before .before .before .before .before .before .before .before .before .before .args .reals .now) in
+    runs-seq (sign 20) (c .before .before .before .before .before .before .before .names .ensures) (runs-sign T 20 _ (c .pass .ensures))
+
+pub listed-spec : {M : Type 1} → statement M
+listed-spec =
+    tie.close
+    (tie.spec names-requires pass-requires same-length same-length-2 same-length-3 returns)
