@@ -1,0 +1,206 @@
+-- Slots put into an area, one after the other. Assumes nothing.
+use Prim.Native.Nat.{ℕ, zero, suc, _+_, _*_, _/_, _<_, _≤_}
+use mathlib.Core.Path.{_≡_, refl, sym, ap, ap₂, _∙_, subst}
+use mathlib.Core.Bool.{Bool, true, false, cond, true≢false}
+use mathlib.Core.List.{List, [], _∷_, _++_, append-assoc, append-nil}
+use native.Mathlib.Numerals.{add-one}
+use native.Mathlib.Omega.{arith}
+use borrow.Author.Tests.{le-leb, lt-leb}
+use lib.ListN.{length, getD, take, drop, set, length-append, length-set}
+use lib.Seq.{paste, paste-zero, paste-suc, take-all, take-at, drop-drop, drop-append-add}
+use Rattle.answer.specs.Numbers.{isTaken}
+use Rattle.answer.specs.declared.Answer.{Answer}
+use Rattle.answer.specs.declared.Answer.the-variants.{Taken, NoRoom}
+use Rattle.answer.specs.declared.Answer.the-variants as answer
+use Rattle.score_line.specs.declared.Line.{Line}
+use Rattle.score_line.specs.declared.LineRead.{LineRead}
+use Rattle.line_writer.specs.Writing.{lineSlot}
+use Rattle.score.specs.Score.{Score, scoreOf, heard, firstOf, nextOf, walked}
+use Rattle.score.specs.declared.ScoreRead.{ScoreRead}
+use Rattle.score.specs.declared.Cursor.{Cursor}
+use Rattle.score.specs.declared.Step.{Step}
+use Rattle.score.proofs.Walk.{answered, ahead-first, ahead-left, walk-all}
+use Rattle.score_area.specs.Area.{areaWords, laid, decodedOf, areaAfter, Left, carried, SlotPut}
+
+-- ---- one slot, word by word
+
+module _ (old : List ℕ) (at : ℕ) (slot : List ℕ) where
+  pub record Putting (new : List ℕ) (i : ℕ) : Type 0 where
+    pub upto : i ≤ 18
+    pub same : length new ≡ length old
+    pub stands : new ≡ paste old at slot i
+
+  pub put-start : Putting old 0
+  put-start = record { upto = omega arith; same = refl; stands = paste-zero old at slot }
+
+  pub put-more : (new : List ℕ) (i : ℕ) → at + 18 ≤ length old → length slot ≡ 18 → Putting new i → i < 18 → Putting (set new (at + i) (getD slot i 0)) (i + 1)
+  put-more new i h l c k =
+      record {
+        upto = omega arith;
+        same = length-set new (at + i) (getD slot i 0) ∙ c .same;
+        stands =
+            ap (λ (x : List ℕ). set x (at + i) (getD slot i 0)) (c .stands) ∙ paste-suc old at slot i 0 (omega arith) (omega arith)
+            ∙ ap (λ (j : ℕ). paste old at slot j) (sym (add-one i));
+      }
+
+  pub put-end : (new : List ℕ) (i : ℕ) → length slot ≡ 18 → Putting new i → 18 ≤ i → SlotPut old at slot new
+  put-end new i l c k =
+      let e : i ≡ 18 = omega (arith, c .upto) in
+      record {
+        long = l;
+        stands =
+            c .stands ∙ ap (λ (j : ℕ). paste old at slot j) e ∙ append-assoc (take at old) (take 18 slot) (drop (at + 18) old)
+            ∙ ap (λ (x : List ℕ). take at old ++ (x ++ drop (at + 18) old)) (take-all 18 slot (omega arith));
+      }
+
+-- ---- the lines of a score
+
+-- the cursor after n steps
+abbrev pub after : List Bool → ℕ → Cursor → Cursor
+after bits zero c = c
+after bits (suc n) c = after bits n (nextOf bits c .rest)
+
+after-suc : (bits : List Bool) (n : ℕ) (c : Cursor) → after bits (suc n) c ≡ nextOf bits (after bits n c) .rest
+after-suc bits zero c = refl
+after-suc bits (suc n) c = after-suc bits n (nextOf bits c .rest)
+
+words-more : (bits : List Bool) (n : ℕ) (c : Cursor) → areaWords (walked bits (suc n) c) ≡ areaWords (walked bits n c) ++ lineSlot (nextOf bits (after bits n c) .line)
+unfolding areaWords walked
+words-more bits zero c = append-nil (lineSlot (nextOf bits c .line))
+words-more bits (suc n) c =
+    ap (λ (x : List ℕ). lineSlot (nextOf bits c .line) ++ x) (words-more bits n (nextOf bits c .rest))
+    ∙ sym (append-assoc (lineSlot (nextOf bits c .line)) (areaWords (walked bits n (nextOf bits c .rest))) (lineSlot (nextOf bits (after bits n (nextOf bits c .rest)) .line)))
+
+-- a slot right behind the words that were laid
+laid-more : (words slot old : List ℕ) (n : ℕ) → length words ≡ n → length slot ≡ 18 → take n (laid words old) ++ (slot ++ drop (n + 18) (laid words old)) ≡ laid (words ++ slot) old
+unfolding laid
+laid-more words slot old n e l =
+    let d : drop (n + 18) (words ++ drop (length words) old) ≡ drop (length (words ++ slot)) old =
+    ap (λ (k : ℕ). drop (k + 18) (words ++ drop (length words) old)) (sym e) ∙ drop-append-add words (drop (length words) old) 18 ∙ drop-drop 18 (length words) old
+    ∙ ap (λ (k : ℕ). drop k old) (ap (λ (k : ℕ). length words + k) (sym l) ∙ sym (length-append words slot)) in
+    ap₂ (λ (x y : List ℕ). x ++ (slot ++ y)) (take-at words (drop (length words) old) n e) d ∙ sym (append-assoc words slot (drop (length (words ++ slot)) old))
+
+module _ (bits : List Bool) (n : ℕ) (start : Cursor) (old : List ℕ) where
+  -- i lines stand in the area, and the cursor is past them
+  pub record Filled (new : List ℕ) (c : Cursor) (i : ℕ) : Type 0 where
+    pub upto : i ≤ n
+    pub same : length new ≡ length old
+    pub cursor : c ≡ after bits i start
+    pub long : length (areaWords (walked bits i start)) ≡ 18 * i
+    pub stands : new ≡ laid (areaWords (walked bits i start)) old
+
+  pub fill-start : Filled old start 0
+  unfolding laid areaWords walked
+  fill-start = record { upto = omega arith; same = refl; cursor = refl; long = refl; stands = refl }
+
+  pub fill-more : (new next slot : List ℕ) (c : Cursor) (i : ℕ) {s : Step} → Filled new c i → i < n → s ≡ nextOf bits c → slot ≡ lineSlot (s .line) → length next ≡ length new → SlotPut new (18 * i) slot next
+      → Filled next (s .rest) (i + 1)
+  fill-more new next slot c i f l e g k p =
+      let w = areaWords (walked bits i start) in
+      let cc-is : nextOf bits c ≡ nextOf bits (after bits i start) = ap (nextOf bits) (f .cursor) in
+      let slot-is : slot ≡ lineSlot (nextOf bits (after bits i start) .line) = g ∙ ap (λ (x : Step). lineSlot (x .line)) (e ∙ cc-is) in
+      let more : areaWords (walked bits (i + 1) start) ≡ w ++ slot = ap (λ (j : ℕ). areaWords (walked bits j start)) (add-one i) ∙ words-more bits i start ∙ ap (λ (x : List ℕ). w ++ x) (sym slot-is) in
+      record {
+        upto = omega arith;
+        same = k ∙ f .same;
+        cursor = ap (λ (x : Step). x .rest) (e ∙ cc-is) ∙ sym (ap (λ (j : ℕ). after bits j start) (add-one i) ∙ after-suc bits i start);
+        long = ap length more ∙ length-append w slot ∙ omega (arith, f .long, p .long);
+        stands =
+            p .stands ∙ ap (λ (x : List ℕ). take (18 * i) x ++ (slot ++ drop (18 * i + 18) x)) (f .stands) ∙ laid-more w slot old (18 * i) (f .long) (p .long)
+            ∙ ap (λ (x : List ℕ). laid x old) (sym more);
+      }
+
+  pub fill-end : (new : List ℕ) (c : Cursor) (i : ℕ) → Filled new c i → n ≤ i → new ≡ laid (areaWords (walked bits n start)) old
+  fill-end new c i f l = let e : i ≡ n = omega (arith, f .upto) in f .stands ∙ ap (λ (j : ℕ). laid (areaWords (walked bits j start)) old) e
+
+-- ---- the answers
+
+cond-true : {A : Type 0} {b : Bool} (x y : A) → b ≡ true → cond b x y ≡ x
+cond-true x y e = rw e
+
+cond-false : {A : Type 0} {b : Bool} (x y : A) → b ≡ false → cond b x y ≡ y
+cond-false x y e = rw e
+
+-- what a score that was read leaves, by its three ways
+module _ (s : Score) (old : List ℕ) where
+  pub left-refused : isTaken (s .answer) ≡ false → Left s old old (record { answer = s .answer; line = s .line; count = 0 })
+  unfolding decodedOf areaAfter
+  left-refused h = record { told = sym (cond-false _ _ h); area = sym (cond-false _ _ h) }
+
+  pub left-short : isTaken (s .answer) ≡ true → length old < 18 * length (s .lines) → Left s old old (record { answer = NoRoom; line = 0; count = 0 })
+  unfolding decodedOf areaAfter
+  left-short h k =
+      let e = lt-leb (18 * length (s .lines)) (length old) k in
+      record { told = sym (cond-true _ _ h ∙ cond-false _ _ e); area = sym (cond-true _ _ h ∙ cond-false _ _ e) }
+
+  pub left-taken : (new : List ℕ) → isTaken (s .answer) ≡ true → 18 * length (s .lines) ≤ length old → new ≡ laid (areaWords (s .lines)) old
+      → Left s old new (record { answer = Taken; line = 0; count = length (s .lines) })
+  unfolding decodedOf areaAfter
+  left-taken new h k n =
+      let e = le-leb (18 * length (s .lines)) (length old) k in
+      record { told = sym (cond-true _ _ h ∙ cond-true _ _ e); area = n ∙ sym (cond-true _ _ h ∙ cond-true _ _ e) }
+
+taken-is : (a : Answer) → isTaken a ≡ true → a ≡ Taken
+taken-is answer.Taken e = refl
+taken-is answer.CutShort e = absurd (true≢false (sym e))
+taken-is answer.NotCarried e = absurd (true≢false (sym e))
+taken-is answer.OutOfRange e = absurd (true≢false (sym e))
+taken-is answer.NoInstrument e = absurd (true≢false (sym e))
+taken-is answer.TooManyValues e = absurd (true≢false (sym e))
+taken-is answer.NoTime e = absurd (true≢false (sym e))
+taken-is answer.Late e = absurd (true≢false (sym e))
+taken-is answer.NoRoom e = absurd (true≢false (sym e))
+taken-is answer.Ended e = absurd (true≢false (sym e))
+taken-is answer.BlockLength e = absurd (true≢false (sym e))
+taken-is answer.LeftOver e = absurd (true≢false (sym e))
+taken-is answer.BadToken e = absurd (true≢false (sym e))
+taken-is answer.BadGrammar e = absurd (true≢false (sym e))
+taken-is answer.BadNames e = absurd (true≢false (sym e))
+taken-is answer.BadRates e = absurd (true≢false (sym e))
+taken-is answer.TooLarge e = absurd (true≢false (sym e))
+
+-- ---- a score
+
+module _ (bits : List Bool) (old : List ℕ) {r : ScoreRead} {b : Bool} (e : r ≡ heard (scoreOf bits)) (f : b ≡ isTaken (r .answer)) where
+  answer-is : isTaken (scoreOf bits .answer) ≡ b
+  answer-is = sym (f ∙ ap (λ (x : ScoreRead). isTaken (x .answer)) e)
+
+  pub score-refused : b ≡ false → Left (scoreOf bits) old old (record { answer = r .answer; line = r .line; count = 0 })
+  score-refused g = subst (λ (x : ScoreRead). Left (scoreOf bits) old old (record { answer = x .answer; line = x .line; count = 0 })) (sym e) (left-refused (scoreOf bits) old (answer-is ∙ g))
+
+  module _ (g : b ≡ true) {c : Cursor} (k : c ≡ firstOf bits) where
+    is-taken : scoreOf bits .answer ≡ Taken
+    is-taken = taken-is (scoreOf bits .answer) (answer-is ∙ g)
+
+    lines-are : length (scoreOf bits .lines) ≡ c .left
+    lines-are = ahead-left bits (firstOf bits) (scoreOf bits .lines) (ahead-first bits (scoreOf bits .lines) (answered bits is-taken)) ∙ sym (ap (λ (x : Cursor). x .left) k)
+
+    pub score-short : length old / 18 < c .left → Left (scoreOf bits) old old (record { answer = NoRoom; line = 0; count = 0 })
+    score-short h = left-short (scoreOf bits) old (answer-is ∙ g) (omega (arith, lines-are))
+
+    pub score-taken : (new : List ℕ) → c .left ≤ length old / 18 → new ≡ laid (areaWords (walked bits (c .left) c)) old → Left (scoreOf bits) old new (record { answer = Taken; line = 0; count = c .left })
+    score-taken new h n =
+        subst (λ (j : ℕ). Left (scoreOf bits) old new (record { answer = Taken; line = 0; count = j })) lines-are
+        (left-taken (scoreOf bits) old new (answer-is ∙ g) (omega (arith, lines-are))
+        (n ∙ ap (λ (ls : List Line). laid (areaWords ls) old) (ap (λ (x : Cursor). walked bits (x .left) x) k ∙ walk-all bits is-taken)))
+
+-- ---- an access unit
+
+module _ (u : LineRead) (old : List ℕ) {r : LineRead} {b : Bool} (e : r ≡ u) (f : b ≡ isTaken (r .answer)) where
+  unit-is : isTaken (carried u .answer) ≡ b
+  unfolding carried
+  unit-is = sym (f ∙ ap (λ (x : LineRead). isTaken (x .answer)) e)
+
+  pub unit-refused : b ≡ false → Left (carried u) old old (record { answer = r .answer; line = 0; count = 0 })
+  unfolding carried
+  unit-refused g = subst (λ (x : LineRead). Left (carried u) old old (record { answer = x .answer; line = 0; count = 0 })) (sym e) (left-refused (carried u) old (unit-is ∙ g))
+
+  pub unit-short : b ≡ true → length old < 18 → Left (carried u) old old (record { answer = NoRoom; line = 0; count = 0 })
+  unfolding carried
+  unit-short g h = left-short (carried u) old (unit-is ∙ g) h
+
+  pub unit-taken : (slot new : List ℕ) → b ≡ true → 18 ≤ length old → slot ≡ lineSlot (r .line) → SlotPut old 0 slot new → Left (carried u) old new (record { answer = Taken; line = 0; count = 1 })
+  unfolding carried areaWords laid
+  unit-taken slot new g h k p =
+      let w : slot ≡ areaWords (u .line ∷ []) = k ∙ ap (λ (x : LineRead). lineSlot (x .line)) e ∙ sym (append-nil (lineSlot (u .line))) in
+      left-taken (carried u) old new (unit-is ∙ g) h (p .stands ∙ ap (λ (n : ℕ). slot ++ drop n old) (sym (p .long)) ∙ ap (λ (x : List ℕ). x ++ drop (length x) old) w)

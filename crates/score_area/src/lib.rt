@@ -1,0 +1,104 @@
+// Scores and access units decoded into a lent area of words, 18 to a line (document 01: "decoded on its own").
+use answer::Answer;
+use score::Cursor;
+ghost use mathlib.Core.Path.{_≡_};
+ghost use Prim.Native.Nat.{_+_, _*_, _≤_};
+ghost use lib.ListN.{length};
+ghost use Rattle.bitstream.specs.Bits.{bitsOf};
+ghost use Rattle.score.specs.Score.{scoreOf, unitOf, walked};
+ghost use Rattle.score_area.specs.Area.{areaWords, laid, carried, SlotPut, Left};
+
+// What decoding gives: the answer, the number of the line that it is about, and how many lines stand in the area.
+pub struct Decoded {
+    pub answer: Answer,
+    pub line: usize,
+    pub count: usize,
+}
+
+// Puts the 18 words of a line into the area at a position.
+fn put_slot(area: &mut [u32], at: usize, slot: [u32; 18])
+    requires { ⌜ at + 18 ≤ length (now area) ⌝ }
+    ensures { λ _. ⌜ SlotPut (now (area .entry)) at slot (now (area .exit)) ⌝ }
+{
+    let mut i: usize = 0;
+    while i < 18 {
+        area[at + i] = slot[i];
+        i += 1;
+    }
+}
+
+// Puts the lines from a cursor on into the area, from its start on.
+fn fill(bytes: &[u8], area: &mut [u32], start: Cursor)
+    requires { ⌜ 18 * start .left ≤ length (now area) ⌝ }
+    ensures { λ _. ⌜ now (area .exit) ≡ laid (areaWords (walked (bitsOf (now (bytes .entry))) (start .left) start)) (now (area .entry)) ⌝ }
+{
+    let n = start.left;
+    let mut c = start;
+    let mut i: usize = 0;
+    while i < n {
+        let step = score::next(bytes, c);
+        let line = step.line;
+        put_slot(area, 18 * i, line_writer::line_slot(line));
+        c = step.rest;
+        i += 1;
+    }
+}
+
+// A score's lines into the area: the same reading, then 8 where the area is too short. On refusal no word changes.
+pub fn decode_score(bytes: &[u8], area: &mut [u32]) -> Decoded
+    ensures { λ r. ⌜ Left (scoreOf (bitsOf (now (bytes .entry)))) (now (area .entry)) (now (area .exit)) r ⌝ }
+{
+    let read = score::read_score(bytes);
+    let answer = read.answer;
+    if answer::is_taken(answer) {
+        let start = score::first(bytes);
+        let count = start.left;
+        if count <= area.len() / 18 {
+            fill(bytes, area, start);
+            return Decoded {
+                answer: Answer::Taken,
+                line: 0,
+                count: count,
+            };
+        }
+        return Decoded {
+            answer: Answer::NoRoom,
+            line: 0,
+            count: 0,
+        };
+    }
+    Decoded {
+        answer: answer,
+        line: read.line,
+        count: 0,
+    }
+}
+
+// An access unit's line into the area, by the same rules.
+pub fn decode_unit(bytes: &[u8], area: &mut [u32]) -> Decoded
+    ensures { λ r. ⌜ Left (carried (unitOf (bitsOf (now (bytes .entry))))) (now (area .entry)) (now (area .exit)) r ⌝ }
+{
+    let read = score::read_unit(bytes);
+    let answer = read.answer;
+    if answer::is_taken(answer) {
+        if 18 <= area.len() {
+            let line = read.line;
+            put_slot(area, 0, line_writer::line_slot(line));
+            return Decoded {
+                answer: Answer::Taken,
+                line: 0,
+                count: 1,
+            };
+        }
+        return Decoded {
+            answer: Answer::NoRoom,
+            line: 0,
+            count: 0,
+        };
+    }
+    Decoded {
+        answer: answer,
+        line: 0,
+        count: 0,
+    }
+}
