@@ -7,3 +7,4 @@ pub mod Sound
 pub mod Unique
 pub mod Runs
 pub mod Ways
+pub mod Examples

@@ -56,21 +56,34 @@ module _ (t : ℕ) where
 
   declarations-add-t16 : declarations-lts.Need-add-t16 K-declarations (declarations-at t) declarations.Post
   declarations-add-t16 c =
-      let T = toks (c .before .before .before .before .before .before .before .before .before .before .before .before .before .args .kinds .now) (c .before .before .before .before .before .before .before .before .before .before .before .before .before .args .words .now) (c .before .before .before .before .before .before .before .before .before .before .before .before .before .args .reals .now) in
-      let h = lead-in T (c .before .before .before .before .before .got .given .0 .0) (c .before .before .before .lead-at .ensures) (c .before .k .given .1) tt in
-      omega (arith, length-toks (c .before .before .before .before .before .before .before .before .before .before .before .before .before .args .kinds .now) (c .before .before .before .before .before .before .before .before .before .before .before .before .before .args .words .now) (c .before .before .before .before .before .before .before .before .before .before .before .before .before .args .reals .now), c .before .before .before .before .before .before .before .before .before .before .before .before .before .good .0 .0)
+      let c₁ = c .before in
+      let c₂ = c₁ .before .before in
+      let c₃ = c₂ .before .before in
+      let s = c₃ .before .before .before .before .before .before .before .before in
+      let T = toks (s .args .kinds .now) (s .args .words .now) (s .args .reals .now) in
+      let h = lead-in T (c₃ .got .given .0 .0) (c₂ .lead-at .ensures) (c₁ .k .given .1) tt in
+      omega (arith, length-toks (s .args .kinds .now) (s .args .words .now) (s .args .reals .now), s .good .0 .0)
 
   declarations-listed-requires : declarations-lts.Need-listed-requires K-declarations (declarations-at t) declarations.Post
   declarations-listed-requires c κs =
-      let T = toks (c .before .before .before .before .before .before .before .before .before .before .before .before .before .before .before .before .args .kinds .now) (c .before .before .before .before .before .before .before .before .before .before .before .before .before .before .before .before .args .words .now) (c .before .before .before .before .before .before .before .before .before .before .before .before .before .before .before .before .args .reals .now) in
-      let p₀ = lead-past T (c .before .before .before .before .before .before .before .before .got .given .0 .0) (c .before .before .before .before .before .before .before .before .before .before .before .before .before .before .before .before .pre .1) (c .before .before .before .before .before .before .before .before .before .before .before .before .before .before .before .before .pre .0) (c .before .before .before .before .before .before .before .before .got .given .1) (c .before .before .before .before .before .before .lead-at .ensures) (c .before .before .before .before .k .given .1) tt in
+      let c₁ = c .before .before .before .before in
+      let c₂ = c₁ .before .before in
+      let c₃ = c₂ .before .before in
+      let s = c₃ .before .before .before .before .before .before .before .before in
+      let T = toks (s .args .kinds .now) (s .args .words .now) (s .args .reals .now) in
+      let p₀ = lead-past T (c₃ .got .given .0 .0) (s .pre .1) (s .pre .0) (c₃ .got .given .1) (c₂ .lead-at .ensures) (c₁ .k .given .1) tt in
       past-ready p₀
 
   declarations-declarations-requires : declarations-lts.Need-declarations-requires K-declarations (declarations-at t) declarations.Post
   declarations-declarations-requires c κs =
-      let T = toks (c .before .before .before .before .before .before .before .before .before .before .before .before .before .before .before .before .before .before .before .before .before .before .before .before .before .before .args .kinds .now) (c .before .before .before .before .before .before .before .before .before .before .before .before .before .before .before .before .before .before .before .before .before .before .before .before .before .before .args .words .now) (c .before .before .before .before .before .before .before .before .before .before .before .before .before .before .before .before .before .before .before .before .before .before .before .before .before .before .args .reals .now) in
-      let p₀ = lead-past T (c .before .before .before .before .before .before .before .before .before .before .before .before .before .before .before .before .before .before .got .given .0 .0) (c .before .before .before .before .before .before .before .before .before .before .before .before .before .before .before .before .before .before .before .before .before .before .before .before .before .before .pre .1) (c .before .before .before .before .before .before .before .before .before .before .before .before .before .before .before .before .before .before .before .before .before .before .before .before .before .before .pre .0) (c .before .before .before .before .before .before .before .before .before .before .before .before .before .before .before .before .before .before .got .given .1) (c .before .before .before .before .before .before .before .before .before .before .before .before .before .before .before .before .lead-at .ensures) (c .before .before .before .before .before .before .before .before .before .before .before .before .before .before .k .given .1) tt in
-      let p₁ = past-took 1 (listed-took (c .before .before .before .before .before .before .before .before .before .before .before .before .before .before .k .given .0 .0)) p₀ (c .before .before .before .before .before .before .before .before .before .listed .ensures) in
+      let c₁ = c .before .before .before .before .before .before .before .before .before in
+      let c₂ = c₁ .before .before .before .before .before in
+      let c₃ = c₂ .before .before in
+      let c₄ = c₃ .before .before in
+      let s = c₄ .before .before .before .before .before .before .before .before in
+      let T = toks (s .args .kinds .now) (s .args .words .now) (s .args .reals .now) in
+      let p₀ = lead-past T (c₄ .got .given .0 .0) (s .pre .1) (s .pre .0) (c₄ .got .given .1) (c₃ .lead-at .ensures) (c₂ .k .given .1) tt in
+      let p₁ = past-took 1 (listed-took (c₂ .k .given .0 .0)) p₀ (c₁ .listed .ensures) in
       (p₁ .less, past-ready p₁)
 
   declarations-enum-told-2 : declarations-lts.Need-enum-told-2 K-declarations (declarations-at t) declarations.Post
@@ -78,26 +91,40 @@ module _ (t : ℕ) where
 
   declarations-add-t30 : declarations-lts.Need-add-t30 K-declarations (declarations-at t) declarations.Post
   declarations-add-t30 c =
-      let T = toks (c .before .before .before .before .before .before .before .before .before .before .before .before .args .kinds .now) (c .before .before .before .before .before .before .before .before .before .before .before .before .args .words .now) (c .before .before .before .before .before .before .before .before .before .before .before .before .args .reals .now) in
-      let h = lead-in T (c .before .before .before .before .got .given .0 .0) (c .before .before .lead-at .ensures) (c .enum-told2 .given .1) tt in
-      omega (arith, length-toks (c .before .before .before .before .before .before .before .before .before .before .before .before .args .kinds .now) (c .before .before .before .before .before .before .before .before .before .before .before .before .args .words .now) (c .before .before .before .before .before .before .before .before .before .before .before .before .args .reals .now), c .before .before .before .before .before .before .before .before .before .before .before .before .good .0 .0)
+      let c₁ = c .before .before in
+      let c₂ = c₁ .before .before in
+      let s = c₂ .before .before .before .before .before .before .before .before in
+      let T = toks (s .args .kinds .now) (s .args .words .now) (s .args .reals .now) in
+      let h = lead-in T (c₂ .got .given .0 .0) (c₁ .lead-at .ensures) (c .enum-told2 .given .1) tt in
+      omega (arith, length-toks (s .args .kinds .now) (s .args .words .now) (s .args .reals .now), s .good .0 .0)
 
   declarations-pass-requires : declarations-lts.Need-pass-requires K-declarations (declarations-at t) declarations.Post
   declarations-pass-requires c κs = search needs
 
   declarations-listed-requires-2 : declarations-lts.Need-listed-requires-2 K-declarations (declarations-at t) declarations.Post
   declarations-listed-requires-2 c κs =
-      let T = toks (c .before .before .before .before .before .before .before .before .before .before .before .before .before .before .before .before .args .kinds .now) (c .before .before .before .before .before .before .before .before .before .before .before .before .before .before .before .before .args .words .now) (c .before .before .before .before .before .before .before .before .before .before .before .before .before .before .before .before .args .reals .now) in
-      let p₀ = lead-past T (c .before .before .before .before .before .before .before .before .got .given .0 .0) (c .before .before .before .before .before .before .before .before .before .before .before .before .before .before .before .before .pre .1) (c .before .before .before .before .before .before .before .before .before .before .before .before .before .before .before .before .pre .0) (c .before .before .before .before .before .before .before .before .got .given .1) (c .before .before .before .before .before .before .lead-at .ensures) (c .before .before .before .before .enum-told2 .given .1) tt in
-      let p₁ = past-sign 3 p₀ (c .before .before .before .pass .ensures) in
+      let c₁ = c .before .before .before in
+      let c₂ = c₁ .before in
+      let c₃ = c₂ .before .before in
+      let c₄ = c₃ .before .before in
+      let s = c₄ .before .before .before .before .before .before .before .before in
+      let T = toks (s .args .kinds .now) (s .args .words .now) (s .args .reals .now) in
+      let p₀ = lead-past T (c₄ .got .given .0 .0) (s .pre .1) (s .pre .0) (c₄ .got .given .1) (c₃ .lead-at .ensures) (c₂ .enum-told2 .given .1) tt in
+      let p₁ = past-sign 3 p₀ (c₁ .pass .ensures) in
       past-ready p₁
 
   declarations-declarations-requires-2 : declarations-lts.Need-declarations-requires-2 K-declarations (declarations-at t) declarations.Post
   declarations-declarations-requires-2 c κs =
-      let T = toks (c .before .before .before .before .before .before .before .before .before .before .before .before .before .before .before .before .before .before .before .before .before .before .before .before .before .before .args .kinds .now) (c .before .before .before .before .before .before .before .before .before .before .before .before .before .before .before .before .before .before .before .before .before .before .before .before .before .before .args .words .now) (c .before .before .before .before .before .before .before .before .before .before .before .before .before .before .before .before .before .before .before .before .before .before .before .before .before .before .args .reals .now) in
-      let p₀ = lead-past T (c .before .before .before .before .before .before .before .before .before .before .before .before .before .before .before .before .before .before .got .given .0 .0) (c .before .before .before .before .before .before .before .before .before .before .before .before .before .before .before .before .before .before .before .before .before .before .before .before .before .before .pre .1) (c .before .before .before .before .before .before .before .before .before .before .before .before .before .before .before .before .before .before .before .before .before .before .before .before .before .before .pre .0) (c .before .before .before .before .before .before .before .before .before .before .before .before .before .before .before .before .before .before .got .given .1) (c .before .before .before .before .before .before .before .before .before .before .before .before .before .before .before .before .lead-at .ensures) (c .before .before .before .before .before .before .before .before .before .before .before .before .before .before .enum-told2 .given .1) tt in
-      let p₁ = past-sign 3 p₀ (c .before .before .before .before .before .before .before .before .before .before .before .before .before .pass .ensures) in
-      let p₂ = past-took 1 (listed-took importsKind) p₁ (c .before .before .before .before .before .before .before .before .before .listed2 .ensures) in
+      let c₁ = c .before .before .before .before .before .before .before .before .before in
+      let c₂ = c₁ .before .before .before .before in
+      let c₃ = c₂ .before in
+      let c₄ = c₃ .before .before in
+      let c₅ = c₄ .before .before in
+      let s = c₅ .before .before .before .before .before .before .before .before in
+      let T = toks (s .args .kinds .now) (s .args .words .now) (s .args .reals .now) in
+      let p₀ = lead-past T (c₅ .got .given .0 .0) (s .pre .1) (s .pre .0) (c₅ .got .given .1) (c₄ .lead-at .ensures) (c₃ .enum-told2 .given .1) tt in
+      let p₁ = past-sign 3 p₀ (c₂ .pass .ensures) in
+      let p₂ = past-took 1 (listed-took importsKind) p₁ (c₁ .listed2 .ensures) in
       (p₂ .less, past-ready p₂)
 
   declarations-enum-told-3 : declarations-lts.Need-enum-told-3 K-declarations (declarations-at t) declarations.Post
@@ -114,9 +141,15 @@ module _ (t : ℕ) where
 
   declarations-returns-2 : declarations-lts.Need-returns-2 K-declarations (declarations-at t) declarations.Post
   declarations-returns-2 c =
-      let T = toks (c .before .before .before .before .before .before .before .before .before .before .before .before .before .before .before .before .before .before .before .before .before .before .before .before .before .before .before .before .before .before .before .before .before .args .kinds .now) (c .before .before .before .before .before .before .before .before .before .before .before .before .before .before .before .before .before .before .before .before .before .before .before .before .before .before .before .before .before .before .before .before .before .args .words .now) (c .before .before .before .before .before .before .before .before .before .before .before .before .before .before .before .before .before .before .before .before .before .before .before .before .before .before .before .before .before .before .before .before .before .args .reals .now) in
-      declarations-as T (c .before .before .before .before .before .before .before .before .before .before .before .before .before .before .before .before .before .before .before .before .before .before .before .before .before .got .given .0 .0) (Kind (c .before .before .before .before .before .before .before .before .before .before .before .before .before .before .before .before .before .before .before .before .before .k .given .0 .0)) (λ z. seq (R.listed (c .before .before .before .before .before .before .before .before .before .before .before .before .before .before .before .before .before .before .before .before .before .k .given .0 .0) z) R.declarations) (λ z. refl) (c .before .before .before .before .before .before .before .before .before .before .before .before .before .before .before .before .before .before .before .before .before .before .before .before .before .got .given .1) (c .before .before .before .before .before .before .before .before .before .before .before .before .before .before .before .before .before .before .before .before .before .before .before .lead-at .ensures) (c .before .before .before .before .before .before .before .before .before .before .before .before .before .before .before .before .before .before .before .before .before .k .given .1)
-      (runs-seq R.declarations (c .before .before .before .before .before .before .before .before .before .before .before .before .before .before .before .before .listed .ensures) (c .before .before .before .before .before .before .declarations .ensures))
+      let c₁ = c .before .before .before .before .before .before in
+      let c₂ = c₁ .before .before .before .before .before .before .before .before .before .before in
+      let c₃ = c₂ .before .before .before .before .before in
+      let c₄ = c₃ .before .before in
+      let c₅ = c₄ .before .before in
+      let s = c₅ .before .before .before .before .before .before .before .before in
+      let T = toks (s .args .kinds .now) (s .args .words .now) (s .args .reals .now) in
+      declarations-as T (c₅ .got .given .0 .0) (Kind (c₃ .k .given .0 .0)) (λ z. seq (R.listed (c₃ .k .given .0 .0) z) R.declarations) (λ z. refl) (c₅ .got .given .1) (c₄ .lead-at .ensures) (c₃ .k .given .1)
+      (runs-seq R.declarations (c₂ .listed .ensures) (c₁ .declarations .ensures))
 
   declarations-same-length-4 : declarations-lts.Need-same-length-4 K-declarations (declarations-at t) declarations.Post
   declarations-same-length-4 c = search needs
@@ -129,14 +162,24 @@ module _ (t : ℕ) where
 
   declarations-returns-3 : declarations-lts.Need-returns-3 K-declarations (declarations-at t) declarations.Post
   declarations-returns-3 c =
-      let T = toks (c .before .before .before .before .before .before .before .before .before .before .before .before .before .before .before .before .before .before .before .before .before .before .before .before .before .before .before .before .before .before .before .before .before .args .kinds .now) (c .before .before .before .before .before .before .before .before .before .before .before .before .before .before .before .before .before .before .before .before .before .before .before .before .before .before .before .before .before .before .before .before .before .args .words .now) (c .before .before .before .before .before .before .before .before .before .before .before .before .before .before .before .before .before .before .before .before .before .before .before .before .before .before .before .before .before .before .before .before .before .args .reals .now) in
-      declarations-as T (c .before .before .before .before .before .before .before .before .before .before .before .before .before .before .before .before .before .before .before .before .before .before .before .before .before .got .given .0 .0) Imports (λ z. seq (sign 3 z) (λ p. seq (R.listed importsKind p) R.declarations)) (λ z. refl) (c .before .before .before .before .before .before .before .before .before .before .before .before .before .before .before .before .before .before .before .before .before .before .before .before .before .got .given .1) (c .before .before .before .before .before .before .before .before .before .before .before .before .before .before .before .before .before .before .before .before .before .before .before .lead-at .ensures) (c .before .before .before .before .before .before .before .before .before .before .before .before .before .before .before .before .before .before .before .before .before .enum-told2 .given .1)
-      (runs-seq (λ p. seq (R.listed importsKind p) R.declarations) (runs-sign T 3 _ (c .before .before .before .before .before .before .before .before .before .before .before .before .before .before .before .before .before .before .before .before .pass .ensures)) (runs-seq R.declarations (c .before .before .before .before .before .before .before .before .before .before .before .before .before .before .before .before .listed2 .ensures) (c .before .before .before .before .before .before .declarations2 .ensures)))
+      let c₁ = c .before .before .before .before .before .before in
+      let c₂ = c₁ .before .before .before .before .before .before .before .before .before .before in
+      let c₃ = c₂ .before .before .before .before in
+      let c₄ = c₃ .before in
+      let c₅ = c₄ .before .before in
+      let c₆ = c₅ .before .before in
+      let s = c₆ .before .before .before .before .before .before .before .before in
+      let T = toks (s .args .kinds .now) (s .args .words .now) (s .args .reals .now) in
+      declarations-as T (c₆ .got .given .0 .0) Imports (λ z. seq (sign 3 z) (λ p. seq (R.listed importsKind p) R.declarations)) (λ z. refl) (c₆ .got .given .1) (c₅ .lead-at .ensures) (c₄ .enum-told2 .given .1)
+      (runs-seq (λ p. seq (R.listed importsKind p) R.declarations) (runs-sign T 3 _ (c₃ .pass .ensures)) (runs-seq R.declarations (c₂ .listed2 .ensures) (c₁ .declarations2 .ensures)))
 
   declarations-returns-4 : declarations-lts.Need-returns-4 K-declarations (declarations-at t) declarations.Post
   declarations-returns-4 c =
-      let T = toks (c .before .before .before .before .before .before .before .before .before .before .before .before .args .kinds .now) (c .before .before .before .before .before .before .before .before .before .before .before .before .args .words .now) (c .before .before .before .before .before .before .before .before .before .before .before .before .args .reals .now) in
-      declarations-stop T (c .before .before .before .before .got .given .0 .0) (c .before .before .before .before .before .before .before .before .before .before .before .before .pre .1) (c .before .before .before .before .got .given .1) (c .before .before .lead-at .ensures) (c .enum-told3 .given .1)
+      let c₁ = c .before .before in
+      let c₂ = c₁ .before .before in
+      let s = c₂ .before .before .before .before .before .before .before .before in
+      let T = toks (s .args .kinds .now) (s .args .words .now) (s .args .reals .now) in
+      declarations-stop T (c₂ .got .given .0 .0) (s .pre .1) (c₂ .got .given .1) (c₁ .lead-at .ensures) (c .enum-told3 .given .1)
 
 pub +declarations-spec : {M : Type 1} → statement M
 +declarations-spec =

@@ -51,12 +51,17 @@ module _ (t : ℕ) where
   instruments-same-length-3 c = search needs
 
   instruments-returns : instruments-lts.Need-returns K-instruments (instruments-at t) instruments.Post
-  instruments-returns c = last-no (c .before .before .before .before .before .before .before .before .instrument .ensures) (c .enum-told .given .1)
+  instruments-returns c =
+      let c₁ = c .before .before .before .before .before .before .before .before in
+      last-no (c₁ .instrument .ensures) (c .enum-told .given .1)
 
   instruments-instruments-requires : instruments-lts.Need-instruments-requires K-instruments (instruments-at t) instruments.Post
   instruments-instruments-requires c κs =
-      let T = toks (c .before .before .before .before .before .before .before .before .before .before .before .before .before .before .before .before .before .before .before .before .before .before .before .args .kinds .now) (c .before .before .before .before .before .before .before .before .before .before .before .before .before .before .before .before .before .before .before .before .before .before .before .args .words .now) (c .before .before .before .before .before .before .before .before .before .before .before .before .before .before .before .before .before .before .before .before .before .before .before .args .reals .now) in
-      let p = past-first 4 instrument-took (c .before .before .before .before .before .before .before .before .before .before .before .before .before .before .before .before .before .before .before .before .before .before .before .pre .1) (c .before .before .before .before .before .before .before .before .before .before .before .before .before .before .before .before .before .before .before .before .before .before .before .pre .0) (runs-to (c .before .before .before .before .before .a .given .1) (c .before .before .before .before .before .before .before .before .before .before .before .before .before .instrument .ensures)) refl in
+      let c₁ = c .before .before .before .before .before in
+      let c₂ = c₁ .before .before .before .before .before .before .before .before in
+      let s = c₂ .before .before .before .before .before .before .before .before .before .before in
+      let T = toks (s .args .kinds .now) (s .args .words .now) (s .args .reals .now) in
+      let p = past-first 4 instrument-took (s .pre .1) (s .pre .0) (runs-to (c₁ .a .given .1) (c₂ .instrument .ensures)) refl in
       (p .less, past-ready p)
 
   instruments-same-length-4 : instruments-lts.Need-same-length-4 K-instruments (instruments-at t) instruments.Post
@@ -70,8 +75,13 @@ module _ (t : ℕ) where
 
   instruments-returns-2 : instruments-lts.Need-returns-2 K-instruments (instruments-at t) instruments.Post
   instruments-returns-2 c =
-      let T = toks (c .before .before .before .before .before .before .before .before .before .before .before .before .before .before .before .before .before .before .before .before .before .before .before .before .before .before .before .before .before .before .args .kinds .now) (c .before .before .before .before .before .before .before .before .before .before .before .before .before .before .before .before .before .before .before .before .before .before .before .before .before .before .before .before .before .before .args .words .now) (c .before .before .before .before .before .before .before .before .before .before .before .before .before .before .before .before .before .before .before .before .before .before .before .before .before .before .before .before .before .before .args .reals .now) in
-      others-follow T (c .before .before .before .before .before .before .before .before .before .before .before .before .a .given .0 .0) (c .before .before .before .before .before .before .before .before .before .before .before .before .before .before .before .before .before .before .before .before .instrument .ensures) (c .before .before .before .before .before .before .before .before .before .before .before .before .a .given .1) (rw (length-toks (c .before .before .before .before .before .before .before .before .before .before .before .before .before .before .before .before .before .before .before .before .before .before .before .before .before .before .before .before .before .before .args .kinds .now) (c .before .before .before .before .before .before .before .before .before .before .before .before .before .before .before .before .before .before .before .before .before .before .before .before .before .before .before .before .before .before .args .words .now) (c .before .before .before .before .before .before .before .before .before .before .before .before .before .before .before .before .before .before .before .before .before .before .before .before .before .before .before .before .before .before .args .reals .now)) (c .before .before .before .before .before .before .before .before .before .before .if1 .taken)) (c .before .before .before .before .before .before .instruments .ensures)
+      let c₁ = c .before .before .before .before .before .before in
+      let c₂ = c₁ .before .before .before .before in
+      let c₃ = c₂ .before .before in
+      let c₄ = c₃ .before .before .before .before .before .before .before .before in
+      let s = c₄ .before .before .before .before .before .before .before .before .before .before in
+      let T = toks (s .args .kinds .now) (s .args .words .now) (s .args .reals .now) in
+      others-follow T (c₃ .a .given .0 .0) (c₄ .instrument .ensures) (c₃ .a .given .1) (rw (length-toks (s .args .kinds .now) (s .args .words .now) (s .args .reals .now)) (c₂ .if1 .taken)) (c₁ .instruments .ensures)
 
   instruments-same-length-7 : instruments-lts.Need-same-length-7 K-instruments (instruments-at t) instruments.Post
   instruments-same-length-7 c = search needs
@@ -84,8 +94,11 @@ module _ (t : ℕ) where
 
   instruments-returns-3 : instruments-lts.Need-returns-3 K-instruments (instruments-at t) instruments.Post
   instruments-returns-3 c =
-      let T = toks (c .before .before .before .before .before .before .before .before .before .before .before .before .before .before .before .before .before .before .before .before .args .kinds .now) (c .before .before .before .before .before .before .before .before .before .before .before .before .before .before .before .before .before .before .before .before .args .words .now) (c .before .before .before .before .before .before .before .before .before .before .before .before .before .before .before .before .before .before .before .before .args .reals .now) in
-      last-one T (c .before .before .a .given .0 .0) (c .before .before .before .before .before .before .before .before .before .before .instrument .ensures) (c .before .before .a .given .1) (c .before .before .before .before .before .before .before .before .before .before .before .before .before .before .before .before .before .before .before .before .pre .1) (rw (length-toks (c .before .before .before .before .before .before .before .before .before .before .before .before .before .before .before .before .before .before .before .before .args .kinds .now) (c .before .before .before .before .before .before .before .before .before .before .before .before .before .before .before .before .before .before .before .before .args .words .now) (c .before .before .before .before .before .before .before .before .before .before .before .before .before .before .before .before .before .before .before .before .args .reals .now)) (c .if1 .left))
+      let c₁ = c .before .before in
+      let c₂ = c₁ .before .before .before .before .before .before .before .before in
+      let s = c₂ .before .before .before .before .before .before .before .before .before .before in
+      let T = toks (s .args .kinds .now) (s .args .words .now) (s .args .reals .now) in
+      last-one T (c₁ .a .given .0 .0) (c₂ .instrument .ensures) (c₁ .a .given .1) (s .pre .1) (rw (length-toks (s .args .kinds .now) (s .args .words .now) (s .args .reals .now)) (c .if1 .left))
 
 pub +instruments-spec : {M : Type 1} → statement M
 +instruments-spec =

@@ -52,21 +52,32 @@ module _ (t : ℕ) where
   names-same-length-3 c = search needs
 
   names-returns : names-lts.Need-returns K-names (names-at t) names.Post
-  names-returns c = names-no (c .before .before .before .before .before .before .before .before .before .before .before .before .before .before .before .before .before .before .args .kind) (c .before .before .before .before .before .before .before .before .name .ensures) (c .enum-told .given .1)
+  names-returns c =
+      let c₁ = c .before .before .before .before .before .before .before .before in
+      let s = c₁ .before .before .before .before .before .before .before .before .before .before in
+      names-no (s .args .kind) (c₁ .name .ensures) (c .enum-told .given .1)
 
   names-sign-at-requires : names-lts.Need-sign-at-requires K-names (names-at t) names.Post
   names-sign-at-requires c κs = search needs
 
   names-add-t20 : names-lts.Need-add-t20 K-names (names-at t) names.Post
   names-add-t20 c =
-      let T = toks (c .before .before .before .before .before .before .before .before .before .before .before .before .before .before .before .before .before .before .before .before .before .args .kinds .now) (c .before .before .before .before .before .before .before .before .before .before .before .before .before .before .before .before .before .before .before .before .before .args .words .now) (c .before .before .before .before .before .before .before .before .before .before .before .before .before .before .before .before .before .before .before .before .before .args .reals .now) in
-      let h = sign-in T (c .before .before .before .a .given .0 .0) 19 (sym (c .before .sign-at .ensures) ∙ c .if1 .taken) in
-      omega (arith, length-toks (c .before .before .before .before .before .before .before .before .before .before .before .before .before .before .before .before .before .before .before .before .before .args .kinds .now) (c .before .before .before .before .before .before .before .before .before .before .before .before .before .before .before .before .before .before .before .before .before .args .words .now) (c .before .before .before .before .before .before .before .before .before .before .before .before .before .before .before .before .before .before .before .before .before .args .reals .now), c .before .before .before .before .before .before .before .before .before .before .before .before .before .before .before .before .before .before .before .before .before .good .0 .0)
+      let c₁ = c .before in
+      let c₂ = c₁ .before .before in
+      let s = c₂ .before .before .before .before .before .before .before .before .before .before .before .before .before .before .before .before .before .before in
+      let T = toks (s .args .kinds .now) (s .args .words .now) (s .args .reals .now) in
+      let h = sign-in T (c₂ .a .given .0 .0) 19 (sym (c₁ .sign-at .ensures) ∙ c .if1 .taken) in
+      omega (arith, length-toks (s .args .kinds .now) (s .args .words .now) (s .args .reals .now), s .good .0 .0)
 
   names-names-requires : names-lts.Need-names-requires K-names (names-at t) names.Post
   names-names-requires c κs =
-      let T = toks (c .before .before .before .before .before .before .before .before .before .before .before .before .before .before .before .before .before .before .before .before .before .before .before .before .args .kinds .now) (c .before .before .before .before .before .before .before .before .before .before .before .before .before .before .before .before .before .before .before .before .before .before .before .before .args .words .now) (c .before .before .before .before .before .before .before .before .before .before .before .before .before .before .before .before .before .before .before .before .before .before .before .before .args .reals .now) in
-      let p = names-past T (c .before .before .before .before .before .before .before .before .before .before .before .before .before .before .before .before .before .before .before .before .before .before .before .before .args .kind) (c .before .before .before .before .before .before .a .given .0 .0) (c .before .before .before .before .before .before .before .before .before .before .before .before .before .before .name .ensures) (c .before .before .before .before .before .before .a .given .1) (c .before .before .before .before .sign-at .ensures) (c .before .before .before .before .before .before .before .before .before .before .before .before .before .before .before .before .before .before .before .before .before .before .before .before .pre .1) (c .before .before .before .before .before .before .before .before .before .before .before .before .before .before .before .before .before .before .before .before .before .before .before .before .pre .0) (c .before .before .before .if1 .taken) in
+      let c₁ = c .before .before .before in
+      let c₂ = c₁ .before in
+      let c₃ = c₂ .before .before in
+      let c₄ = c₃ .before .before .before .before .before .before .before .before in
+      let s = c₄ .before .before .before .before .before .before .before .before .before .before in
+      let T = toks (s .args .kinds .now) (s .args .words .now) (s .args .reals .now) in
+      let p = names-past T (s .args .kind) (c₃ .a .given .0 .0) (c₄ .name .ensures) (c₃ .a .given .1) (c₂ .sign-at .ensures) (s .pre .1) (s .pre .0) (c₁ .if1 .taken) in
       (p .less, past-ready p)
 
   names-same-length-4 : names-lts.Need-same-length-4 K-names (names-at t) names.Post
@@ -80,8 +91,14 @@ module _ (t : ℕ) where
 
   names-returns-2 : names-lts.Need-returns-2 K-names (names-at t) names.Post
   names-returns-2 c =
-      let T = toks (c .before .before .before .before .before .before .before .before .before .before .before .before .before .before .before .before .before .before .before .before .before .before .before .before .before .before .before .before .before .before .before .args .kinds .now) (c .before .before .before .before .before .before .before .before .before .before .before .before .before .before .before .before .before .before .before .before .before .before .before .before .before .before .before .before .before .before .before .args .words .now) (c .before .before .before .before .before .before .before .before .before .before .before .before .before .before .before .before .before .before .before .before .before .before .before .before .before .before .before .before .before .before .before .args .reals .now) in
-      names-more T (c .before .before .before .before .before .before .before .before .before .before .before .before .before .before .before .before .before .before .before .before .before .before .before .before .before .before .before .before .before .before .before .args .kind) (c .before .before .before .before .before .before .before .before .before .before .before .before .before .a .given .0 .0) (c .before .before .before .before .before .before .before .before .before .before .before .before .before .before .before .before .before .before .before .before .before .name .ensures) (c .before .before .before .before .before .before .before .before .before .before .before .before .before .a .given .1) (c .before .before .before .before .before .before .before .before .before .before .before .sign-at .ensures) (c .before .before .before .before .before .before .before .before .before .before .if1 .taken) (c .before .before .before .before .before .before .names .ensures)
+      let c₁ = c .before .before .before .before .before .before in
+      let c₂ = c₁ .before .before .before .before in
+      let c₃ = c₂ .before in
+      let c₄ = c₃ .before .before in
+      let c₅ = c₄ .before .before .before .before .before .before .before .before in
+      let s = c₅ .before .before .before .before .before .before .before .before .before .before in
+      let T = toks (s .args .kinds .now) (s .args .words .now) (s .args .reals .now) in
+      names-more T (s .args .kind) (c₄ .a .given .0 .0) (c₅ .name .ensures) (c₄ .a .given .1) (c₃ .sign-at .ensures) (c₂ .if1 .taken) (c₁ .names .ensures)
 
   names-same-length-7 : names-lts.Need-same-length-7 K-names (names-at t) names.Post
   names-same-length-7 c = search needs
@@ -94,8 +111,12 @@ module _ (t : ℕ) where
 
   names-returns-3 : names-lts.Need-returns-3 K-names (names-at t) names.Post
   names-returns-3 c =
-      let T = toks (c .before .before .before .before .before .before .before .before .before .before .before .before .before .before .before .before .before .before .before .before .before .args .kinds .now) (c .before .before .before .before .before .before .before .before .before .before .before .before .before .before .before .before .before .before .before .before .before .args .words .now) (c .before .before .before .before .before .before .before .before .before .before .before .before .before .before .before .before .before .before .before .before .before .args .reals .now) in
-      names-end T (c .before .before .before .before .before .before .before .before .before .before .before .before .before .before .before .before .before .before .before .before .before .args .kind) (c .before .before .before .a .given .0 .0) (c .before .before .before .before .before .before .before .before .before .before .before .name .ensures) (c .before .before .before .a .given .1) (c .before .sign-at .ensures) (c .before .before .before .before .before .before .before .before .before .before .before .before .before .before .before .before .before .before .before .before .before .pre .1) (c .if1 .left)
+      let c₁ = c .before in
+      let c₂ = c₁ .before .before in
+      let c₃ = c₂ .before .before .before .before .before .before .before .before in
+      let s = c₃ .before .before .before .before .before .before .before .before .before .before in
+      let T = toks (s .args .kinds .now) (s .args .words .now) (s .args .reals .now) in
+      names-end T (s .args .kind) (c₂ .a .given .0 .0) (c₃ .name .ensures) (c₂ .a .given .1) (c₁ .sign-at .ensures) (s .pre .1) (c .if1 .left)
 
 pub +names-spec : {M : Type 1} → statement M
 +names-spec =

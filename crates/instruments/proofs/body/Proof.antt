@@ -6,7 +6,6 @@ use Rattle.expressions.proofs.Runs.{runs-seq, runs-sign, ready-sign, ready-less
 use Rattle.statements.proofs.Past.{ready-took}
 use Rattle.grammar.specs.Reader as R
 use Rattle.instruments.proofs.Ways.{declarations-took}
-use borrow.Author.Needs.{needs}
 use Rattle.instruments.proofs.body.Statement.{statement}
 use Rattle.instruments.proofs.body.Tie as tie
 
@@ -15,15 +14,20 @@ pass-requires c κs = search needs
 
 declarations-requires : tie.Need-declarations-requires
 declarations-requires c κs =
-    let T = toks (c .before .before .before .before .before .before .before .before .before .before .args .kinds .now) (c .before .before .before .before .before .before .before .before .before .before .args .words .now) (c .before .before .before .before .before .before .before .before .before .before .args .reals .now) in
-    let r₁ = ready-sign 17 (c .before .before .before .before .before .before .before .before .before .before .pre) (c .before .before .before .pass .ensures) in
+    let c₁ = c .before .before .before in
+    let s = c₁ .before .before .before .before .before .before .before in
+    let T = toks (s .args .kinds .now) (s .args .words .now) (s .args .reals .now) in
+    let r₁ = ready-sign 17 (s .pre) (c₁ .pass .ensures) in
     ready-less (omega arith) r₁
 
 statements-requires : tie.Need-statements-requires
 statements-requires c κs =
-    let T = toks (c .before .before .before .before .before .before .before .before .before .before .before .before .before .before .before .before .before .before .before .before .args .kinds .now) (c .before .before .before .before .before .before .before .before .before .before .before .before .before .before .before .before .before .before .before .before .args .words .now) (c .before .before .before .before .before .before .before .before .before .before .before .before .before .before .before .before .before .before .before .before .args .reals .now) in
-    let r₁ = ready-sign 17 (c .before .before .before .before .before .before .before .before .before .before .before .before .before .before .before .before .before .before .before .before .pre) (c .before .before .before .before .before .before .before .before .before .before .before .before .before .pass .ensures) in
-    let r₂ = ready-took 0 declarations-took r₁ (c .before .before .before .before .before .before .before .before .before .declarations .ensures) in
+    let c₁ = c .before .before .before .before .before .before .before .before .before in
+    let c₂ = c₁ .before .before .before .before in
+    let s = c₂ .before .before .before .before .before .before .before in
+    let T = toks (s .args .kinds .now) (s .args .words .now) (s .args .reals .now) in
+    let r₁ = ready-sign 17 (s .pre) (c₂ .pass .ensures) in
+    let r₂ = ready-took 0 declarations-took r₁ (c₁ .declarations .ensures) in
     ready-less (omega arith) r₂
 
 pass-requires-2 : tie.Need-pass-requires-2
@@ -40,9 +44,13 @@ same-length-3 c = search needs
 
 returns : tie.Need-returns
 returns c =
-    let T = toks (c .before .before .before .before .before .before .before .before .before .before .before .before .before .before .before .before .before .before .before .before .before .before .before .before .before .before .before .before .args .kinds .now) (c .before .before .before .before .before .before .before .before .before .before .before .before .before .before .before .before .before .before .before .before .before .before .before .before .before .before .before .before .args .words .now) (c .before .before .before .before .before .before .before .before .before .before .before .before .before .before .before .before .before .before .before .before .before .before .before .before .before .before .before .before .args .reals .now) in
-    runs-seq (λ p. seq (R.declarations p) (λ q. seq (R.statements q) (sign 18))) (runs-sign T 17 _ (c .before .before .before .before .before .before .before .before .before .before .before .before .before .before .before .before .before .before .before .before .before .pass .ensures))
-    (runs-seq (λ q. seq (R.statements q) (sign 18)) (c .before .before .before .before .before .before .before .before .before .before .before .before .before .before .before .before .before .declarations .ensures) (runs-seq (sign 18) (c .before .before .before .before .before .before .before .statements .ensures) (runs-sign T 18 _ (c .pass2 .ensures))))
+    let c₁ = c .before .before .before .before .before .before .before in
+    let c₂ = c₁ .before .before .before .before .before .before .before .before .before .before in
+    let c₃ = c₂ .before .before .before .before in
+    let s = c₃ .before .before .before .before .before .before .before in
+    let T = toks (s .args .kinds .now) (s .args .words .now) (s .args .reals .now) in
+    runs-seq (λ p. seq (R.declarations p) (λ q. seq (R.statements q) (sign 18))) (runs-sign T 17 _ (c₃ .pass .ensures))
+    (runs-seq (λ q. seq (R.statements q) (sign 18)) (c₂ .declarations .ensures) (runs-seq (sign 18) (c₁ .statements .ensures) (runs-sign T 18 _ (c .pass2 .ensures))))
 
 pub body-spec : {M : Type 1} → statement M
 body-spec =

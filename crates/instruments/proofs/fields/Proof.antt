@@ -4,7 +4,6 @@ use Rattle.tokens.specs.Token.{toks}
 use Rattle.expressions.specs.Areas.{left, gone}
 use Rattle.statements.proofs.Ways.{ready-at}
 use Rattle.instruments.proofs.Ways.{fields-none, fields-some}
-use borrow.Author.Needs.{needs}
 use Rattle.instruments.proofs.fields.Statement.{statement}
 use Rattle.instruments.proofs.fields.Tie as tie
 
@@ -21,12 +20,18 @@ sign-at-requires : tie.Need-sign-at-requires
 sign-at-requires c κs = search needs
 
 names-requires : tie.Need-names-requires
-names-requires c κs = ready-at (c .before .before .before .before .before .before .got .given .1) (c .before .before .before .before .before .before .before .before .before .before .before .before .before .before .pre)
+names-requires c κs =
+    let c₁ = c .before .before .before .before .before .before in
+    let s = c₁ .before .before .before .before .before .before .before .before in
+    ready-at (c₁ .got .given .1) (s .pre)
 
 returns-2 : tie.Need-returns-2
 returns-2 c =
-    let T = toks (c .before .before .before .before .before .before .before .before .before .before .before .args .kinds .now) (c .before .before .before .before .before .before .before .before .before .before .before .args .words .now) (c .before .before .before .before .before .before .before .before .before .before .before .args .reals .now) in
-    fields-none T (c .before .before .before .got .given .0 .0) (c .before .before .before .got .given .1) (c .before .sign-at .ensures) (c .before .before .before .before .before .before .before .before .before .before .before .pre) (c .if1 .taken)
+    let c₁ = c .before in
+    let c₂ = c₁ .before .before in
+    let s = c₂ .before .before .before .before .before .before .before .before in
+    let T = toks (s .args .kinds .now) (s .args .words .now) (s .args .reals .now) in
+    fields-none T (c₂ .got .given .0 .0) (c₂ .got .given .1) (c₁ .sign-at .ensures) (s .pre) (c .if1 .taken)
 
 same-length : tie.Need-same-length
 same-length c = search needs
@@ -39,8 +44,13 @@ same-length-3 c = search needs
 
 returns-3 : tie.Need-returns-3
 returns-3 c =
-    let T = toks (c .before .before .before .before .before .before .before .before .before .before .before .before .before .before .before .before .before .before .before .before .before .args .kinds .now) (c .before .before .before .before .before .before .before .before .before .before .before .before .before .before .before .before .before .before .before .before .before .args .words .now) (c .before .before .before .before .before .before .before .before .before .before .before .before .before .before .before .before .before .before .before .before .before .args .reals .now) in
-    fields-some T (c .before .before .before .before .before .before .before .before .before .before .before .before .before .got .given .0 .0) (c .before .before .before .before .before .before .before .before .before .before .before .before .before .got .given .1) (c .before .before .before .before .before .before .before .before .before .before .before .sign-at .ensures) (c .before .before .before .before .before .before .before .before .before .before .if1 .left) (c .before .before .before .before .before .before .names .ensures)
+    let c₁ = c .before .before .before .before .before .before in
+    let c₂ = c₁ .before .before .before .before in
+    let c₃ = c₂ .before in
+    let c₄ = c₃ .before .before in
+    let s = c₄ .before .before .before .before .before .before .before .before in
+    let T = toks (s .args .kinds .now) (s .args .words .now) (s .args .reals .now) in
+    fields-some T (c₄ .got .given .0 .0) (c₄ .got .given .1) (c₃ .sign-at .ensures) (c₂ .if1 .left) (c₁ .names .ensures)
 
 pub fields-spec : {M : Type 1} → statement M
 fields-spec =

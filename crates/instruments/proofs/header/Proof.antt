@@ -7,7 +7,6 @@ use Rattle.expressions.proofs.Runs.{runs-seq, runs-sign, ready-sign, ready-less
 use Rattle.statements.proofs.Past.{ready-took}
 use Rattle.grammar.specs.Reader as R
 use Rattle.grammar.proofs.Steps.{name-took}
-use borrow.Author.Needs.{needs}
 use Rattle.instruments.proofs.header.Statement.{statement}
 use Rattle.instruments.proofs.header.Tie as tie
 
@@ -19,9 +18,12 @@ pass-requires c κs = search needs
 
 fields-requires : tie.Need-fields-requires
 fields-requires c κs =
-    let T = toks (c .before .before .before .before .before .before .before .before .before .before .before .before .before .before .before .before .before .before .before .before .args .kinds .now) (c .before .before .before .before .before .before .before .before .before .before .before .before .before .before .before .before .before .before .before .before .args .words .now) (c .before .before .before .before .before .before .before .before .before .before .before .before .before .before .before .before .before .before .before .before .args .reals .now) in
-    let r₁ = ready-took 0 (name-took instrOp) (c .before .before .before .before .before .before .before .before .before .before .before .before .before .before .before .before .before .before .before .before .pre) (c .before .before .before .before .before .before .before .before .before .before .name .ensures) in
-    let r₂ = ready-sign 15 r₁ (c .before .before .before .pass .ensures) in
+    let c₁ = c .before .before .before in
+    let c₂ = c₁ .before .before .before .before .before .before .before in
+    let s = c₂ .before .before .before .before .before .before .before .before .before .before in
+    let T = toks (s .args .kinds .now) (s .args .words .now) (s .args .reals .now) in
+    let r₁ = ready-took 0 (name-took instrOp) (s .pre) (c₂ .name .ensures) in
+    let r₂ = ready-sign 15 r₁ (c₁ .pass .ensures) in
     ready-less (omega arith) r₂
 
 pass-requires-2 : tie.Need-pass-requires-2
@@ -38,9 +40,13 @@ same-length-3 c = search needs
 
 returns : tie.Need-returns
 returns c =
-    let T = toks (c .before .before .before .before .before .before .before .before .before .before .before .before .before .before .before .before .before .before .before .before .before .before .before .before .before .before .before .before .args .kinds .now) (c .before .before .before .before .before .before .before .before .before .before .before .before .before .before .before .before .before .before .before .before .before .before .before .before .before .before .before .before .args .words .now) (c .before .before .before .before .before .before .before .before .before .before .before .before .before .before .before .before .before .before .before .before .before .before .before .before .before .before .before .before .args .reals .now) in
-    runs-seq (λ p. seq (sign 15 p) (λ q. seq (R.fields q) (sign 16))) (c .before .before .before .before .before .before .before .before .before .before .before .before .before .before .before .before .before .before .name .ensures)
-    (runs-seq (λ q. seq (R.fields q) (sign 16)) (runs-sign T 15 _ (c .before .before .before .before .before .before .before .before .before .before .before .pass .ensures)) (runs-seq (sign 16) (c .before .before .before .before .before .before .before .fields .ensures) (runs-sign T 16 _ (c .pass2 .ensures))))
+    let c₁ = c .before .before .before .before .before .before .before in
+    let c₂ = c₁ .before .before .before .before in
+    let c₃ = c₂ .before .before .before .before .before .before .before in
+    let s = c₃ .before .before .before .before .before .before .before .before .before .before in
+    let T = toks (s .args .kinds .now) (s .args .words .now) (s .args .reals .now) in
+    runs-seq (λ p. seq (sign 15 p) (λ q. seq (R.fields q) (sign 16))) (c₃ .name .ensures)
+    (runs-seq (λ q. seq (R.fields q) (sign 16)) (runs-sign T 15 _ (c₂ .pass .ensures)) (runs-seq (sign 16) (c₁ .fields .ensures) (runs-sign T 16 _ (c .pass2 .ensures))))
 
 pub header-spec : {M : Type 1} → statement M
 header-spec =

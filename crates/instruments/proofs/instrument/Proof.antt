@@ -6,7 +6,6 @@ use Rattle.expressions.proofs.Runs.{runs-seq, runs-sign, ready-sign, ready-less
 use Rattle.statements.proofs.Past.{ready-took}
 use Rattle.grammar.specs.Reader as R
 use Rattle.grammar.proofs.Steps.{header-took}
-use borrow.Author.Needs.{needs}
 use Rattle.instruments.proofs.instrument.Statement.{statement}
 use Rattle.instruments.proofs.instrument.Tie as tie
 
@@ -15,15 +14,20 @@ pass-requires c κs = search needs
 
 header-requires : tie.Need-header-requires
 header-requires c κs =
-    let T = toks (c .before .before .before .before .before .before .before .before .before .before .args .kinds .now) (c .before .before .before .before .before .before .before .before .before .before .args .words .now) (c .before .before .before .before .before .before .before .before .before .before .args .reals .now) in
-    let r₁ = ready-sign 1 (c .before .before .before .before .before .before .before .before .before .before .pre) (c .before .before .before .pass .ensures) in
+    let c₁ = c .before .before .before in
+    let s = c₁ .before .before .before .before .before .before .before in
+    let T = toks (s .args .kinds .now) (s .args .words .now) (s .args .reals .now) in
+    let r₁ = ready-sign 1 (s .pre) (c₁ .pass .ensures) in
     ready-less (omega arith) r₁
 
 body-requires : tie.Need-body-requires
 body-requires c κs =
-    let T = toks (c .before .before .before .before .before .before .before .before .before .before .before .before .before .before .before .before .before .before .before .before .args .kinds .now) (c .before .before .before .before .before .before .before .before .before .before .before .before .before .before .before .before .before .before .before .before .args .words .now) (c .before .before .before .before .before .before .before .before .before .before .before .before .before .before .before .before .before .before .before .before .args .reals .now) in
-    let r₁ = ready-sign 1 (c .before .before .before .before .before .before .before .before .before .before .before .before .before .before .before .before .before .before .before .before .pre) (c .before .before .before .before .before .before .before .before .before .before .before .before .before .pass .ensures) in
-    let r₂ = ready-took 2 header-took r₁ (c .before .before .before .before .before .before .before .before .before .header .ensures) in
+    let c₁ = c .before .before .before .before .before .before .before .before .before in
+    let c₂ = c₁ .before .before .before .before in
+    let s = c₂ .before .before .before .before .before .before .before in
+    let T = toks (s .args .kinds .now) (s .args .words .now) (s .args .reals .now) in
+    let r₁ = ready-sign 1 (s .pre) (c₂ .pass .ensures) in
+    let r₂ = ready-took 2 header-took r₁ (c₁ .header .ensures) in
     ready-less (omega arith) r₂
 
 same-length : tie.Need-same-length
@@ -37,8 +41,12 @@ same-length-3 c = search needs
 
 returns : tie.Need-returns
 returns c =
-    let T = toks (c .before .before .before .before .before .before .before .before .before .before .before .before .before .before .before .before .before .before .before .before .before .before .before .before .before .before .before .args .kinds .now) (c .before .before .before .before .before .before .before .before .before .before .before .before .before .before .before .before .before .before .before .before .before .before .before .before .before .before .before .args .words .now) (c .before .before .before .before .before .before .before .before .before .before .before .before .before .before .before .before .before .before .before .before .before .before .before .before .before .before .before .args .reals .now) in
-    runs-seq (λ p. seq (R.header p) R.body) (runs-sign T 1 _ (c .before .before .before .before .before .before .before .before .before .before .before .before .before .before .before .before .before .before .before .before .pass .ensures)) (runs-seq R.body (c .before .before .before .before .before .before .before .before .before .before .before .before .before .before .before .before .header .ensures) (c .before .before .before .before .before .before .body .ensures))
+    let c₁ = c .before .before .before .before .before .before in
+    let c₂ = c₁ .before .before .before .before .before .before .before .before .before .before in
+    let c₃ = c₂ .before .before .before .before in
+    let s = c₃ .before .before .before .before .before .before .before in
+    let T = toks (s .args .kinds .now) (s .args .words .now) (s .args .reals .now) in
+    runs-seq (λ p. seq (R.header p) R.body) (runs-sign T 1 _ (c₃ .pass .ensures)) (runs-seq R.body (c₂ .header .ensures) (c₁ .body .ensures))
 
 pub instrument-spec : {M : Type 1} → statement M
 instrument-spec =

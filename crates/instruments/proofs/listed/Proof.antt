@@ -2,7 +2,6 @@ use borrow.Author.Needs.{needs}
 use Rattle.tokens.specs.Token.{toks}
 use Rattle.expressions.specs.Reader.{sign}
 use Rattle.expressions.proofs.Runs.{runs-seq, runs-sign}
-use borrow.Author.Needs.{needs}
 use Rattle.instruments.proofs.listed.Statement.{statement}
 use Rattle.instruments.proofs.listed.Tie as tie
 
@@ -23,8 +22,10 @@ same-length-3 c = search needs
 
 returns : tie.Need-returns
 returns c =
-    let T = toks (c .before .before .before .before .before .before .before .before .before .before .before .before .before .before .before .before .before .args .kinds .now) (c .before .before .before .before .before .before .before .before .before .before .before .before .before .before .before .before .before .args .words .now) (c .before .before .before .before .before .before .before .before .before .before .before .before .before .before .before .before .before .args .reals .now) in
-    runs-seq (sign 20) (c .before .before .before .before .before .before .before .names .ensures) (runs-sign T 20 _ (c .pass .ensures))
+    let c₁ = c .before .before .before .before .before .before .before in
+    let s = c₁ .before .before .before .before .before .before .before .before .before .before in
+    let T = toks (s .args .kinds .now) (s .args .words .now) (s .args .reals .now) in
+    runs-seq (sign 20) (c₁ .names .ensures) (runs-sign T 20 _ (c .pass .ensures))
 
 pub listed-spec : {M : Type 1} → statement M
 listed-spec =

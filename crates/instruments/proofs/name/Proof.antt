@@ -7,7 +7,6 @@ use Rattle.expressions.specs.Areas.{gone}
 use Rattle.expressions.proofs.Toks.{length-toks}
 use Rattle.expressions.proofs.Runs.{runs-emit, ready-place}
 use Rattle.instruments.proofs.Ways.{word-in, ready-next, name-as, name-no}
-use borrow.Author.Needs.{needs}
 use Rattle.instruments.proofs.name.Statement.{statement}
 use Rattle.instruments.proofs.name.Tie as tie
 
@@ -28,15 +27,23 @@ enum-known-n c = search needs
 
 add-t20 : tie.Need-add-t20
 add-t20 c =
-    let T = toks (c .before .before .before .before .before .before .before .before .before .before .before .before .before .before .before .before .args .kinds .now) (c .before .before .before .before .before .before .before .before .before .before .before .before .before .before .before .before .args .words .now) (c .before .before .before .before .before .before .before .before .before .before .before .before .before .before .before .before .args .reals .now) in
-    let h = word-in T (c .before .before .before .before .before .before .before .before .got .given .0 .0) (c .before .before .before .before .before .before .word-at .ensures) (c .before .before .before .before .n .given .1) in
-    omega (arith, length-toks (c .before .before .before .before .before .before .before .before .before .before .before .before .before .before .before .before .args .kinds .now) (c .before .before .before .before .before .before .before .before .before .before .before .before .before .before .before .before .args .words .now) (c .before .before .before .before .before .before .before .before .before .before .before .before .before .before .before .before .args .reals .now), c .before .before .before .before .before .before .before .before .before .before .before .before .before .before .before .before .good .0 .0)
+    let c₁ = c .before .before .before .before in
+    let c₂ = c₁ .before .before in
+    let c₃ = c₂ .before .before in
+    let s = c₃ .before .before .before .before .before .before .before .before in
+    let T = toks (s .args .kinds .now) (s .args .words .now) (s .args .reals .now) in
+    let h = word-in T (c₃ .got .given .0 .0) (c₂ .word-at .ensures) (c₁ .n .given .1) in
+    omega (arith, length-toks (s .args .kinds .now) (s .args .words .now) (s .args .reals .now), s .good .0 .0)
 
 emit-requires : tie.Need-emit-requires
 emit-requires c κs =
-    let T = toks (c .before .before .before .before .before .before .before .before .before .before .before .before .before .before .before .before .args .kinds .now) (c .before .before .before .before .before .before .before .before .before .before .before .before .before .before .before .before .args .words .now) (c .before .before .before .before .before .before .before .before .before .before .before .before .before .before .before .before .args .reals .now) in
-    let h = word-in T (c .before .before .before .before .before .before .before .before .got .given .0 .0) (c .before .before .before .before .before .before .word-at .ensures) (c .before .before .before .before .n .given .1) in
-    let r = ready-next (c .before .before .before .before .before .before .before .before .before .before .before .before .before .before .before .before .pre) (c .before .before .before .before .before .before .before .before .got .given .1) h in
+    let c₁ = c .before .before .before .before in
+    let c₂ = c₁ .before .before in
+    let c₃ = c₂ .before .before in
+    let s = c₃ .before .before .before .before .before .before .before .before in
+    let T = toks (s .args .kinds .now) (s .args .words .now) (s .args .reals .now) in
+    let h = word-in T (c₃ .got .given .0 .0) (c₂ .word-at .ensures) (c₁ .n .given .1) in
+    let r = ready-next (s .pre) (c₃ .got .given .1) h in
     ready-place r
 
 enum-told-2 : tie.Need-enum-told-2
@@ -53,15 +60,23 @@ same-length-3 c = search needs
 
 returns-2 : tie.Need-returns-2
 returns-2 c =
-    let T = toks (c .before .before .before .before .before .before .before .before .before .before .before .before .before .before .before .before .before .before .before .before .before .before .before .args .kinds .now) (c .before .before .before .before .before .before .before .before .before .before .before .before .before .before .before .before .before .before .before .before .before .before .before .args .words .now) (c .before .before .before .before .before .before .before .before .before .before .before .before .before .before .before .before .before .before .before .before .before .before .before .args .reals .now) in
-    let h = word-in T (c .before .before .before .before .before .before .before .before .before .before .before .before .before .before .before .got .given .0 .0) (c .before .before .before .before .before .before .before .before .before .before .before .before .before .word-at .ensures) (c .before .before .before .before .before .before .before .before .before .before .before .n .given .1) in
-    let r = ready-next (c .before .before .before .before .before .before .before .before .before .before .before .before .before .before .before .before .before .before .before .before .before .before .before .pre) (c .before .before .before .before .before .before .before .before .before .before .before .before .before .before .before .got .given .1) h in
-    name-as T (c .before .before .before .before .before .before .before .before .before .before .before .before .before .before .before .before .before .before .before .before .before .before .before .args .op) (c .before .before .before .before .before .before .before .before .before .before .before .before .before .before .before .got .given .0 .0) (c .before .before .before .before .before .before .before .before .before .before .before .before .before .before .before .got .given .1) (c .before .before .before .before .before .before .before .before .before .before .before .before .before .word-at .ensures) (c .before .before .before .before .before .before .before .before .before .before .before .n .given .1) (runs-emit (insArg (c .before .before .before .before .before .before .before .before .before .before .before .before .before .before .before .before .before .before .before .before .before .before .before .args .op) (c .before .before .before .before .before .before .before .before .before .before .before .n .given .0 .0)) r (c .before .before .before .before .before .before .emit .ensures .0) (c .before .before .before .before .before .before .emit .ensures .1))
+    let c₁ = c .before .before .before .before .before .before in
+    let c₂ = c₁ .before .before .before .before .before in
+    let c₃ = c₂ .before .before in
+    let c₄ = c₃ .before .before in
+    let s = c₄ .before .before .before .before .before .before .before .before in
+    let T = toks (s .args .kinds .now) (s .args .words .now) (s .args .reals .now) in
+    let h = word-in T (c₄ .got .given .0 .0) (c₃ .word-at .ensures) (c₂ .n .given .1) in
+    let r = ready-next (s .pre) (c₄ .got .given .1) h in
+    name-as T (s .args .op) (c₄ .got .given .0 .0) (c₄ .got .given .1) (c₃ .word-at .ensures) (c₂ .n .given .1) (runs-emit (insArg (s .args .op) (c₂ .n .given .0 .0)) r (c₁ .emit .ensures .0) (c₁ .emit .ensures .1))
 
 returns-3 : tie.Need-returns-3
 returns-3 c =
-    let T = toks (c .before .before .before .before .before .before .before .before .before .before .before .before .args .kinds .now) (c .before .before .before .before .before .before .before .before .before .before .before .before .args .words .now) (c .before .before .before .before .before .before .before .before .before .before .before .before .args .reals .now) in
-    name-no T (c .before .before .before .before .before .before .before .before .before .before .before .before .args .op) (c .before .before .before .before .got .given .0 .0) (c .before .before .before .before .got .given .1) (c .before .before .word-at .ensures) (c .enum-told2 .given .1)
+    let c₁ = c .before .before in
+    let c₂ = c₁ .before .before in
+    let s = c₂ .before .before .before .before .before .before .before .before in
+    let T = toks (s .args .kinds .now) (s .args .words .now) (s .args .reals .now) in
+    name-no T (s .args .op) (c₂ .got .given .0 .0) (c₂ .got .given .1) (c₁ .word-at .ensures) (c .enum-told2 .given .1)
 
 pub name-spec : {M : Type 1} → statement M
 name-spec =

@@ -2,12 +2,13 @@ use borrow.Author.Needs.{needs}
 use Rattle.tokens.specs.Token.{toks}
 use Rattle.expressions.proofs.Toks.{length-toks}
 use Rattle.instruments.proofs.Laws.{starts, reads}
-use borrow.Author.Needs.{needs}
 use Rattle.instruments.proofs.orchestra.Statement.{statement}
 use Rattle.instruments.proofs.orchestra.Tie as tie
 
 instruments-requires : tie.Need-instruments-requires
-instruments-requires c κs = starts (toks (c .before .before .before .before .before .before .before .before .before .args .kinds .now) (c .before .before .before .before .before .before .before .before .before .args .words .now) (c .before .before .before .before .before .before .before .before .before .args .reals .now)) (length-toks (c .before .before .before .before .before .before .before .before .before .args .kinds .now) (c .before .before .before .before .before .before .before .before .before .args .words .now) (c .before .before .before .before .before .before .before .before .before .args .reals .now)) (c .before .before .before .before .before .before .before .before .before .pre)
+instruments-requires c κs =
+    let s = c .before .before .before .before .before .before .before .before .before in
+    starts (toks (s .args .kinds .now) (s .args .words .now) (s .args .reals .now)) (length-toks (s .args .kinds .now) (s .args .words .now) (s .args .reals .now)) (s .pre)
 
 same-length : tie.Need-same-length
 same-length c = search needs

@@ -6,7 +6,6 @@ use Rattle.expressions.specs.Reader.{reader, seq, sign}
 use Rattle.expressions.specs.Reader as E
 use Rattle.expressions.proofs.Runs.{runs-seq, runs-sign, runs-emit, ready-sign, ready-place, ready-less}
 use Rattle.statements.proofs.Ways.{ready-expr}
-use borrow.Author.Needs.{needs}
 use Rattle.statements.proofs.bracketed.Statement.{statement}
 use Rattle.statements.proofs.bracketed.Tie as tie
 
@@ -15,8 +14,10 @@ pass-requires c κs = search needs
 
 expr-requires : tie.Need-expr-requires
 expr-requires c κs =
-    let T = toks (c .before .before .before .before .before .before .before .before .before .before .args .kinds .now) (c .before .before .before .before .before .before .before .before .before .before .args .words .now) (c .before .before .before .before .before .before .before .before .before .before .args .reals .now) in
-    let r₁ = ready-sign 15 (c .before .before .before .before .before .before .before .before .before .before .pre) (c .before .before .before .pass .ensures) in
+    let c₁ = c .before .before .before in
+    let s = c₁ .before .before .before .before .before .before .before in
+    let T = toks (s .args .kinds .now) (s .args .words .now) (s .args .reals .now) in
+    let r₁ = ready-sign 15 (s .pre) (c₁ .pass .ensures) in
     ready-less (omega arith) r₁
 
 pass-requires-2 : tie.Need-pass-requires-2
@@ -27,11 +28,16 @@ pass-requires-3 c κs = search needs
 
 emit-requires : tie.Need-emit-requires
 emit-requires c κs =
-    let T = toks (c .before .before .before .before .before .before .before .before .before .before .before .before .before .before .before .before .before .before .before .before .before .before .args .kinds .now) (c .before .before .before .before .before .before .before .before .before .before .before .before .before .before .before .before .before .before .before .before .before .before .args .words .now) (c .before .before .before .before .before .before .before .before .before .before .before .before .before .before .before .before .before .before .before .before .before .before .args .reals .now) in
-    let r₁ = ready-sign 15 (c .before .before .before .before .before .before .before .before .before .before .before .before .before .before .before .before .before .before .before .before .before .before .pre) (c .before .before .before .before .before .before .before .before .before .before .before .before .before .before .before .pass .ensures) in
-    let r₂ = ready-expr 0 r₁ (c .before .before .before .before .before .before .before .before .before .before .before .expr .ensures) in
-    let r₃ = ready-sign 16 r₂ (c .before .before .before .before .pass2 .ensures) in
-    let r₄ = ready-sign (c .before .before .before .before .before .before .before .before .before .before .before .before .before .before .before .before .before .before .before .before .before .before .args .s) r₃ (c .before .before .before .pass3 .ensures) in
+    let c₁ = c .before .before .before in
+    let c₂ = c₁ .before in
+    let c₃ = c₂ .before .before .before .before .before .before .before in
+    let c₄ = c₃ .before .before .before .before in
+    let s = c₄ .before .before .before .before .before .before .before in
+    let T = toks (s .args .kinds .now) (s .args .words .now) (s .args .reals .now) in
+    let r₁ = ready-sign 15 (s .pre) (c₄ .pass .ensures) in
+    let r₂ = ready-expr 0 r₁ (c₃ .expr .ensures) in
+    let r₃ = ready-sign 16 r₂ (c₂ .pass2 .ensures) in
+    let r₄ = ready-sign (s .args .s) r₃ (c₁ .pass3 .ensures) in
     ready-place r₄
 
 same-length : tie.Need-same-length
@@ -45,15 +51,21 @@ same-length-3 c = search needs
 
 returns : tie.Need-returns
 returns c =
-    let T = toks (c .before .before .before .before .before .before .before .before .before .before .before .before .before .before .before .before .before .before .before .before .before .before .before .before .before .before .before .before .before .args .kinds .now) (c .before .before .before .before .before .before .before .before .before .before .before .before .before .before .before .before .before .before .before .before .before .before .before .before .before .before .before .before .before .args .words .now) (c .before .before .before .before .before .before .before .before .before .before .before .before .before .before .before .before .before .before .before .before .before .before .before .before .before .before .before .before .before .args .reals .now) in
-    let r₁ = ready-sign 15 (c .before .before .before .before .before .before .before .before .before .before .before .before .before .before .before .before .before .before .before .before .before .before .before .before .before .before .before .before .before .pre) (c .before .before .before .before .before .before .before .before .before .before .before .before .before .before .before .before .before .before .before .before .before .before .pass .ensures) in
-    let r₂ = ready-expr 0 r₁ (c .before .before .before .before .before .before .before .before .before .before .before .before .before .before .before .before .before .before .expr .ensures) in
-    let r₃ = ready-sign 16 r₂ (c .before .before .before .before .before .before .before .before .before .before .before .pass2 .ensures) in
-    let r₄ = ready-sign (c .before .before .before .before .before .before .before .before .before .before .before .before .before .before .before .before .before .before .before .before .before .before .before .before .before .before .before .before .before .args .s) r₃ (c .before .before .before .before .before .before .before .before .before .before .pass3 .ensures) in
-    runs-seq (λ p. seq (reader .expr 0 p) (λ q. seq (sign 16 q) (λ r. seq (sign (c .before .before .before .before .before .before .before .before .before .before .before .before .before .before .before .before .before .before .before .before .before .before .before .before .before .before .before .before .before .args .s) r) (E.emit (ins (c .before .before .before .before .before .before .before .before .before .before .before .before .before .before .before .before .before .before .before .before .before .before .before .before .before .before .before .before .before .args .op)))))) (runs-sign T 15 (c .before .before .before .before .before .before .before .before .before .before .before .before .before .before .before .before .before .before .before .before .before .before .before .before .before .before .before .before .before .args .got) (c .before .before .before .before .before .before .before .before .before .before .before .before .before .before .before .before .before .before .before .before .before .before .pass .ensures))
-    (runs-seq (λ q. seq (sign 16 q) (λ r. seq (sign (c .before .before .before .before .before .before .before .before .before .before .before .before .before .before .before .before .before .before .before .before .before .before .before .before .before .before .before .before .before .args .s) r) (E.emit (ins (c .before .before .before .before .before .before .before .before .before .before .before .before .before .before .before .before .before .before .before .before .before .before .before .before .before .before .before .before .before .args .op))))) (c .before .before .before .before .before .before .before .before .before .before .before .before .before .before .before .before .before .before .expr .ensures)
-    (runs-seq (λ r. seq (sign (c .before .before .before .before .before .before .before .before .before .before .before .before .before .before .before .before .before .before .before .before .before .before .before .before .before .before .before .before .before .args .s) r) (E.emit (ins (c .before .before .before .before .before .before .before .before .before .before .before .before .before .before .before .before .before .before .before .before .before .before .before .before .before .before .before .before .before .args .op)))) (runs-sign T 16 _ (c .before .before .before .before .before .before .before .before .before .before .before .pass2 .ensures))
-    (runs-seq (E.emit (ins (c .before .before .before .before .before .before .before .before .before .before .before .before .before .before .before .before .before .before .before .before .before .before .before .before .before .before .before .before .before .args .op))) (runs-sign T (c .before .before .before .before .before .before .before .before .before .before .before .before .before .before .before .before .before .before .before .before .before .before .before .before .before .before .before .before .before .args .s) _ (c .before .before .before .before .before .before .before .before .before .before .pass3 .ensures)) (runs-emit (ins (c .before .before .before .before .before .before .before .before .before .before .before .before .before .before .before .before .before .before .before .before .before .before .before .before .before .before .before .before .before .args .op)) r₄ (c .before .before .before .before .before .before .emit .ensures .0) (c .before .before .before .before .before .before .emit .ensures .1)))))
+    let c₁ = c .before .before .before .before .before .before in
+    let c₂ = c₁ .before .before .before .before in
+    let c₃ = c₂ .before in
+    let c₄ = c₃ .before .before .before .before .before .before .before in
+    let c₅ = c₄ .before .before .before .before in
+    let s = c₅ .before .before .before .before .before .before .before in
+    let T = toks (s .args .kinds .now) (s .args .words .now) (s .args .reals .now) in
+    let r₁ = ready-sign 15 (s .pre) (c₅ .pass .ensures) in
+    let r₂ = ready-expr 0 r₁ (c₄ .expr .ensures) in
+    let r₃ = ready-sign 16 r₂ (c₃ .pass2 .ensures) in
+    let r₄ = ready-sign (s .args .s) r₃ (c₂ .pass3 .ensures) in
+    runs-seq (λ p. seq (reader .expr 0 p) (λ q. seq (sign 16 q) (λ r. seq (sign (s .args .s) r) (E.emit (ins (s .args .op)))))) (runs-sign T 15 (s .args .got) (c₅ .pass .ensures))
+    (runs-seq (λ q. seq (sign 16 q) (λ r. seq (sign (s .args .s) r) (E.emit (ins (s .args .op))))) (c₄ .expr .ensures)
+    (runs-seq (λ r. seq (sign (s .args .s) r) (E.emit (ins (s .args .op)))) (runs-sign T 16 _ (c₃ .pass2 .ensures))
+    (runs-seq (E.emit (ins (s .args .op))) (runs-sign T (s .args .s) _ (c₂ .pass3 .ensures)) (runs-emit (ins (s .args .op)) r₄ (c₁ .emit .ensures .0) (c₁ .emit .ensures .1)))))
 
 pub bracketed-spec : {M : Type 1} → statement M
 bracketed-spec =

@@ -3,7 +3,6 @@ use Rattle.tokens.specs.Token.{toks}
 use Rattle.syntax.specs.Program.{ins}
 use Rattle.expressions.specs.Reader as E
 use Rattle.expressions.proofs.Runs.{runs-seq, runs-sign, runs-emit, ready-sign, ready-place}
-use borrow.Author.Needs.{needs}
 use Rattle.statements.proofs.close.Statement.{statement}
 use Rattle.statements.proofs.close.Tie as tie
 
@@ -12,8 +11,10 @@ pass-requires c κs = search needs
 
 emit-requires : tie.Need-emit-requires
 emit-requires c κs =
-    let T = toks (c .before .before .before .before .before .before .before .before .before .before .args .kinds .now) (c .before .before .before .before .before .before .before .before .before .before .args .words .now) (c .before .before .before .before .before .before .before .before .before .before .args .reals .now) in
-    let r₁ = ready-sign 18 (c .before .before .before .before .before .before .before .before .before .before .pre) (c .before .before .before .pass .ensures) in
+    let c₁ = c .before .before .before in
+    let s = c₁ .before .before .before .before .before .before .before in
+    let T = toks (s .args .kinds .now) (s .args .words .now) (s .args .reals .now) in
+    let r₁ = ready-sign 18 (s .pre) (c₁ .pass .ensures) in
     ready-place r₁
 
 same-length : tie.Need-same-length
@@ -27,9 +28,12 @@ same-length-3 c = search needs
 
 returns : tie.Need-returns
 returns c =
-    let T = toks (c .before .before .before .before .before .before .before .before .before .before .before .before .before .before .before .before .before .args .kinds .now) (c .before .before .before .before .before .before .before .before .before .before .before .before .before .before .before .before .before .args .words .now) (c .before .before .before .before .before .before .before .before .before .before .before .before .before .before .before .before .before .args .reals .now) in
-    let r₁ = ready-sign 18 (c .before .before .before .before .before .before .before .before .before .before .before .before .before .before .before .before .before .pre) (c .before .before .before .before .before .before .before .before .before .before .pass .ensures) in
-    runs-seq (E.emit (ins (c .before .before .before .before .before .before .before .before .before .before .before .before .before .before .before .before .before .args .op))) (runs-sign T 18 (c .before .before .before .before .before .before .before .before .before .before .before .before .before .before .before .before .before .args .got) (c .before .before .before .before .before .before .before .before .before .before .pass .ensures)) (runs-emit (ins (c .before .before .before .before .before .before .before .before .before .before .before .before .before .before .before .before .before .args .op)) r₁ (c .before .before .before .before .before .before .emit .ensures .0) (c .before .before .before .before .before .before .emit .ensures .1))
+    let c₁ = c .before .before .before .before .before .before in
+    let c₂ = c₁ .before .before .before .before in
+    let s = c₂ .before .before .before .before .before .before .before in
+    let T = toks (s .args .kinds .now) (s .args .words .now) (s .args .reals .now) in
+    let r₁ = ready-sign 18 (s .pre) (c₂ .pass .ensures) in
+    runs-seq (E.emit (ins (s .args .op))) (runs-sign T 18 (s .args .got) (c₂ .pass .ensures)) (runs-emit (ins (s .args .op)) r₁ (c₁ .emit .ensures .0) (c₁ .emit .ensures .1))
 
 pub close-spec : {M : Type 1} → statement M
 close-spec =

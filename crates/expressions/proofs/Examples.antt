@@ -1,0 +1,27 @@
+-- How operators group: the tree of some tokens, and that no other tree has them.
+use Prim.Native.Nat.{ℕ}
+use native.Mathlib.Omega.{arith}
+use mathlib.Core.Path.{_≡_}
+use mathlib.Core.List.{[], _∷_}
+use Rattle.tokens.specs.declared.Token.the-variants.{Symbol, Sign}
+use Rattle.syntax.specs.Tree.{Expr, name, unary, binary, choose}
+use Rattle.expressions.specs.Grammar.{Derives, named, prefixed, sides, chosen, plus, minus, times, negative}
+use Rattle.expressions.proofs.Unique.{unique}
+
+module _ (a b c d e : ℕ) where
+  -- a - b - c from the left
+  pub minus-left : {t : Expr} → Derives 0 t (Symbol a ∷ Sign 33 ∷ Symbol b ∷ Sign 33 ∷ Symbol c ∷ []) → t ≡ binary 33 (binary 33 (name a) (name b)) (name c)
+  minus-left g = unique g (sides minus (omega arith) (sides minus (omega arith) (named a) (named b)) (named c))
+
+  -- a ? b : c ? d : e from the right
+  pub choice-right : {t : Expr} → Derives 0 t (Symbol a ∷ Sign 22 ∷ Symbol b ∷ Sign 23 ∷ Symbol c ∷ Sign 22 ∷ Symbol d ∷ Sign 23 ∷ Symbol e ∷ [])
+      → t ≡ choose (name a) (name b) (choose (name c) (name d) (name e))
+  choice-right g = unique g (chosen (named a) (named b) (chosen (named c) (named d) (named e)))
+
+  -- a + b * c, with * tighter
+  pub times-tighter : {t : Expr} → Derives 0 t (Symbol a ∷ Sign 32 ∷ Symbol b ∷ Sign 34 ∷ Symbol c ∷ []) → t ≡ binary 32 (name a) (binary 34 (name b) (name c))
+  times-tighter g = unique g (sides plus (omega arith) (named a) (sides times (omega arith) (named b) (named c)))
+
+  -- a - - b: a sign may follow an operator
+  pub minus-minus : {t : Expr} → Derives 0 t (Symbol a ∷ Sign 33 ∷ Sign 33 ∷ Symbol b ∷ []) → t ≡ binary 33 (name a) (unary 37 (name b))
+  minus-minus g = unique g (sides minus (omega arith) (named a) (prefixed negative (named b)))
