@@ -140,7 +140,7 @@ module _ (s : Score) (old : List ℕ) where
       let e = le-leb (18 * length (s .lines)) (length old) k in
       record { told = sym (cond-true _ _ h ∙ cond-true _ _ e); area = n ∙ sym (cond-true _ _ h ∙ cond-true _ _ e) }
 
-taken-is : (a : Answer) → isTaken a ≡ true → a ≡ Taken
+pub taken-is : (a : Answer) → isTaken a ≡ true → a ≡ Taken
 taken-is answer.Taken e = refl
 taken-is answer.CutShort e = absurd (true≢false (sym e))
 taken-is answer.NotCarried e = absurd (true≢false (sym e))
