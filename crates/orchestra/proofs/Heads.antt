@@ -1,0 +1,124 @@
+-- In the program of a tree the operation instr stands where an instrument starts, and nowhere else.
+use Prim.Native.Nat.{ℕ, zero, suc, _+_, _≤_}
+use native.Mathlib.Omega.{arith}
+use mathlib.Core.Path.{_≡_, refl, sym, ap, _∙_}
+use mathlib.Core.Bool.{Bool, true, false, cond, _&&_}
+use mathlib.Core.List.{List, [], _∷_, _++_, map, append-nil}
+use lib.ListN.{length, take, length-map}
+use lib.Seq.{take-all}
+use lib.Dec.{eqb, leb}
+use borrow.Author.Tests.{eqb-true, leb-true}
+use Rattle.syntax.specs.Tree.{Expr, number, name, unary, binary, choose, Statements, done, assign, output, branch, Declaration, Instrument, fieldKind}
+use Rattle.syntax.specs.Names.{placed, nameRules, distinct, titleOf, eachKept}
+use Rattle.syntax.specs.Program.{Ins, ins, insArg, instrOp, actOf, compile, code, declare, declared, instrument, program}
+use Rattle.syntax.specs.declared.Act.{Act}
+use Rattle.syntax.specs.declared.Act.the-variants.{Value, Declare, Instr}
+use Rattle.rules.specs.Formed.{FormedIn, Formed, FormedKinds, FormedAll, opOf, opsOf}
+use Rattle.orchestra.specs.Compiled.{headsFrom}
+use Rattle.orchestra.specs.Reading.{startsFrom}
+use Rattle.rules.proofs.PlacesLaw.{ops-stay}
+
+-- what is a value or declares a name is not instr
+apart : {a : Act} (o : ℕ) → actOf o ≡ a → (a ≡ Instr → _≡_ {A = ℕ} 0 1) → eqb o instrOp ≡ false
+apart {a} o e f = go (eqb o 1) refl
+  where
+    go : (b : Bool) → eqb o 1 ≡ b → b ≡ false
+    go true h = absurd (let z : _≡_ {A = ℕ} 0 1 = f (sym e ∙ ap actOf (eqb-true o 1 h)) in omega arith)
+    go false h = refl
+
+value-apart : (o : ℕ) → actOf o ≡ Value → eqb o instrOp ≡ false
+value-apart o e = apart o e (λ z. cc)
+
+declare-apart : (o : ℕ) → actOf o ≡ Declare → eqb o instrOp ≡ false
+declare-apart o e = apart o e (λ z. cc)
+
+-- no operation is instr
+data Plain : List Ins → Type 0 where
+  nil : Plain []
+  cons : (i : Ins) {c : List Ins} → eqb (i .op) instrOp ≡ false → Plain c → Plain (i ∷ c)
+
+plain-append : {c d : List Ins} → Plain c → Plain d → Plain (c ++ d)
+plain-append nil q = q
+plain-append (cons i e p) q = cons i e (plain-append p q)
+
+one : (i : Ins) → eqb (i .op) instrOp ≡ false → Plain (i ∷ [])
+one i e = cons i e nil
+
+expr-plain : (e : Expr) → FormedIn e → Plain (compile e)
+unfolding compile FormedIn
+expr-plain (number x) f = one _ refl
+expr-plain (name n) f = one _ refl
+expr-plain (unary o e) f = plain-append (expr-plain e (f .1)) (one _ (value-apart o (f .0)))
+expr-plain (binary o a b) f = plain-append (plain-append (expr-plain a (f .1 .0)) (expr-plain b (f .1 .1))) (one _ (value-apart o (f .0)))
+expr-plain (choose c a b) f = plain-append (plain-append (plain-append (expr-plain c (f .0)) (expr-plain a (f .1 .0))) (expr-plain b (f .1 .1))) (one _ refl)
+
+code-plain : (t : Statements) → Formed t → Plain (code t)
+unfolding code Formed
+code-plain done f = nil
+code-plain (assign n e r) f = plain-append (expr-plain e (f .0)) (cons _ refl (code-plain r (f .1)))
+code-plain (output e r) f = plain-append (expr-plain e (f .0)) (cons _ refl (code-plain r (f .1)))
+code-plain (branch e a b r) f =
+    plain-append (expr-plain e (f .0)) (cons _ refl (plain-append (code-plain a (f .1 .0)) (cons _ refl
+    (plain-append (code-plain b (f .1 .1 .0)) (cons _ refl (code-plain r (f .1 .1 .1)))))))
+
+declare-plain : (k : ℕ) → eqb k instrOp ≡ false → (ns : List ℕ) → Plain (declare k ns)
+unfolding declare
+declare-plain k e [] = nil
+declare-plain k e (n ∷ ns) = cons _ e (declare-plain k e ns)
+
+declared-plain : (ds : List Declaration) → FormedKinds ds → Plain (declared ds)
+unfolding declared FormedKinds
+declared-plain [] f = nil
+declared-plain (d ∷ ds) f = plain-append (declare-plain (d .kind) (declare-apart (d .kind) (f .0)) (d .names)) (declared-plain ds (f .1))
+
+-- what follows an instrument's first instruction
+abbrev restOf : Instrument → List Ins
+restOf i = declare fieldKind (i .fields) ++ (declared (i .declarations) ++ code (i .body))
+
+plain-starts : (n : ℕ) {c : List Ins} → Plain c → (os : List ℕ) → startsFrom n (opsOf c ++ os) ≡ startsFrom (n + length c) os
+unfolding startsFrom
+plain-starts n nil os = ap (λ k. startsFrom k os) (omega arith)
+plain-starts n (cons i {c = c} e p) os = rw e (plain-starts (suc n) p os ∙ ap (λ k. startsFrom k os) (omega arith))
+
+map-append : {A B : Type 0} (f : A → B) (u v : List A) → map f (u ++ v) ≡ map f u ++ map f v
+map-append f [] v = refl
+map-append f (a ∷ u) v = ap (λ l. f a ∷ l) (map-append f u v)
+
+-- placing changes no length
+length-alike : (i : Instrument) → length (instrument (placed i)) ≡ length (instrument i)
+unfolding program
+length-alike i =
+    sym (length-map (instrument (placed i)) opOf)
+    ∙ ap (λ l. length (opsOf l)) (sym (append-nil (instrument (placed i))))
+    ∙ ap length (ops-stay (i ∷ []))
+    ∙ ap (λ l. length (opsOf l)) (append-nil (instrument i))
+    ∙ length-map (instrument i) opOf
+
+instr-starts : (n : ℕ) (i : Instrument) → Plain (restOf i) → (c : List Ins)
+    → startsFrom n (opsOf (instrument i ++ c)) ≡ n ∷ startsFrom (n + length (instrument (placed i))) (opsOf c)
+unfolding startsFrom
+instr-starts n i p c =
+    ap (λ l. n ∷ startsFrom (suc n) l) (map-append opOf (restOf i) c)
+    ∙ ap (λ l. n ∷ l) (plain-starts (suc n) p (opsOf c) ∙ ap (λ k. startsFrom k (opsOf c)) (omega (arith, length-alike i)))
+
+pub heads-are : (is : List Instrument) → FormedAll is → (n : ℕ) → startsFrom n (opsOf (program is)) ≡ headsFrom n is
+unfolding program headsFrom startsFrom FormedAll
+heads-are [] f n = refl
+heads-are (i ∷ is) f n =
+    let p = plain-append (declare-plain fieldKind refl (i .fields)) (plain-append (declared-plain (i .declarations) (f .0)) (code-plain (i .body) (f .1 .0))) in
+    instr-starts n i p (program is) ∙ ap (λ l. n ∷ l) (heads-are is (f .1 .1) _)
+
+length-heads : (n : ℕ) (is : List Instrument) → length (headsFrom n is) ≡ length is
+unfolding headsFrom
+length-heads n [] = refl
+length-heads n (i ∷ is) = ap suc (length-heads _ is)
+
+pub all-heads : (is : List Instrument) → length is ≤ 8 → take 8 (headsFrom 0 is) ≡ headsFrom 0 is
+all-heads is le = take-all 8 (headsFrom 0 is) (rw (length-heads 0 is) le)
+
+pub at-most-8 : (is : List Instrument) → nameRules is ≡ true → length is ≤ 8
+at-most-8 is e = leb-true (length is) 8 (first (leb (length is) 8) (distinct (map titleOf is) && eachKept is) e)
+  where
+    first : (b c : Bool) → (b && c) ≡ true → b ≡ true
+    first true c e = refl
+    first false c e = e

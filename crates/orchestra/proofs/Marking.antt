@@ -1,0 +1,110 @@
+-- The loop that marks where instruments start.
+use Prim.Native.Nat.{ℕ, zero, suc, _+_, _≤_, _<_}
+use native.Mathlib.Omega.{arith}
+use mathlib.Core.Path.{_≡_, refl, sym, ap, _∙_}
+use mathlib.Core.Bool.{Bool, true, false, cond}
+use mathlib.Core.List.{List, [], _∷_, _++_, append-assoc, append-nil}
+use lib.ListN.{length, take, drop, set, replicate, getD, length-append, length-set, drop-of-length-le}
+use lib.Seq.{take-all, take-append-le, drop-cons}
+use lib.Dec.{eqb, ltb}
+use borrow.Author.Tests.{eqb-true, eq-eqb, ne-eqb, lt-ltb, le-ltb, ltb-true, ltb-false}
+use Rattle.syntax.specs.Program.{instrOp}
+use Rattle.orchestra.specs.declared.Starts.{Starts}
+use Rattle.orchestra.specs.Compiled.{padded}
+use Rattle.orchestra.specs.Reading.{startsFrom}
+use Rattle.orchestra.specs.Arrays.{startsIn, headedAt, markedAt, Fits}
+
+-- ---- the ways through one turn
+
+module _ (h : Starts) (o at : ℕ) where
+  pub marked-room : o ≡ 1 → h .count < 8 → record { count = h .count + 1; places = set (h .places) (h .count) at } ≡ markedAt h o at
+  marked-room e lt = rw (eq-eqb o 1 e, lt-ltb (h .count) 8 lt)
+
+  pub marked-full : o ≡ 1 → 8 ≤ h .count → h ≡ markedAt h o at
+  marked-full e le = rw (eq-eqb o 1 e, le-ltb (h .count) 8 le)
+
+  pub marked-not : (o ≡ 1 → ⊥) → h ≡ markedAt h o at
+  marked-not n = rw (ne-eqb o 1 n)
+
+-- ---- the whole loop
+
+unfoldable pub marks : Starts → ℕ → List ℕ → Starts
+marks h n [] = h
+marks h n (o ∷ os) = marks (markedAt h o n) (suc n) os
+
+fits-marked : (h : Starts) (o at : ℕ) → Fits h → Fits (markedAt h o at)
+fits-marked h o at f = by-op (eqb o 1)
+  where
+    by-room : (b : Bool) → ltb (h .count) 8 ≡ b → Fits (cond b (record { count = h .count + 1; places = set (h .places) (h .count) at }) h)
+    by-room true e = record { most = omega (arith, ltb-true (h .count) 8 e); cells = length-set (h .places) (h .count) at ∙ f .cells }
+    by-room false e = f
+
+    by-op : (b : Bool) → Fits (cond b (headedAt h at) h)
+    by-op true = by-room (ltb (h .count) 8) refl
+    by-op false = f
+
+-- the turns so far, and those to come
+pub record Inv (ops : List ℕ) (h : Starts) (pc : ℕ) : Type 0 where
+  pub fits : Fits h
+  pub rest : marks h pc (drop pc ops) ≡ marks (startsIn []) 0 ops
+
+pub begins : (ops : List ℕ) → Inv ops (startsIn []) 0
+begins ops = record { fits = record { most = omega arith; cells = refl }; rest = refl }
+
+pub again : (ops : List ℕ) {h r : Starts} (pc : ℕ) → Inv ops h pc → pc < length ops → r ≡ markedAt h (getD ops pc 0) pc → Inv ops r (pc + 1)
+unfolding marks
+again ops {h} {r} pc v lt e =
+    let s : pc + 1 ≡ suc pc = omega arith in
+    let d = ap (marks h pc) (sym (drop-cons ops pc 0 lt)) in
+    rw (e, s) (record { fits = fits-marked h (getD ops pc 0) pc (v .fits); rest = d ∙ v .rest })
+
+-- places in an array: one more
+place-next : (hs : List ℕ) (n : ℕ) → length hs < 8 → set (padded 8 0 hs) (length hs) n ≡ padded 8 0 (hs ++ n ∷ [])
+place-next [] n lt = refl
+place-next (a ∷ []) n lt = refl
+place-next (a ∷ b ∷ []) n lt = refl
+place-next (a ∷ b ∷ c ∷ []) n lt = refl
+place-next (a ∷ b ∷ c ∷ d ∷ []) n lt = refl
+place-next (a ∷ b ∷ c ∷ d ∷ e ∷ []) n lt = refl
+place-next (a ∷ b ∷ c ∷ d ∷ e ∷ f ∷ []) n lt = refl
+place-next (a ∷ b ∷ c ∷ d ∷ e ∷ f ∷ g ∷ []) n lt = refl
+place-next (a ∷ b ∷ c ∷ d ∷ e ∷ f ∷ g ∷ h ∷ hs) n lt = absurd (omega arith)
+
+headed-in : (hs : List ℕ) (n : ℕ) → length hs < 8 → headedAt (startsIn hs) n ≡ startsIn (hs ++ n ∷ [])
+headed-in hs n lt =
+    rw (lt-ltb (length hs) 8 lt)
+    (λ i. record { count = (sym (length-append hs (n ∷ []))) i; places = place-next hs n lt i })
+
+full-in : (hs : List ℕ) (n : ℕ) → 8 ≤ length hs → headedAt (startsIn hs) n ≡ startsIn hs
+full-in hs n le = rw (le-ltb (length hs) 8 le)
+
+module _ (hs os : List ℕ) (n : ℕ) (le : length hs ≤ 8)
+    (next : (gs : List ℕ) → length gs ≤ 8 → marks (startsIn gs) (suc n) os ≡ startsIn (take 8 (gs ++ startsFrom (suc n) os))) where
+  by-room : (b : Bool) → ltb (length hs) 8 ≡ b → marks (headedAt (startsIn hs) n) (suc n) os ≡ startsIn (take 8 (hs ++ n ∷ startsFrom (suc n) os))
+  by-room true e =
+      let lt = ltb-true (length hs) 8 e in
+      ap (λ s. marks s (suc n) os) (headed-in hs n lt)
+      ∙ next (hs ++ n ∷ []) (omega (arith, length-append hs (n ∷ [])))
+      ∙ ap (λ l. startsIn (take 8 l)) (append-assoc hs (n ∷ []) (startsFrom (suc n) os))
+  by-room false e =
+      let ge = ltb-false (length hs) 8 e in
+      ap (λ s. marks s (suc n) os) (full-in hs n ge)
+      ∙ next hs le
+      ∙ ap startsIn (take-append-le 8 hs (startsFrom (suc n) os) ge ∙ sym (take-append-le 8 hs (n ∷ startsFrom (suc n) os) ge))
+
+  by-op : (b : Bool) → marks (cond b (headedAt (startsIn hs) n) (startsIn hs)) (suc n) os
+      ≡ startsIn (take 8 (hs ++ cond b (n ∷ startsFrom (suc n) os) (startsFrom (suc n) os)))
+  by-op true = by-room (ltb (length hs) 8) refl
+  by-op false = next hs le
+
+marks-are : (hs os : List ℕ) (n : ℕ) → length hs ≤ 8 → marks (startsIn hs) n os ≡ startsIn (take 8 (hs ++ startsFrom n os))
+unfolding marks startsFrom
+marks-are hs [] n le = rw append-nil (ap startsIn (sym (take-all 8 hs le)))
+marks-are hs (o ∷ os) n le = by-op hs os n le (λ gs l. marks-are gs os (suc n) l) (eqb o 1)
+
+pub ends : (ops : List ℕ) {h : Starts} (pc : ℕ) → Inv ops h pc → length ops ≤ pc → h ≡ startsIn (take 8 (startsFrom 0 ops))
+unfolding marks
+ends ops {h} pc v le = sym (ap (marks h pc) (drop-past ops pc le)) ∙ v .rest ∙ marks-are [] ops 0 (omega arith)
+  where
+    drop-past : (l : List ℕ) (n : ℕ) → length l ≤ n → drop n l ≡ []
+    drop-past l n le = drop-of-length-le l {i = n} le

@@ -1,0 +1,120 @@
+-- Every orchestra is given what its tokens and its tree say, and has one reading only.
+use Prim.Native.Nat.{ℕ, _≤_, _<_}
+use native.Mathlib.Omega.{arith}
+use mathlib.Core.Path.{_≡_, refl, sym, ap, ap₂, _∙_, subst}
+use mathlib.Core.Bool.{Bool, true, false, cond, false≢true}
+use mathlib.Core.List.{List, [], _∷_, map}
+use lib.ListN.{length, take}
+use lib.Dec.{ltb}
+use lib.Ieee.{Float}
+use borrow.Author.Tests.{ltb-true, ltb-false, le-ltb}
+use Rattle.answer.specs.declared.Answer.{Answer}
+use Rattle.answer.specs.declared.Answer.the-variants.{Taken, BadToken, BadGrammar, BadNames, BadRates, TooLarge}
+use Rattle.tokens.specs.declared.Token.{Token}
+use Rattle.tokens.specs.Bytes.{Got, none, some, tokensOf}
+use Rattle.tokens.specs.Measures.{measured}
+use Rattle.syntax.specs.Tree.{Instrument}
+use Rattle.syntax.specs.Names.{nameRules, placed}
+use Rattle.syntax.specs.Rates.{rateRules}
+use Rattle.syntax.specs.Program.{Ins, program}
+use Rattle.expressions.specs.Reader.{Res, no, ok}
+use Rattle.expressions.proofs.Laws.{All, none as unread, some as read}
+use Rattle.grammar.specs.Grammar.{Orchestra}
+use Rattle.grammar.specs.Reader.{orchestra}
+use Rattle.grammar.proofs.Complete.{complete}
+use Rattle.grammar.proofs.Sound.{Orchestrated, sound}
+use Rattle.grammar.proofs.Unique.{unique}
+use Rattle.rules.specs.Formed.{opsOf, argsOf, valsOf}
+use Rattle.rules.specs.Naming.{namesPass, placesPass}
+use Rattle.rules.specs.Rating.{ratesPass}
+use Rattle.rules.proofs.NamesLaw.{names-law}
+use Rattle.rules.proofs.PlacesLaw.{places-law, ops-stay, vals-stay}
+use Rattle.rules.proofs.RatesLaw.{rates-law}
+use Rattle.orchestra.specs.declared.Outcome.{Outcome}
+use Rattle.orchestra.specs.Compiled.{laid, compile, headsFrom}
+use Rattle.orchestra.specs.Reading.{taken, refused, startsFrom, byRates, byNames, byGrammar, byTokens, readOf}
+use Rattle.orchestra.specs.Verdict.{longest, Sized, Accepted, Verdict, tooLong, noTokens, tooLarge, outside, misnamed, misrated, accepted, EveryVerdict, AcceptedExactly, OneReading}
+use Rattle.orchestra.proofs.Formed.{formed}
+use Rattle.orchestra.proofs.Heads.{heads-are, all-heads, at-most-8}
+
+never : {A : Type 0} → _≡_ {A = ℕ} 0 1 → A
+never z = absurd (omega arith)
+
+module _ {is : List Instrument} {ts : List Token} (d : Orchestra is ts) where
+  -- the program of a tree, judged by the name rules and then by the rate rules
+  names-judged : (b : Bool) → nameRules is ≡ b
+      → byNames (opsOf (program is)) (argsOf (program is)) (valsOf (program is))
+      ≡ cond b (byRates (opsOf (program is)) (placesPass (opsOf (program is)) (argsOf (program is))) (valsOf (program is))) (refused BadNames)
+  names-judged b e = rw (names-law is (formed d), e)
+
+  compiled : nameRules is ≡ true
+      → laid (take 8 (startsFrom 0 (opsOf (program is)))) (opsOf (program is)) (argsOf (program (map placed is))) (valsOf (program is)) ≡ compile is
+  unfolding compile
+  compiled n = rw (heads-are is (formed d) 0, all-heads is (at-most-8 is n), ops-stay is, vals-stay is)
+
+  rates-judged : nameRules is ≡ true → (b : Bool) → rateRules is ≡ b
+      → byRates (opsOf (program is)) (placesPass (opsOf (program is)) (argsOf (program is))) (valsOf (program is)) ≡ cond b (taken (compile is)) (refused BadRates)
+  rates-judged n b e = rw (places-law is (formed d) n, ratesPass-is, compiled n)
+    where
+      ratesPass-is : ratesPass (opsOf (program is)) (argsOf (program (map placed is))) ≡ b
+      ratesPass-is = ap (λ l. ratesPass l (argsOf (program (map placed is)))) (sym (ops-stay is)) ∙ rates-law is (formed d) n ∙ e
+
+-- a reading by the grammar, judged
+module _ (bs : List ℕ) (ts : List Token) (s : Sized bs ts) where
+  derived-verdict : (is : List Instrument) → Orchestra is ts → Verdict bs (byGrammar (ok (program is) []))
+  derived-verdict is d = by-names (nameRules is) refl
+    where
+      by-rates : nameRules is ≡ true → (b : Bool) → rateRules is ≡ b → Verdict bs (cond b (taken (compile is)) (refused BadRates))
+      by-rates n true e = accepted is (record { tokens = ts; sized = s; derived = d; named = n; rated = e })
+      by-rates n false e = misrated ts is s d n e
+
+      by-names : (b : Bool) → nameRules is ≡ b → Verdict bs (byGrammar (ok (program is) []))
+      by-names true e = rw (names-judged d true e, rates-judged d e (rateRules is) refl) (by-rates e (rateRules is) refl)
+      by-names false e = rw (names-judged d false e) (misnamed ts is s d e)
+
+  grammar-verdict : (x : Res) → orchestra ts ≡ x → All (Orchestrated ts) x → Verdict bs (byGrammar x)
+  grammar-verdict no e unread = outside ts s (λ is d. let z = sym e ∙ complete d in let y : _≡_ {A = ℕ} 0 1 = cc in omega arith)
+  grammar-verdict (ok c r) e (read h) = rw (h .code) (derived-verdict (h .tree) (h .derives))
+
+pub every-verdict : EveryVerdict
+unfolding readOf
+every-verdict bs = by-length (ltb 16384 (length bs)) refl
+  where
+    by-measures : (ts : List Token) → length bs ≤ longest → tokensOf bs ≡ some ts → (b : Bool) → measured ts ≡ b
+        → Verdict bs (cond b (byGrammar (orchestra ts)) (refused TooLarge))
+    by-measures ts le e true m = grammar-verdict bs ts (record { short = le; tokens = e; within = m }) (orchestra ts) refl (sound ts)
+    by-measures ts le e false m = tooLarge ts le e m
+
+    by-tokens : length bs ≤ longest → (g : Got) → tokensOf bs ≡ g → Verdict bs (byTokens g)
+    by-tokens le none e = noTokens le e
+    by-tokens le (some ts) e = by-measures ts le e (measured ts) refl
+
+    by-length : (b : Bool) → ltb 16384 (length bs) ≡ b → Verdict bs (cond b (refused TooLarge) (byTokens (tokensOf bs)))
+    by-length true e = tooLong (ltb-true 16384 (length bs) e)
+    by-length false e = by-tokens (ltb-false 16384 (length bs) e) (tokensOf bs) refl
+
+pub one-reading : OneReading
+one-reading bs is js a b =
+    let e : a .tokens ≡ b .tokens = let z = sym (a .sized .tokens) ∙ b .sized .tokens in cc in
+    unique (a .derived) (b .derived) e
+
+-- the bytes of an accepted orchestra are read so
+accepted-read : (bs : List ℕ) (is : List Instrument) → Accepted bs is → readOf bs ≡ taken (compile is)
+unfolding readOf
+accepted-read bs is a =
+    let n : ltb 16384 (length bs) ≡ false = le-ltb 16384 (length bs) (a .sized .short) in
+    rw (n, a .sized .tokens, a .sized .within, complete (a .derived))
+    (names-judged (a .derived) true (a .named) ∙ rates-judged (a .derived) (a .named) true (a .rated))
+
+-- a verdict of 0 comes from an accepted orchestra
+taken-accepted : (bs : List ℕ) (r : Outcome) → Verdict bs r → r .answer ≡ Taken → (is : List Instrument) × Accepted bs is
+taken-accepted bs r (tooLong lt) e = never (cc)
+taken-accepted bs r (noTokens le f) e = never (cc)
+taken-accepted bs r (tooLarge ts le f m) e = never (cc)
+taken-accepted bs r (outside ts s f) e = never (cc)
+taken-accepted bs r (misnamed ts is s d f) e = never (cc)
+taken-accepted bs r (misrated ts is s d n f) e = never (cc)
+taken-accepted bs r (accepted is a) e = (is, a)
+
+pub accepted-exactly : AcceptedExactly
+accepted-exactly bs = ((λ e. taken-accepted bs (readOf bs) (every-verdict bs) e), λ is a. accepted-read bs is a)

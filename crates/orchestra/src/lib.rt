@@ -1,0 +1,165 @@
+// The orchestra: from bytes to the program that the panel keeps.
+use answer::Answer;
+use expressions::Got;
+ghost use mathlib.Core.Path.{_≡_};
+ghost use Prim.Native.Nat.{_≤_};
+ghost use lib.ListN.{length, take};
+ghost use Rattle.tokens.specs.Token.{toks};
+ghost use Rattle.grammar.specs.Reader.{orchestra};
+ghost use Rattle.orchestra.specs.Reading.{refused, startsFrom, byGrammar, readOf};
+ghost use Rattle.orchestra.specs.Arrays.{startsIn, markedAt, Fits, judgement, placedIf, keptIn, finishedIn};
+
+// The program of an accepted orchestra: where each instrument starts, and an operation, a name or place and a number for each instruction.
+pub struct Program {
+    pub count: usize,
+    pub heads: [u16; 8],
+    pub length: usize,
+    pub ops: [u8; 2048],
+    pub args: [u16; 2048],
+    pub vals: [f32; 2048],
+}
+
+// What reading an orchestra gives: the answer, and its program. On refusal a blank program.
+pub struct Outcome {
+    pub answer: Answer,
+    pub program: Program,
+}
+
+fn refused(a: Answer) -> Outcome
+    ensures { λ r. ⌜ r ≡ refused a ⌝ }
+{
+    Outcome {
+        answer: a,
+        program: Program {
+            count: 0,
+            heads: [0; 8],
+            length: 0,
+            ops: [0; 2048],
+            args: [0; 2048],
+            vals: [0.0; 2048],
+        },
+    }
+}
+
+// Where the first 8 instruments start.
+struct Starts {
+    count: usize,
+    places: [u16; 8],
+}
+
+// With the place of one more operation: an instrument starts at instr, where there is room for it.
+fn marked(h: Starts, op: u8, at: u16) -> Starts
+    requires { ⌜ Fits h ⌝ }
+    ensures { λ r. ⌜ r ≡ markedAt h op at ⌝ }
+{
+    let count = h.count;
+    let mut places = h.places;
+    if op == 1 {
+        if count < 8 {
+            places[count] = at;
+            return Starts {
+                count: count + 1,
+                places: places,
+            };
+        }
+    }
+    h
+}
+
+fn starts_of(ops: &[u8]) -> Starts
+    requires { ⌜ length (now ops) ≤ 2048 ⌝ }
+    ensures { λ r. ⌜ r ≡ startsIn (take 8 (startsFrom 0 (now (ops .entry)))) ⌝ }
+{
+    let mut h = Starts {
+        count: 0,
+        places: [0; 8],
+    };
+    let mut pc: usize = 0;
+    while pc < ops.len() {
+        h = marked(h, ops[pc], pc as u16);
+        pc += 1;
+    }
+    h
+}
+
+// The name rules, then the rate rules. Where the first are kept, names are put by their places.
+fn judged(ops: &[u8], args: &mut [u16]) -> Answer
+    ensures answer { λ r. ⌜ r ≡ judgement (now (ops .entry)) (now (args .entry)) ⌝ }
+    ensures names { λ r. ⌜ now (args .exit) ≡ placedIf (now (ops .entry)) (now (args .entry)) ⌝ }
+{
+    if rules::names_kept(ops, args) {
+        rules::place_names(ops, args);
+        if rules::rates_kept(ops, args) {
+            Answer::Taken
+        } else {
+            Answer::BadRates
+        }
+    } else {
+        Answer::BadNames
+    }
+}
+
+// An accepted orchestra, whose program stands in the first cells of three arrays.
+fn kept(ops: [u8; 2048], args: [u16; 2048], vals: [f32; 2048], length: usize) -> Outcome
+    requires { ⌜ length ≤ 2048 ⌝ }
+    ensures { λ r. ⌜ r ≡ keptIn ops args vals length ⌝ }
+{
+    let s = starts_of(&ops[..length]);
+    let heads = s.places;
+    Outcome {
+        answer: Answer::Taken,
+        program: Program {
+            count: s.count,
+            heads: heads,
+            length: length,
+            ops: ops,
+            args: args,
+            vals: vals,
+        },
+    }
+}
+
+// The rules, of a program in the first cells of three arrays.
+fn finished(ops: [u8; 2048], args: [u16; 2048], vals: [f32; 2048], length: usize) -> Outcome
+    requires { ⌜ length ≤ 2048 ⌝ }
+    ensures { λ r. ⌜ r ≡ finishedIn ops args vals length ⌝ }
+{
+    let mut places = args;
+    let a = judged(&ops[..length], &mut places[..length]);
+    if answer::is_taken(a) {
+        kept(ops, places, vals, length)
+    } else {
+        refused(a)
+    }
+}
+
+// The grammar, then the rules, of tokens within the measures.
+fn parsed(kinds: &[u8], words: &[u32], reals: &[f32]) -> Outcome
+    requires { ⌜ length (now kinds) ≤ 2048 ⌝ }
+    ensures { λ r. ⌜ r ≡ byGrammar (orchestra (toks (now (kinds .entry)) (now (words .entry)) (now (reals .entry)))) ⌝ }
+{
+    let mut ops = [0u8; 2048];
+    let mut args = [0u16; 2048];
+    let mut vals = [0.0f32; 2048];
+    match instruments::orchestra(kinds, words, reals, &mut ops, &mut args, &mut vals) {
+        Got::Next(_, length) => finished(ops, args, vals, length),
+        Got::Refused => refused(Answer::BadGrammar),
+    }
+}
+
+// The program of an orchestra's bytes, or the first refusal in document 01's order: each stage runs over the whole orchestra before the next.
+pub fn read(bytes: &[u8]) -> Outcome
+    ensures { λ r. ⌜ r ≡ readOf (now (bytes .entry)) ⌝ }
+{
+    let t = tokens::read(bytes);
+    let a = t.answer;
+    if answer::is_taken(a) {
+        let count = t.count;
+        let kinds = t.kinds;
+        let words = t.words;
+        let reals = t.reals;
+        parsed(&kinds[..count], &words, &reals)
+    } else {
+        refused(a)
+    }
+}
