@@ -1,10 +1,12 @@
--- Decoding into an area and writing from one undo each other. Statements only; the proofs are in proofs/Proved.antt.
+-- Decoding into an area and writing from one undo each other, and the faults of a line. Statements only; the proofs are in proofs/Proved.antt and proofs/Faults.antt.
 use Prim.Native.Nat.{ℕ, _*_, _^_, _<_, _≤_}
 use mathlib.Core.Path.{_≡_}
 use mathlib.Core.List.{List, _++_}
 use lib.Dec.{T}
 use lib.ListN.{length, getD, drop}
-use Rattle.answer.specs.declared.Answer.the-variants.{Taken}
+use Rattle.answer.specs.declared.Answer.{Answer}
+use Rattle.answer.specs.declared.Answer.the-variants.{Taken, OutOfRange, TooManyValues}
+use Rattle.line_writer.specs.Writing.{lineFault}
 use Rattle.bitstream.specs.Bits.{bitsOf}
 use Rattle.score_line.specs.declared.Line.{Line}
 use Rattle.score.specs.Score.{scoreOf}
@@ -36,3 +38,13 @@ abbrev pub AreaThroughScore : Type 0
 AreaThroughScore =
     (area : List ℕ) (n : ℕ) → ((i : ℕ) → getD area i 0 < 2 ^ 32) → 18 * n ≤ length area → n ≤ mostLines → areaFault area n 0 .answer ≡ Taken
     → areaAfter (scoreOf (bitsOf (scoreBytes (areaLines area n 0)))) area ≡ area
+
+-- the faults of a line as it stands: none, 3 or 5
+pub data Kind : Answer → Type 0 where
+  in-range : Kind Taken
+  out-of-range : Kind OutOfRange
+  too-many : Kind TooManyValues
+
+-- a line has eight places for values
+abbrev pub FaultKinds : Type 0
+FaultKinds = (l : Line) → length (l .values) ≡ 8 → Kind (lineFault l)

@@ -20,6 +20,7 @@ use Rattle.score.specs.declared.ScoreRead.{ScoreRead}
 use Rattle.score.specs.declared.Cursor.{Cursor}
 use Rattle.score.specs.declared.Step.{Step}
 use Rattle.score.proofs.Walk.{answered, ahead-first, ahead-left, walk-all}
+use Rattle.score_area.specs.declared.Decoded.{Decoded}
 use Rattle.score_area.specs.Area.{areaWords, laid, decodedOf, areaAfter, Left, carried, SlotPut}
 
 -- ---- one slot, word by word
@@ -139,6 +140,10 @@ module _ (s : Score) (old : List ℕ) where
   left-taken new h k n =
       let e = le-leb (18 * length (s .lines)) (length old) k in
       record { told = sym (cond-true _ _ h ∙ cond-true _ _ e); area = n ∙ sym (cond-true _ _ h ∙ cond-true _ _ e) }
+
+-- what a call told
+pub is-told : (s : Score) (old new : List ℕ) {x y : Decoded} → x ≡ y → Left s old new y → Left s old new x
+is-told s old new e l = record { told = e ∙ l .told; area = l .area }
 
 pub taken-is : (a : Answer) → isTaken a ≡ true → a ≡ Taken
 taken-is answer.Taken e = refl

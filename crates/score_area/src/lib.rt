@@ -15,6 +15,16 @@ pub struct Decoded {
     pub count: usize,
 }
 
+fn told(answer: Answer, line: usize, count: usize) -> Decoded
+    ensures { λ r. ⌜ r ≡ record { answer = answer; line = line; count = count } ⌝ }
+{
+    Decoded {
+        answer: answer,
+        line: line,
+        count: count,
+    }
+}
+
 // Puts the 18 words of a line into the area at a position.
 fn put_slot(area: &mut [u32], at: usize, slot: [u32; 18])
     requires { ⌜ at + 18 ≤ length (now area) ⌝ }
@@ -55,23 +65,11 @@ pub fn decode_score(bytes: &[u8], area: &mut [u32]) -> Decoded
         let count = start.left;
         if count <= area.len() / 18 {
             fill(bytes, area, start);
-            return Decoded {
-                answer: Answer::Taken,
-                line: 0,
-                count: count,
-            };
+            return told(Answer::Taken, 0, count);
         }
-        return Decoded {
-            answer: Answer::NoRoom,
-            line: 0,
-            count: 0,
-        };
+        return told(Answer::NoRoom, 0, 0);
     }
-    Decoded {
-        answer: answer,
-        line: read.line,
-        count: 0,
-    }
+    told(answer, read.line, 0)
 }
 
 // An access unit's line into the area, by the same rules.
@@ -84,21 +82,9 @@ pub fn decode_unit(bytes: &[u8], area: &mut [u32]) -> Decoded
         if 18 <= area.len() {
             let line = read.line;
             put_slot(area, 0, line_writer::line_slot(line));
-            return Decoded {
-                answer: Answer::Taken,
-                line: 0,
-                count: 1,
-            };
+            return told(Answer::Taken, 0, 1);
         }
-        return Decoded {
-            answer: Answer::NoRoom,
-            line: 0,
-            count: 0,
-        };
+        return told(Answer::NoRoom, 0, 0);
     }
-    Decoded {
-        answer: answer,
-        line: 0,
-        count: 0,
-    }
+    told(answer, 0, 0)
 }
