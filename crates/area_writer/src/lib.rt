@@ -4,7 +4,7 @@ use score::ScoreRead;
 use score_line::Line;
 use score_line::LineRead;
 ghost use mathlib.Core.Path.{_≡_};
-ghost use Prim.Native.Nat.{_+_, _-_, _*_, _/_, _%_, _<_, _≤_};
+ghost use Prim.Native.Nat.{_*_, _≤_};
 ghost use Prim.Native.Nat.{min as lesser};
 ghost use mathlib.Core.Bool.{false};
 ghost use lib.ListN.{length, drop, replicate};

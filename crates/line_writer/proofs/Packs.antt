@@ -50,7 +50,7 @@ unfolding fieldWidths
 widths-snoc [] w v = refl
 widths-snoc (of a b ∷ fs) w v = ap (λ (l : List ℕ). a ∷ l) (widths-snoc fs w v)
 
-sum-snoc : (fs : List Field) (w v : ℕ) → widths (fs ++ (of w v ∷ [])) ≡ widths fs + w
+pub sum-snoc : (fs : List Field) (w v : ℕ) → widths (fs ++ (of w v ∷ [])) ≡ widths fs + w
 sum-snoc [] w v = omega arith
 sum-snoc (of a b ∷ fs) w v = ap (λ (k : ℕ). a + k) (sum-snoc fs w v) ∙ sym (add-assoc a (widths fs) w)
 

@@ -3,7 +3,7 @@ use Prim.Native.Nat.{ℕ, zero, suc, _+_, _-_, _*_, _/_, _<_, _≤_}
 use mathlib.Core.Path.{_≡_, refl, sym, ap, ap₂, _∙_, subst}
 use mathlib.Core.Bool.{Bool, true, false, _&&_, true≢false}
 use mathlib.Core.List.{List, [], _∷_, _++_, append-assoc, append-nil, map}
-use native.Mathlib.Nat.{add-zero, add-assoc, lt-of-not-le}
+use native.Mathlib.Nat.{add-zero, lt-of-not-le}
 use native.Mathlib.Numerals.{add-one}
 use native.Mathlib.Decide.{decLe}
 use native.Mathlib.Omega.{arith}
@@ -33,7 +33,7 @@ use Rattle.line_writer.specs.Writing.{lineFault, lineSlot, bitsFit, line
 use Rattle.line_writer.specs.declared.Fields.{Fields}
 use Rattle.line_writer.proofs.InBits.{length-bits}
 use Rattle.line_writer.proofs.InWords.{length-words}
-use Rattle.line_writer.proofs.Packs.{length-widths}
+use Rattle.line_writer.proofs.Packs.{length-widths, sum-snoc}
 use Rattle.line_writer.proofs.Proved.{length-line}
 
 -- ---- whether bits fit
@@ -80,10 +80,6 @@ widths-grow ws vs (suc i) zero h = absurd (omega arith)
 widths-grow [] vs (suc i) (suc n) h = omega arith
 widths-grow (w ∷ ws) [] (suc i) (suc n) h = omega arith
 widths-grow (w ∷ ws) (v ∷ vs) (suc i) (suc n) h = omega (arith, widths-grow ws vs i n (omega arith))
-
-sum-snoc : (fs : List Field) (w v : ℕ) → widths (fs ++ (of w v ∷ [])) ≡ widths fs + w
-sum-snoc [] w v = omega arith
-sum-snoc (of a b ∷ fs) w v = ap (λ (k : ℕ). a + k) (sum-snoc fs w v) ∙ sym (add-assoc a (widths fs) w)
 
 bits-snoc : (fs : List Field) (w v : ℕ) → fieldBits (fs ++ (of w v ∷ [])) [] ≡ fieldBits fs [] ++ field w v
 unfolding fieldBits

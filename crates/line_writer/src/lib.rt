@@ -6,7 +6,7 @@ use score_line::Line;
 use score_line::When;
 ghost use mathlib.Core.Path.{_≡_};
 ghost use mathlib.Core.List.{[], _∷_, map};
-ghost use Prim.Native.Nat.{_+_, _*_, _<_, _≤_};
+ghost use Prim.Native.Nat.{_*_, _≤_};
 ghost use Prim.Native.Nat.{min as lesser};
 ghost use lib.ListN.{length, take};
 ghost use lib.Ieee.{binary32, toBits};
