@@ -1,0 +1,5 @@
+pub mod Steady
+pub mod Doors
+pub mod Cycles
+pub mod Proved
+pub mod Refusals

@@ -1,0 +1,111 @@
+-- The claims, proved.
+use mathlib.Core.Path.{_≡_, refl, sym, ap, _∙_, subst, subst⁻¹}
+use mathlib.Core.Logic.{_⊎_, inl, inr}
+use mathlib.Core.Bool.{Bool, true, false, cond, _&&_}
+use mathlib.Core.List.{List, [], _∷_}
+use Prim.Native.Nat.{ℕ, _+_, _≤_}
+use native.Mathlib.Omega.{arith}
+use lib.IntN.{ℤ}
+use lib.ListN.{length, take, length-take, length-replicate}
+use lib.Dec.{eqb, leb}
+use borrow.Author.Tests.{le-leb}
+use Rattle.answer.specs.Numbers.{numberOf, isTaken}
+use Rattle.answer.specs.declared.Answer.{Answer}
+use Rattle.answer.specs.declared.Answer.the-variants as answer
+use Rattle.bitstream.specs.Bits.{bitsOf}
+use Rattle.score_line.specs.Reading.{keypadLine}
+use Rattle.score_line.specs.declared.Line.{Line}
+use Rattle.score_line.specs.declared.LineRead.{LineRead}
+use Rattle.score.specs.Score.{scoreOf, heard, unitOf}
+use Rattle.waiting.specs.Admission.{hasTime}
+use Rattle.waiting.specs.declared.Queue.{Queue}
+use Rattle.waiting.specs.declared.Admitted.{Admitted}
+use Rattle.players.specs.Cycle.{Voices, Core, samples, ends}
+use Rattle.players.specs.Plain.{plainStart}
+use Rattle.players.specs.Lists.{each}
+use Rattle.players.specs.History.{Call, stick, unit, keypad, cycle, After, Entrances, PlainAlike, CeilingHolds}
+use Rattle.players.proofs.Lists.{cond-true, cond-false}
+use Rattle.players.proofs.Works.{Turned, Works}
+use Rattle.players.proofs.Alike.{plain-alike}
+use Rattle.players.proofs.Ceiling.{ceiling-holds}
+use Rattle.sounding.specs.Voices.{Held}
+use Rattle.panel.specs.Entrances.{lineIn, stickLine, pushedAll}
+use Rattle.panel.specs.State.{tableOf, voicesOf, queueIn, withQueue, coreOf, endedOf, startOf, emptyLine}
+use Rattle.panel.specs.Calls.{freshOf, loadOf, receiveOf, enterOf, cycleOf, blockAfter}
+use Rattle.panel.specs.declared.Panel.{Panel}
+use Rattle.panel.specs.declared.Program.{Program}
+use Rattle.panel.specs.declared.Fresh.{Fresh}
+use Rattle.claims.specs.Claims.{afterCall, missedOf, entrances, freshPanel, Condition3, CeilingBinds, Unchanged, RefusalsChangeNothing, EntrancesAlike}
+use Rattle.claims.proofs.Steady.{score-steady, unit-steady, keypad-steady}
+use Rattle.claims.proofs.Doors.{Fine, Door, sticks, units, keypads}
+use Rattle.claims.proofs.Cycles.{Turn, cycles}
+
+module _ (program : Program) (ceiling : ℕ) where
+  few : (p : Panel) → Fine program ceiling p → length (coreOf p .lines) ≤ 64
+  unfolding coreOf
+  few p f = omega (arith, length-take (p .waiting) (p .lines), f .long)
+
+  counts : (p : Panel) → p .missed ≡ coreOf p .missed
+  unfolding coreOf
+  counts p = refl
+
+  keeps : (p : Panel) (c : Call) → Fine program ceiling p → Fine program ceiling (afterCall p c .player)
+  unfolding afterCall
+  keeps p (stick b) f = sticks program ceiling p f b (score-steady (bitsOf b)) .fine
+  keeps p (unit b) f = units program ceiling p f b (unit-steady (bitsOf b)) .fine
+  keeps p (keypad w) f = keypads program ceiling p f w (keypad-steady w) .fine
+  keeps p (cycle b) f = cycles program ceiling p f b .fine
+
+  turned : (p : Panel) (b : List ℤ) → Fine program ceiling p
+      → Turned (voicesOf program) ceiling (eqb (length b) samples) b (coreOf p) (numberOf (cycleOf p (length b) .answer))
+      (coreOf (cycleOf p (length b) .panel)) (blockAfter p b)
+  turned p b f =
+      subst (λ (g : Program). Turned (voicesOf g) ceiling (eqb (length b) samples) b (coreOf p) (numberOf (cycleOf p (length b) .answer)) (coreOf (cycleOf p (length b) .panel)) (blockAfter p b)) (f .has)
+      (subst (λ (c : ℕ). Turned (voicesOf (p .program)) c (eqb (length b) samples) b (coreOf p) (numberOf (cycleOf p (length b) .answer)) (coreOf (cycleOf p (length b) .panel)) (blockAfter p b)) (f .locked)
+      (cycles program ceiling p f b .turns))
+
+  works : Works entrances (voicesOf program) ceiling coreOf (Fine program ceiling)
+  unfolding afterCall
+  works =
+      record {
+        keeps = λ p c f. keeps p c f;
+        few = few;
+        counts = λ p f. counts p;
+        sticks = λ p b f. sticks program ceiling p f b (score-steady (bitsOf b)) .enters;
+        units = λ p b f. units program ceiling p f b (unit-steady (bitsOf b)) .enters;
+        keypads = λ p w f. keypads program ceiling p f w (keypad-steady w) .enters;
+        turns = turned;
+      }
+
+  module _ (low : 1 ≤ ceiling) (high : ceiling ≤ 32767) where
+    fresh-is : freshPanel program ceiling ≡ startOf program ceiling false
+    unfolding freshOf
+    fresh-is =
+        ap (λ (x : Fresh). x .panel)
+        (cond-true _ _ (ap (λ (t : Bool). t && leb ceiling 32767) (le-leb 1 ceiling low) ∙ le-leb ceiling 32767 high))
+
+    start-fine : Fine program ceiling (startOf program ceiling false)
+    unfolding startOf
+    start-fine = record { long = length-replicate 64 emptyLine; has = refl; locked = refl }
+
+    start-core : coreOf (startOf program ceiling false) ≡ plainStart []
+    unfolding startOf coreOf plainStart each
+    start-core = refl
+
+    fresh-fine : Fine program ceiling (freshPanel program ceiling)
+    fresh-fine = subst⁻¹ (Fine program ceiling) fresh-is start-fine
+
+    alike : PlainAlike entrances (voicesOf program) ceiling (freshPanel program ceiling)
+    alike = plain-alike entrances (voicesOf program) ceiling coreOf (Fine program ceiling) works (freshPanel program ceiling) fresh-fine (ap coreOf fresh-is ∙ start-core)
+
+    binds : CeilingHolds entrances ceiling (freshPanel program ceiling)
+    binds = ceiling-holds entrances (voicesOf program) ceiling coreOf (Fine program ceiling) works low high (freshPanel program ceiling) fresh-fine
+
+-- condition 3, whole
+pub condition-3 : Condition3
+unfolding Condition3
+condition-3 program ceiling low high = alike program ceiling low high
+
+pub ceiling-binds : CeilingBinds
+unfolding CeilingBinds
+ceiling-binds program ceiling low high = binds program ceiling low high

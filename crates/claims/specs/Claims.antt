@@ -1,0 +1,82 @@
+-- The tender's conditions 1 and 3 for the panel, over its public calls.
+use mathlib.Core.Path.{_≡_}
+use mathlib.Core.Logic.{_⊎_}
+use mathlib.Core.Bool.{Bool, true, false}
+use mathlib.Core.List.{List, [], _∷_}
+use Prim.Native.Nat.{ℕ, _≤_}
+use lib.IntN.{ℤ}
+use lib.ListN.{length}
+use lib.Dec.{eqb}
+use Rattle.answer.specs.Numbers.{numberOf, isTaken}
+use Rattle.bitstream.specs.Bits.{bitsOf}
+use Rattle.score_line.specs.Reading.{keypadLine}
+use Rattle.score_line.specs.declared.Line.{Line}
+use Rattle.score.specs.Score.{scoreOf, unitOf}
+use Rattle.waiting.specs.Admission.{hasTime}
+use Rattle.players.specs.History.{Call, stick, unit, keypad, cycle, After, Entrances, PlainAlike, CeilingHolds}
+use Rattle.panel.specs.State.{voicesOf, endedOf}
+use Rattle.panel.specs.Calls.{freshOf, loadOf, receiveOf, enterOf, cycleOf, blockAfter}
+use Rattle.panel.specs.declared.Panel.{Panel}
+use Rattle.panel.specs.declared.Program.{Program}
+
+-- what each call of the panel leaves
+unfoldable pub afterCall : Panel → Call → After Panel
+afterCall p (stick bytes) = record { player = loadOf p bytes .panel; answer = numberOf (loadOf p bytes .answer); block = [] }
+afterCall p (unit bytes) = record { player = receiveOf p bytes .panel; answer = numberOf (receiveOf p bytes .answer); block = [] }
+afterCall p (keypad words) = record { player = enterOf p words .panel; answer = numberOf (enterOf p words .answer); block = [] }
+afterCall p (cycle block) =
+    record {
+      player = cycleOf p (length block) .panel;
+      answer = numberOf (cycleOf p (length block) .answer);
+      block = blockAfter p block;
+    }
+
+abbrev pub missedOf : Panel → ℕ
+missedOf p = p .missed
+
+-- the panel's entrances, and the lines that bytes and numbers hold
+abbrev pub entrances : Entrances Panel
+entrances =
+    record {
+      after = afterCall;
+      missed = missedOf;
+      inStick = λ (bytes : List ℕ). scoreOf (bitsOf bytes) .lines;
+      inUnit = λ (bytes : List ℕ). unitOf (bitsOf bytes) .line ∷ [];
+      inKeypad = λ (words : List ℕ). keypadLine words .line ∷ [];
+    }
+
+abbrev pub freshPanel : Program → ℕ → Panel
+freshPanel program ceiling = freshOf program ceiling .panel
+
+-- Condition 3, first half. For any program, any ceiling from 1 to 32,767 and any list of calls on a fresh panel: if every line taken is
+-- timed and in time, each cycle lent 320 samples gives the plain player's answer and block, and after every call the missed notes are its.
+unfoldable pub Condition3 : Type 0
+Condition3 =
+    (program : Program) (ceiling : ℕ) → 1 ≤ ceiling → ceiling ≤ 32767 →
+    PlainAlike entrances (voicesOf program) ceiling (freshPanel program ceiling)
+
+-- Condition 3, second half. For every list of calls no sample that a cycle gives lies above the ceiling or below its negative.
+unfoldable pub CeilingBinds : Type 0
+CeilingBinds =
+    (program : Program) (ceiling : ℕ) → 1 ≤ ceiling → ceiling ≤ 32767 → CeilingHolds entrances ceiling (freshPanel program ceiling)
+
+-- what a refused call leaves: the panel as it was, save that a cycle may mark the piece ended, and the lent block as it was
+abbrev pub Unchanged : Panel → Call → Type 0
+Unchanged p (stick bytes) = afterCall p (stick bytes) .player ≡ p
+Unchanged p (unit bytes) = afterCall p (unit bytes) .player ≡ p
+Unchanged p (keypad words) = afterCall p (keypad words) .player ≡ p
+Unchanged p (cycle block) =
+    ((afterCall p (cycle block) .player ≡ p) ⊎ (afterCall p (cycle block) .player ≡ endedOf p)) × (afterCall p (cycle block) .block ≡ block)
+
+-- Condition 1, of every call on every panel: a refusal changes neither the panel nor a lent block.
+unfoldable pub RefusalsChangeNothing : Type 0
+RefusalsChangeNothing = (p : Panel) (c : Call) → eqb (afterCall p c .answer) 0 ≡ false → Unchanged p c
+
+-- One timed line by each of the three entrances: read whole by all three, it gets the same answer and leaves the same panel.
+unfoldable pub EntrancesAlike : Type 0
+EntrancesAlike =
+    (p : Panel) (l : Line) (score bytes words : List ℕ) → hasTime (l .when) ≡ true →
+    isTaken (scoreOf (bitsOf score) .answer) ≡ true → scoreOf (bitsOf score) .lines ≡ l ∷ [] →
+    isTaken (unitOf (bitsOf bytes) .answer) ≡ true → unitOf (bitsOf bytes) .line ≡ l →
+    isTaken (keypadLine words .answer) ≡ true → keypadLine words .line ≡ l →
+    (afterCall p (stick score) ≡ afterCall p (unit bytes)) × (afterCall p (unit bytes) ≡ afterCall p (keypad words))

@@ -1,0 +1,13 @@
+use mathlib.Core.Path.{_≡_, refl, ap, sym, _∙_}
+use borrow.Author.Needs.{needs}
+use Rattle.players.specs.Plain.{startingTempo}
+use Rattle.panel.specs.State.{startOf, emptyLine, emptyNote}
+use Rattle.panel.proofs.start.Statement.{statement}
+use Rattle.panel.proofs.start.Tie as tie
+
+returns : tie.Need-returns
+unfolding startOf emptyLine emptyNote startingTempo
+returns c = refl
+
+pub start-spec : {M : Type 1} → statement M
+start-spec = tie.close (tie.spec returns)

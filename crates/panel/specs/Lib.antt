@@ -1,0 +1,4 @@
+pub mod Entrances
+pub mod Turn
+pub mod State
+pub mod Calls
