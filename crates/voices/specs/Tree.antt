@@ -1,0 +1,60 @@
+-- The voices of an orchestra's tree: what a line's note does in steps 3, 4 and 5 of document 01's cycle.
+use mathlib.Core.Bool.{Bool, true, false, cond}
+use mathlib.Core.List.{List, [], _∷_, _++_, map}
+use Prim.Native.Nat.{ℕ}
+use lib.ListN.{take, replicate}
+use lib.Dec.{eqb}
+use lib.Ieee.{Float}
+use Rattle.syntax.specs.Tree.{Statements, done, Instrument, importsKind}
+use Rattle.syntax.specs.Names.{Named, namesOf, placed}
+use Rattle.meaning.specs.Meaning.{places, birth, cycle}
+use Rattle.players.specs.Cycle.{Voices, Ran}
+use Rattle.sounding.specs.Voices.{Held, named}
+
+-- no instrument: no fields, no declarations, no statements
+unfoldable pub silent : Instrument
+silent = record { name = 0; fields = []; declarations = []; body = done }
+
+-- the first instrument with a name
+unfoldable pub instrumentOf : List Instrument → ℕ → Instrument
+instrumentOf [] name = silent
+instrumentOf (i ∷ is) name = cond (eqb (i .name) name) i (instrumentOf is name)
+
+-- no name has this number: a symbol has 16 bits
+abbrev pub noSymbol : ℕ
+noSymbol = 65536
+
+-- the symbol by which a control line sets a name: an imports ksig's own
+abbrev pub importOf : Named → ℕ
+importOf n = cond (eqb (n .kind) importsKind) (n .name) noSymbol
+
+-- the same for each place of a note
+unfoldable pub importsOf : Instrument → List ℕ
+importsOf i = take places (map importOf (namesOf i) ++ replicate places noSymbol)
+
+-- an instrument's statements, its names by their places
+abbrev pub bodyOf : List Instrument → ℕ → Statements
+bodyOf is name = placed (instrumentOf is name) .body
+
+module _ (is : List Instrument) where
+  -- step 3: a new note holds the line's values and then zeros, and its i statements have run once
+  abbrev pub bornOf : ℕ → List Float → Held
+  bornOf name xs = record { instrument = name; values = birth (bodyOf is name) xs }
+
+  -- step 4: the imports ksig named x is set to a
+  abbrev pub setOf : ℕ → Float → Held → Held
+  setOf x a s = record { instrument = s .instrument; values = named x a (importsOf (instrumentOf is (s .instrument))) (s .values) }
+
+  -- step 5: the k statements run once, then the a statements for each sample, and each output adds its value
+  abbrev pub ranOf : Held → List Float → Ran Held
+  ranOf s mix =
+      let p = cycle (bodyOf is (s .instrument)) (s .values) mix in
+      record { state = record { instrument = s .instrument; values = p .values }; mix = p .mix }
+
+  unfoldable pub treeVoices : Voices Held
+  treeVoices =
+      record {
+        birth = λ (name : ℕ) (xs : List Float). bornOf name xs;
+        control = λ (x : ℕ) (a : Float) (s : Held). setOf x a s;
+        run = λ (s : Held) (mix : List Float). ranOf s mix;
+      }
