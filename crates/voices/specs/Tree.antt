@@ -1,5 +1,5 @@
 -- The voices of an orchestra's tree: what a line's note does in steps 3, 4 and 5 of document 01's cycle.
-use mathlib.Core.Bool.{Bool, true, false, cond}
+use mathlib.Core.Bool.{cond}
 use mathlib.Core.List.{List, [], _∷_, _++_, map}
 use Prim.Native.Nat.{ℕ}
 use lib.ListN.{take, replicate}

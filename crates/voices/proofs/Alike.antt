@@ -1,0 +1,251 @@
+-- Voices that do the same to every note they have made give the same plain player.
+use mathlib.Core.Path.{_≡_, refl, ap, _∙_}
+use mathlib.Core.Bool.{Bool, true, false, not, cond, _&&_}
+use mathlib.Core.List.{List, [], _∷_, _++_}
+use Prim.Native.Nat.{ℕ, zero, suc, _+_}
+use lib.Dec.{ltb, eqb}
+use lib.ListN.{length, take, replicate}
+use lib.Ieee.{Float, binary32, eq, ofBits}
+use lib.Ieee.Bits.{ofBits-fits}
+use Rattle.timebase.specs.Time.{ticksIn, cycleIn, endless as withoutEnd}
+use Rattle.score_line.specs.declared.Label.{Label}
+use Rattle.score_line.specs.declared.Event.{Event}
+use Rattle.score_line.specs.declared.Event.the-variants.{Instr, Control, End, Tempo}
+use Rattle.score_line.specs.declared.Line.{Line}
+use Rattle.lowered.specs.Statements.{AllFit}
+use Rattle.players.specs.Lists.{keep, fold, each, All}
+use Rattle.players.specs.Cycle.{Voices, Ran, Note, Core, Started, Band, mostNotes, samples, isDue, isLabelled, labelNumber, withState, joinedBy, born, startedBy, started, controlledBy, controlEvent, controlled, runFrom, runAll, dueOf, ends, lastTempo, startedIn, bandOf, blockOf, limited, goesOn, stepped, stopped}
+use Rattle.players.specs.Plain.{plainStart, plainStep, plainAt, plainAnswer, answerAt, blockAt}
+use Rattle.players.proofs.Lists.{all-keep, all-append}
+
+module _ {S : Type 0} (Good : S → Type 0) where
+  -- a run's end: what the note holds is good, and the sums fit 32 bits
+  pub record GoodRan (r : Ran S) : Type 0 where
+    pub good : Good (r .state)
+    pub fit : AllFit (r .mix)
+
+  pub record Alike (v w : Voices S) : Type 0 where
+    pub birth : (name : ℕ) (xs : List Float) → v .birth name xs ≡ w .birth name xs
+    pub control : (x : ℕ) (a : Float) (s : S) → v .control x a s ≡ w .control x a s
+    pub run : (s : S) (mix : List Float) → Good s → AllFit mix → v .run s mix ≡ w .run s mix
+    pub birth-good : (name : ℕ) (xs : List Float) → Good (w .birth name xs)
+    pub control-good : (x : ℕ) (a : Float) (s : S) → Good s → Good (w .control x a s)
+    pub run-good : (s : S) (mix : List Float) → Good s → AllFit mix → GoodRan (w .run s mix)
+
+  abbrev Notes : List (Note S) → Type 0
+  Notes ns = All (λ (n : Note S). Good (n .state)) ns
+
+  zeros-fit : (n : ℕ) → AllFit (replicate n (ofBits binary32 0))
+  unfolding AllFit
+  zeros-fit zero = tt
+  zeros-fit (suc n) = (ofBits-fits binary32 0, zeros-fit n)
+
+  -- one note more, where there is room
+  joined-good : (s : Started S) (n : Note S) → Notes (s .notes) → Good (n .state) → Notes (joinedBy s n .notes)
+  unfolding joinedBy
+  joined-good s n h g = go (ltb (length (s .notes)) mostNotes)
+    where
+      go : (b : Bool)
+          → Notes (cond {A = Started S} b (record { notes = s .notes ++ (n ∷ []); missed = s .missed }) (record { notes = s .notes; missed = s .missed + 1 }) .notes)
+      go true = all-append (λ (m : Note S). Good (m .state)) (s .notes) (n ∷ []) h (g, tt)
+      go false = h
+
+  module _ {v w : Voices S} (a : Alike v w) where
+    -- ---- step 3
+
+    born-same : (pos : ℕ) (l : Line) (label : Label) (i : ℕ) (d : Float) → born v pos l label i d ≡ born w pos l label i d
+    unfolding born
+    born-same pos l label i d =
+        λ j. record {
+          labelled = isLabelled label;
+          label = labelNumber label;
+          endless = eq d withoutEnd;
+          end = pos + ticksIn d;
+          state = a .birth i (take (l .count) (l .values)) j;
+        }
+
+    born-good : (pos : ℕ) (l : Line) (label : Label) (i : ℕ) (d : Float) → Good (born w pos l label i d .state)
+    unfolding born
+    born-good pos l label i d = a .birth-good i (take (l .count) (l .values))
+
+    starts-same : (pos : ℕ) (l : Line) (s : Started S) (ev : Event) → startedBy v pos l s ev ≡ startedBy w pos l s ev
+    starts-same pos l s (Instr label i d) = ap (joinedBy s) (born-same pos l label i d)
+    starts-same pos l s (Control label x value) = refl
+    starts-same pos l s End = refl
+    starts-same pos l s (Tempo t) = refl
+
+    starts-good : (pos : ℕ) (l : Line) (s : Started S) (ev : Event) → Notes (s .notes) → Notes (startedBy w pos l s ev .notes)
+    starts-good pos l s (Instr label i d) h = joined-good s (born w pos l label i d) h (born-good pos l label i d)
+    starts-good pos l s (Control label x value) h = h
+    starts-good pos l s End h = h
+    starts-good pos l s (Tempo t) h = h
+
+    starting-same : (pos : ℕ) (s : Started S) (ls : List Line)
+        → fold (λ (t : Started S) (l : Line). startedBy v pos l t (l .event)) s ls ≡ fold (λ (t : Started S) (l : Line). startedBy w pos l t (l .event)) s ls
+    unfolding fold
+    starting-same pos s [] = refl
+    starting-same pos s (l ∷ ls) =
+        ap (λ (t : Started S). fold (λ (t : Started S) (l : Line). startedBy v pos l t (l .event)) t ls) (starts-same pos l s (l .event))
+        ∙ starting-same pos (startedBy w pos l s (l .event)) ls
+
+    starting-good : (pos : ℕ) (s : Started S) (ls : List Line) → Notes (s .notes)
+        → Notes (fold (λ (t : Started S) (l : Line). startedBy w pos l t (l .event)) s ls .notes)
+    unfolding fold
+    starting-good pos s [] h = h
+    starting-good pos s (l ∷ ls) h = starting-good pos (startedBy w pos l s (l .event)) ls (starts-good pos l s (l .event) h)
+
+    started-same : (pos : ℕ) (ns : List (Note S)) (ls : List Line) → started v pos ns ls ≡ started w pos ns ls
+    unfolding started
+    started-same pos ns ls = starting-same pos (record { notes = ns; missed = 0 }) ls
+
+    started-good : (pos : ℕ) (ns : List (Note S)) (ls : List Line) → Notes ns → Notes (started w pos ns ls .notes)
+    unfolding started
+    started-good pos ns ls h = starting-good pos (record { notes = ns; missed = 0 }) ls h
+
+    -- ---- step 4
+
+    one-same : (label x : ℕ) (value : Float) (n : Note S) → controlledBy v label x value n ≡ controlledBy w label x value n
+    unfolding controlledBy
+    one-same label x value n = ap (λ (s : S). cond (n .labelled && eqb label (n .label)) (withState n s) n) (a .control x value (n .state))
+
+    one-good : (label x : ℕ) (value : Float) (n : Note S) → Good (n .state) → Good (controlledBy w label x value n .state)
+    unfolding controlledBy
+    one-good label x value n h = go (n .labelled && eqb label (n .label))
+      where
+        go : (b : Bool) → Good (cond b (withState n (w .control x value (n .state))) n .state)
+        go true = a .control-good x value (n .state) h
+        go false = h
+
+    each-same : (label x : ℕ) (value : Float) (ns : List (Note S)) → each (controlledBy v label x value) ns ≡ each (controlledBy w label x value) ns
+    unfolding each
+    each-same label x value [] = refl
+    each-same label x value (n ∷ ns) = λ i. one-same label x value n i ∷ each-same label x value ns i
+
+    each-good : (label x : ℕ) (value : Float) (ns : List (Note S)) → Notes ns → Notes (each (controlledBy w label x value) ns)
+    unfolding each
+    each-good label x value [] h = tt
+    each-good label x value (n ∷ ns) h = (one-good label x value n (h .0), each-good label x value ns (h .1))
+
+    control-same : (ns : List (Note S)) (ev : Event) → controlEvent v ns ev ≡ controlEvent w ns ev
+    control-same ns (Instr label i d) = refl
+    control-same ns (Control label x value) = each-same label x value ns
+    control-same ns End = refl
+    control-same ns (Tempo t) = refl
+
+    controls-good : (ns : List (Note S)) (ev : Event) → Notes ns → Notes (controlEvent w ns ev)
+    controls-good ns (Instr label i d) h = h
+    controls-good ns (Control label x value) h = each-good label x value ns h
+    controls-good ns End h = h
+    controls-good ns (Tempo t) h = h
+
+    controlled-same : (ns : List (Note S)) (ls : List Line) → controlled v ns ls ≡ controlled w ns ls
+    unfolding controlled fold
+    controlled-same ns [] = refl
+    controlled-same ns (l ∷ ls) =
+        ap (λ (ms : List (Note S)). controlled v ms ls) (control-same ns (l .event)) ∙ controlled-same (controlEvent w ns (l .event)) ls
+
+    controlled-good : (ns : List (Note S)) (ls : List Line) → Notes ns → Notes (controlled w ns ls)
+    unfolding controlled fold
+    controlled-good ns [] h = h
+    controlled-good ns (l ∷ ls) h = controlled-good (controlEvent w ns (l .event)) ls (controls-good ns (l .event) h)
+
+    -- ---- step 5
+
+    -- a note's run, and then the others'
+    follow : (u : Voices S) → Note S → List (Note S) → Ran S → Band S
+    follow u n ns r = record { notes = withState n (r .state) ∷ runFrom u ns (r .mix) .notes; mix = runFrom u ns (r .mix) .mix }
+
+    lead : Note S → S → Band S → Band S
+    lead n s b = record { notes = withState n s ∷ b .notes; mix = b .mix }
+
+    run-same : (ns : List (Note S)) (mix : List Float) → Notes ns → AllFit mix → runFrom v ns mix ≡ runFrom w ns mix
+    unfolding runFrom follow lead
+    run-same [] mix h f = refl
+    run-same (n ∷ ns) mix h f =
+        ap (follow v n ns) (a .run (n .state) mix (h .0) f)
+        ∙ ap (lead n (w .run (n .state) mix .state)) (run-same ns (w .run (n .state) mix .mix) (h .1) (a .run-good (n .state) mix (h .0) f .fit))
+
+    run-notes-good : (ns : List (Note S)) (mix : List Float) → Notes ns → AllFit mix → Notes (runFrom w ns mix .notes)
+    unfolding runFrom
+    run-notes-good [] mix h f = tt
+    run-notes-good (n ∷ ns) mix h f =
+        let r = a .run-good (n .state) mix (h .0) f in
+        (r .good, run-notes-good ns (w .run (n .state) mix .mix) (h .1) (r .fit))
+
+    -- ---- one cycle
+
+    module _ (c : Core S) (h : Notes (c .notes)) where
+      started-in-same : startedIn v c ≡ startedIn w c
+      unfolding startedIn
+      started-in-same = started-same (c .position) (c .notes) (dueOf c)
+
+      abbrev sounding : List (Note S)
+      sounding = controlled w (startedIn w c .notes) (dueOf c)
+
+      sounding-good : Notes sounding
+      unfolding startedIn
+      sounding-good = controlled-good (startedIn w c .notes) (dueOf c) (started-good (c .position) (c .notes) (dueOf c) h)
+
+      band-same : bandOf v c ≡ bandOf w c
+      unfolding bandOf runAll
+      band-same =
+          ap (λ (s : Started S). runAll v (controlled v (s .notes) (dueOf c))) started-in-same
+          ∙ ap (runAll v) (controlled-same (startedIn w c .notes) (dueOf c))
+          ∙ run-same sounding (replicate samples (ofBits binary32 0)) sounding-good (zeros-fit samples)
+
+      band-good : Notes (bandOf w c .notes)
+      unfolding bandOf runAll
+      band-good = run-notes-good sounding (replicate samples (ofBits binary32 0)) sounding-good (zeros-fit samples)
+
+      block-same : (ceiling : ℕ) → blockOf v ceiling c ≡ blockOf w ceiling c
+      unfolding blockOf
+      block-same ceiling = ap (λ (b : Band S). limited ceiling (b .mix)) band-same
+
+      stepped-same : stepped v c ≡ stepped w c
+      unfolding stepped
+      stepped-same =
+          λ i. record {
+            lines = keep (λ (l : Line). not (isDue (c .position) l)) (c .lines);
+            notes = keep (goesOn (c .position)) (band-same i .notes);
+            position = c .position + cycleIn (lastTempo (c .tempo) (dueOf c));
+            tempo = lastTempo (c .tempo) (dueOf c);
+            missed = c .missed + started-in-same i .missed;
+            ended = false;
+          }
+
+      stepped-good : Notes (stepped w c .notes)
+      unfolding stepped
+      stepped-good = all-keep (goesOn (c .position)) (λ (n : Note S). Good (n .state)) (bandOf w c .notes) band-good
+
+      plain-step-same : plainStep v c ≡ plainStep w c
+      unfolding plainStep
+      plain-step-same = ap (λ (d : Core S). cond (c .ended) c (cond (ends c) (stopped c) d)) stepped-same
+
+      plain-step-good : Notes (plainStep w c .notes)
+      unfolding plainStep stopped
+      plain-step-good = go (c .ended) (ends c)
+        where
+          go : (b d : Bool) → Notes (cond b c (cond d (stopped c) (stepped w c)) .notes)
+          go true d = h
+          go false true = h
+          go false false = stepped-good
+
+    -- ---- every cycle
+
+    at-good : (ls : List Line) (k : ℕ) → Notes (plainAt w ls k .notes)
+    unfolding plainAt plainStart
+    at-good ls zero = tt
+    at-good ls (suc k) = plain-step-good (plainAt w ls k) (at-good ls k)
+
+    pub at-same : (ls : List Line) (k : ℕ) → plainAt v ls k ≡ plainAt w ls k
+    unfolding plainAt
+    at-same ls zero = refl
+    at-same ls (suc k) = ap (plainStep v) (at-same ls k) ∙ plain-step-same (plainAt w ls k) (at-good ls k)
+
+    pub blocks-same : (ceiling : ℕ) (ls : List Line) (k : ℕ) → blockAt v ceiling ls k ≡ blockAt w ceiling ls k
+    unfolding blockAt
+    blocks-same ceiling ls k = ap (blockOf v ceiling) (at-same ls k) ∙ block-same (plainAt w ls k) (at-good ls k) ceiling
+
+    pub answers-same : (ls : List Line) (k : ℕ) → answerAt v ls k ≡ answerAt w ls k
+    unfolding answerAt
+    answers-same ls k = ap plainAnswer (at-same ls k)

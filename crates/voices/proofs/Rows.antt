@@ -1,0 +1,65 @@
+-- A row for each instrument, in order, is enough for a program to represent a tree.
+use mathlib.Core.Path.{_≡_, refl, sym, ap, _∙_, subst}
+use mathlib.Core.Bool.{Bool, true, false, cond, _||_}
+use mathlib.Core.List.{List, [], _∷_, map}
+use Prim.Native.Nat.{ℕ}
+use lib.Dec.{eqb}
+use lib.Ieee.{Float}
+use Rattle.syntax.specs.Tree.{Instrument, done}
+use Rattle.syntax.specs.Names.{has, titleOf, put, named, namedBy}
+use Rattle.bounds.proofs.Sounding.{sounds}
+use Rattle.lowered.specs.Lowered.{lowered}
+use Rattle.lowered.specs.Statements.{Playable}
+use Rattle.sounding.specs.declared.Instrument as row
+use Rattle.sounding.specs.Voices.{foundIn, instrumentIn, blank}
+use Rattle.voices.specs.Tree.{silent, instrumentOf, importsOf}
+use Rattle.voices.specs.Represents.{Row, Rows, Represents}
+
+module _ (code : List ℕ) (vals : List Float) where
+  -- no instrument's row: no code, no imports
+  silent-row : Row code vals silent blank
+  unfolding silent blank importsOf named namedBy put lowered Playable
+  silent-row =
+      record {
+        fields = refl;
+        imports = refl;
+        start = 0;
+        icode = refl;
+        kcode = refl;
+        acode = refl;
+        sounds = sounds vals 0 done tt;
+      }
+
+  known-in : (is : List Instrument) (table : List row.Instrument) → Rows code vals is table → (name : ℕ)
+      → foundIn name table .there ≡ has name (map titleOf is)
+  unfolding foundIn has Rows
+  known-in [] [] h name = refl
+  known-in [] (x ∷ xs) h name = absurd h
+  known-in (i ∷ is) [] h name = absurd h
+  known-in (i ∷ is) (x ∷ xs) h name =
+      ap (λ (n : ℕ). cond (eqb n name) (record { there = true; instrument = x }) (foundIn name xs) .there) (h .0)
+      ∙ go (eqb (i .name) name) (known-in is xs (h .1 .1) name)
+    where
+      go : (b : Bool) → foundIn name xs .there ≡ has name (map titleOf is)
+          → cond b (record { there = true; instrument = x }) (foundIn name xs) .there ≡ (b || has name (map titleOf is))
+      go true e = refl
+      go false e = e
+
+  row-of : (is : List Instrument) (table : List row.Instrument) → Rows code vals is table → (name : ℕ)
+      → Row code vals (instrumentOf is name) (instrumentIn table name)
+  unfolding foundIn instrumentOf Rows
+  row-of [] [] h name = silent-row
+  row-of [] (x ∷ xs) h name = absurd h
+  row-of (i ∷ is) [] h name = absurd h
+  row-of (i ∷ is) (x ∷ xs) h name =
+      subst
+      (λ (n : ℕ). Row code vals (cond (eqb (i .name) name) i (instrumentOf is name)) (cond (eqb n name) (record { there = true; instrument = x }) (foundIn name xs) .instrument))
+      (sym (h .0)) (go (eqb (i .name) name) (row-of is xs (h .1 .1) name))
+    where
+      go : (b : Bool) → Row code vals (instrumentOf is name) (instrumentIn xs name)
+          → Row code vals (cond b i (instrumentOf is name)) (cond b (record { there = true; instrument = x }) (foundIn name xs) .instrument)
+      go true r = h .1 .0
+      go false r = r
+
+  pub represents : (is : List Instrument) (table : List row.Instrument) → Rows code vals is table → Represents is table code vals
+  represents is table h = record { known = known-in is table h; rows = row-of is table h }
