@@ -2,3 +2,4 @@ pub mod Kept
 pub mod Alike
 pub mod Rows
 pub mod Laws
+pub mod Lines

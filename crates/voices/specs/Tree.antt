@@ -2,12 +2,16 @@
 use mathlib.Core.Bool.{cond}
 use mathlib.Core.List.{List, [], _∷_, _++_, map}
 use Prim.Native.Nat.{ℕ}
-use lib.ListN.{take, replicate}
+use lib.ListN.{length, take, replicate}
 use lib.Dec.{eqb}
 use lib.Ieee.{Float}
 use Rattle.syntax.specs.Tree.{Statements, done, Instrument, importsKind}
-use Rattle.syntax.specs.Names.{Named, namesOf, placed}
+use Rattle.syntax.specs.Names.{Named, has, titleOf, namesOf, placed}
 use Rattle.meaning.specs.Meaning.{places, birth, cycle}
+use Rattle.score_line.specs.declared.Event.{Event}
+use Rattle.score_line.specs.declared.Event.the-variants.{Instr, Control, End, Tempo}
+use Rattle.waiting.specs.declared.Fields.{Fields}
+use Rattle.waiting.specs.declared.Fields.the-variants.{Count, NoSuch}
 use Rattle.players.specs.Cycle.{Voices, Ran}
 use Rattle.sounding.specs.Voices.{Held, named}
 
@@ -58,3 +62,12 @@ module _ (is : List Instrument) where
         control = λ (x : ℕ) (a : Float) (s : Held). setOf x a s;
         run = λ (s : Held) (mix : List Float). ranOf s mix;
       }
+
+-- ---- refusal 4
+
+-- how many fields a line's instrument has, or that there is no such instrument
+abbrev pub fieldsOf : List Instrument → Event → Fields
+fieldsOf is (Instr label name duration) = cond (has name (map titleOf is)) (Count (length (instrumentOf is name .fields))) NoSuch
+fieldsOf is (Control label x value) = NoSuch
+fieldsOf is End = NoSuch
+fieldsOf is (Tempo t) = NoSuch
