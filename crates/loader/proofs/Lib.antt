@@ -1,0 +1,3 @@
+pub mod Filling
+pub mod Declared
+pub mod Rows
