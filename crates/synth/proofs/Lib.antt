@@ -1,3 +1,3 @@
 pub mod Ways
 pub mod Loops
-pub mod Notes
+pub mod Numbers

@@ -1,3 +1,4 @@
 pub mod Run
 pub mod Passes
 pub mod Notes
+pub mod Area
