@@ -23,7 +23,7 @@ use Rattle.sounding.proofs.Steps.{length-each}
 use Rattle.panel.specs.State.{voicesOf, coreOf, withCore, endedOf}
 use Rattle.panel.specs.Calls.{playedOf, cycleOf, blockAfter}
 use Rattle.panel.specs.declared.Panel.{Panel}
-use Rattle.panel.specs.declared.Program.{Program}
+use Rattle.loader.specs.declared.Program.{Program}
 use Rattle.panel.specs.declared.Cycled.{Cycled}
 use Rattle.claims.proofs.Doors.{Fine}
 

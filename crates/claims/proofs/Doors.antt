@@ -39,7 +39,7 @@ use Rattle.panel.specs.Entrances.{lineIn, stickLine, pushedAll}
 use Rattle.panel.specs.State.{tableOf, voicesOf, queueIn, withQueue, coreOf, withCore, endedOf, startOf}
 use Rattle.panel.specs.Calls.{freshOf, loadOf, loadedOf, enteredOf, receiveOf, enterOf, playedOf, cycleOf, blockAfter}
 use Rattle.panel.specs.declared.Panel.{Panel}
-use Rattle.panel.specs.declared.Program.{Program}
+use Rattle.loader.specs.declared.Program.{Program}
 use Rattle.panel.specs.declared.Fresh.{Fresh}
 use Rattle.panel.specs.declared.Pushed.{Pushed}
 use Rattle.panel.specs.declared.Loaded.{Loaded}

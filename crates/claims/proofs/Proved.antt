@@ -33,9 +33,9 @@ use Rattle.panel.specs.Entrances.{lineIn, stickLine, pushedAll}
 use Rattle.panel.specs.State.{tableOf, voicesOf, queueIn, withQueue, coreOf, endedOf, startOf, emptyLine}
 use Rattle.panel.specs.Calls.{freshOf, loadOf, receiveOf, enterOf, cycleOf, blockAfter}
 use Rattle.panel.specs.declared.Panel.{Panel}
-use Rattle.panel.specs.declared.Program.{Program}
+use Rattle.loader.specs.declared.Program.{Program}
 use Rattle.panel.specs.declared.Fresh.{Fresh}
-use Rattle.claims.specs.Claims.{afterCall, missedOf, entrances, freshPanel, Condition3, CeilingBinds, Unchanged, RefusalsChangeNothing, EntrancesAlike}
+use Rattle.claims.specs.Claims.{afterCall, missedOf, entrances, programOf, freshPanel, Lawful, Condition3, CeilingBinds, Unchanged, RefusalsChangeNothing, EntrancesAlike}
 use Rattle.claims.proofs.Steady.{score-steady, unit-steady, keypad-steady}
 use Rattle.claims.proofs.Doors.{Fine, Door, sticks, units, keypads}
 use Rattle.claims.proofs.Cycles.{Turn, cycles}
@@ -77,35 +77,40 @@ module _ (program : Program) (ceiling : ℕ) where
         turns = turned;
       }
 
-  module _ (low : 1 ≤ ceiling) (high : ceiling ≤ 32767) where
-    fresh-is : freshPanel program ceiling ≡ startOf program ceiling false
-    unfolding freshOf
-    fresh-is =
-        ap (λ (x : Fresh). x .panel)
-        (cond-true _ _ (ap (λ (t : Bool). t && leb ceiling 32767) (le-leb 1 ceiling low) ∙ le-leb ceiling 32767 high))
+module _ (orchestra : List ℕ) (ceiling : ℕ) (l : Lawful orchestra ceiling) where
+  fresh-is : freshPanel orchestra ceiling ≡ startOf (programOf orchestra) ceiling false
+  unfolding freshOf
+  fresh-is =
+      ap (λ (x : Fresh). x .panel)
+      (cond-true _ _ (ap (λ (t : Bool). t && leb ceiling 32767) (le-leb 1 ceiling (l .low)) ∙ le-leb ceiling 32767 (l .high))
+      ∙ cond-true _ _ (l .accepted))
 
-    start-fine : Fine program ceiling (startOf program ceiling false)
-    unfolding startOf
-    start-fine = record { long = length-replicate 64 emptyLine; has = refl; locked = refl }
+  start-fine : Fine (programOf orchestra) ceiling (startOf (programOf orchestra) ceiling false)
+  unfolding startOf
+  start-fine = record { long = length-replicate 64 emptyLine; has = refl; locked = refl }
 
-    start-core : coreOf (startOf program ceiling false) ≡ plainStart []
-    unfolding startOf coreOf plainStart each
-    start-core = refl
+  start-core : coreOf (startOf (programOf orchestra) ceiling false) ≡ plainStart []
+  unfolding startOf coreOf plainStart each
+  start-core = refl
 
-    fresh-fine : Fine program ceiling (freshPanel program ceiling)
-    fresh-fine = subst⁻¹ (Fine program ceiling) fresh-is start-fine
+  fresh-fine : Fine (programOf orchestra) ceiling (freshPanel orchestra ceiling)
+  fresh-fine = subst⁻¹ (Fine (programOf orchestra) ceiling) fresh-is start-fine
 
-    alike : PlainAlike entrances (voicesOf program) ceiling (freshPanel program ceiling)
-    alike = plain-alike entrances (voicesOf program) ceiling coreOf (Fine program ceiling) works (freshPanel program ceiling) fresh-fine (ap coreOf fresh-is ∙ start-core)
+  alike : PlainAlike entrances (voicesOf (programOf orchestra)) ceiling (freshPanel orchestra ceiling)
+  alike =
+      plain-alike entrances (voicesOf (programOf orchestra)) ceiling coreOf (Fine (programOf orchestra) ceiling) (works (programOf orchestra) ceiling)
+      (freshPanel orchestra ceiling) fresh-fine (ap coreOf fresh-is ∙ start-core)
 
-    binds : CeilingHolds entrances ceiling (freshPanel program ceiling)
-    binds = ceiling-holds entrances (voicesOf program) ceiling coreOf (Fine program ceiling) works low high (freshPanel program ceiling) fresh-fine
+  binds : CeilingHolds entrances ceiling (freshPanel orchestra ceiling)
+  binds =
+      ceiling-holds entrances (voicesOf (programOf orchestra)) ceiling coreOf (Fine (programOf orchestra) ceiling) (works (programOf orchestra) ceiling)
+      (l .low) (l .high) (freshPanel orchestra ceiling) fresh-fine
 
 -- condition 3, whole
 pub condition-3 : Condition3
 unfolding Condition3
-condition-3 program ceiling low high = alike program ceiling low high
+condition-3 orchestra ceiling l = alike orchestra ceiling l
 
 pub ceiling-binds : CeilingBinds
 unfolding CeilingBinds
-ceiling-binds program ceiling low high = binds program ceiling low high
+ceiling-binds orchestra ceiling l = binds orchestra ceiling l

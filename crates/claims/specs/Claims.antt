@@ -17,7 +17,8 @@ use Rattle.players.specs.History.{Call, stick, unit, keypad, cycle, After, Entr
 use Rattle.panel.specs.State.{voicesOf, endedOf}
 use Rattle.panel.specs.Calls.{freshOf, loadOf, receiveOf, enterOf, cycleOf, blockAfter}
 use Rattle.panel.specs.declared.Panel.{Panel}
-use Rattle.panel.specs.declared.Program.{Program}
+use Rattle.loader.specs.declared.Program.{Program}
+use Rattle.loader.specs.Loading.{loadOf as loadedFrom}
 
 -- what each call of the panel leaves
 unfoldable pub afterCall : Panel → Call → After Panel
@@ -45,20 +46,30 @@ entrances =
       inKeypad = λ (words : List ℕ). keypadLine words .line ∷ [];
     }
 
-abbrev pub freshPanel : Program → ℕ → Panel
-freshPanel program ceiling = freshOf program ceiling .panel
+-- the program of an orchestra's bytes
+abbrev pub programOf : List ℕ → Program
+programOf orchestra = loadedFrom orchestra .program
 
--- Condition 3, first half. For any program, any ceiling from 1 to 32,767 and any list of calls on a fresh panel: if every line taken is
--- timed and in time, each cycle lent 320 samples gives the plain player's answer and block, and after every call the missed notes are its.
+abbrev pub freshPanel : List ℕ → ℕ → Panel
+freshPanel orchestra ceiling = freshOf orchestra ceiling .panel
+
+-- an accepted orchestra and a ceiling from 1 to 32,767
+pub record Lawful (orchestra : List ℕ) (ceiling : ℕ) : Type 0 where
+  pub accepted : isTaken (loadedFrom orchestra .answer) ≡ true
+  pub low : 1 ≤ ceiling
+  pub high : ceiling ≤ 32767
+
+-- Condition 3, first half. For any accepted orchestra, any ceiling and any list of calls on a fresh panel: if every line taken is timed
+-- and in time, each cycle lent 320 samples gives the plain player's answer and block, and after every call the missed notes are its.
 unfoldable pub Condition3 : Type 0
 Condition3 =
-    (program : Program) (ceiling : ℕ) → 1 ≤ ceiling → ceiling ≤ 32767 →
-    PlainAlike entrances (voicesOf program) ceiling (freshPanel program ceiling)
+    (orchestra : List ℕ) (ceiling : ℕ) → Lawful orchestra ceiling →
+    PlainAlike entrances (voicesOf (programOf orchestra)) ceiling (freshPanel orchestra ceiling)
 
 -- Condition 3, second half. For every list of calls no sample that a cycle gives lies above the ceiling or below its negative.
 unfoldable pub CeilingBinds : Type 0
 CeilingBinds =
-    (program : Program) (ceiling : ℕ) → 1 ≤ ceiling → ceiling ≤ 32767 → CeilingHolds entrances ceiling (freshPanel program ceiling)
+    (orchestra : List ℕ) (ceiling : ℕ) → Lawful orchestra ceiling → CeilingHolds entrances ceiling (freshPanel orchestra ceiling)
 
 -- what a refused call leaves: the panel as it was, save that a cycle may mark the piece ended, and the lent block as it was
 abbrev pub Unchanged : Panel → Call → Type 0

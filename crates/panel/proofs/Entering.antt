@@ -18,32 +18,45 @@ use Rattle.waiting.specs.declared.Queue.{Queue}
 use Rattle.waiting.specs.declared.Admitted.{Admitted}
 use Rattle.panel.specs.Entrances.{lineIn, pushedAll}
 use Rattle.panel.specs.State.{tableOf, queueIn, withQueue, startOf}
-use Rattle.panel.specs.Calls.{freshOf, loadedOf, loadOf, enteredOf, receiveOf, enterOf}
+use Rattle.panel.specs.Calls.{noPanel, freshOf, loadedOf, loadOf, enteredOf, receiveOf, enterOf}
 use Rattle.panel.specs.declared.Panel.{Panel}
-use Rattle.panel.specs.declared.Program.{Program}
+use Rattle.loader.specs.declared.Ready.{Ready}
+use Rattle.loader.specs.Loading.{loadOf as loadedFrom}
 use Rattle.panel.specs.declared.Fresh.{Fresh}
 use Rattle.panel.specs.declared.Pushed.{Pushed}
 use Rattle.panel.specs.declared.Loaded.{Loaded}
 use Rattle.panel.specs.declared.Entered.{Entered}
 
-module _ (program : Program) (ceiling : ℕ) (p : Panel) where
-  pub fresh-low : ceiling < 1 → p ≡ startOf program 1 true → record { panel = p; answer = OutOfRange } ≡ freshOf program ceiling
+module _ (orchestra : List ℕ) (ceiling : ℕ) (r : Ready) (er : r ≡ loadedFrom orchestra) where
+  pub fresh-low : ceiling < 1 → (x : Fresh) → x ≡ noPanel (r .program) OutOfRange → x ≡ freshOf orchestra ceiling
   unfolding freshOf
-  fresh-low h e =
-      ap (λ (x : Panel). record { panel = x; answer = OutOfRange }) e
+  fresh-low h x e =
+      e ∙ ap (λ (y : Ready). noPanel (y .program) OutOfRange) er
       ∙ sym (cond-false _ _ (ap (λ (t : Bool). t && leb ceiling 32767) (lt-leb 1 ceiling h)))
 
-  pub fresh-high : 1 ≤ ceiling → 32767 < ceiling → p ≡ startOf program 1 true → record { panel = p; answer = OutOfRange } ≡ freshOf program ceiling
+  pub fresh-high : 1 ≤ ceiling → 32767 < ceiling → (x : Fresh) → x ≡ noPanel (r .program) OutOfRange → x ≡ freshOf orchestra ceiling
   unfolding freshOf
-  fresh-high g h e =
-      ap (λ (x : Panel). record { panel = x; answer = OutOfRange }) e
+  fresh-high g h x e =
+      e ∙ ap (λ (y : Ready). noPanel (y .program) OutOfRange) er
       ∙ sym (cond-false _ _ (ap (λ (t : Bool). t && leb ceiling 32767) (le-leb 1 ceiling g) ∙ lt-leb ceiling 32767 h))
 
-  pub fresh-taken : 1 ≤ ceiling → ceiling ≤ 32767 → p ≡ startOf program ceiling false → record { panel = p; answer = Taken } ≡ freshOf program ceiling
-  unfolding freshOf
-  fresh-taken g h e =
-      ap (λ (x : Panel). record { panel = x; answer = Taken }) e
-      ∙ sym (cond-true _ _ (ap (λ (t : Bool). t && leb ceiling 32767) (le-leb 1 ceiling g) ∙ le-leb ceiling 32767 h))
+  module _ (g : 1 ≤ ceiling) (h : ceiling ≤ 32767) where
+    in-range : (leb 1 ceiling && leb ceiling 32767) ≡ true
+    in-range = ap (λ (t : Bool). t && leb ceiling 32767) (le-leb 1 ceiling g) ∙ le-leb ceiling 32767 h
+
+    pub fresh-refused : isTaken (r .answer) ≡ false → (x : Fresh) → x ≡ noPanel (r .program) (r .answer) → x ≡ freshOf orchestra ceiling
+    unfolding freshOf
+    fresh-refused t x e =
+        e ∙ ap (λ (y : Ready). noPanel (y .program) (y .answer)) er
+        ∙ sym (cond-true _ _ in-range ∙ cond-false _ _ (ap (λ (y : Ready). isTaken (y .answer)) (sym er) ∙ t))
+
+    pub fresh-taken : isTaken (r .answer) ≡ true → (p : Panel) → p ≡ startOf (r .program) ceiling false
+        → record { panel = p; answer = r .answer } ≡ freshOf orchestra ceiling
+    unfolding freshOf
+    fresh-taken t p e =
+        ap (λ (x : Panel). record { panel = x; answer = r .answer }) e
+        ∙ ap (λ (y : Ready). record { panel = startOf (y .program) ceiling false; answer = y .answer }) er
+        ∙ sym (cond-true _ _ in-range ∙ cond-true _ _ (ap (λ (y : Ready). isTaken (y .answer)) (sym er) ∙ t))
 
 module _ (p : Panel) (r : LineRead) where
   pub read-refused : isTaken (r .answer) ≡ false → record { panel = p; answer = r .answer } ≡ enteredOf p r

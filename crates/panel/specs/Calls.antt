@@ -16,19 +16,25 @@ use Rattle.players.specs.Cycle.{ends, stepped, blockOf, capped, samples}
 use Rattle.panel.specs.Entrances.{lineIn, pushedAll}
 use Rattle.panel.specs.State.{tableOf, voicesOf, queueIn, withQueue, coreOf, withCore, endedOf, startOf}
 use Rattle.panel.specs.declared.Panel.{Panel}
-use Rattle.panel.specs.declared.Program.{Program}
+use Rattle.loader.specs.declared.Program.{Program}
+use Rattle.loader.specs.Loading.{loadOf as loadedFrom}
 use Rattle.panel.specs.declared.Fresh.{Fresh}
 use Rattle.panel.specs.declared.Pushed.{Pushed}
 use Rattle.panel.specs.declared.Loaded.{Loaded}
 use Rattle.panel.specs.declared.Entered.{Entered}
 use Rattle.panel.specs.declared.Cycled.{Cycled}
 
--- a ceiling is from 1 to 32,767; another gives 3 and a panel that has ended
-unfoldable pub freshOf : Program → ℕ → Fresh
-freshOf program ceiling =
+-- a refused start: the answer beside a panel that has ended
+unfoldable pub noPanel : Program → Answer → Fresh
+noPanel program a = record { panel = startOf program 1 true; answer = a }
+
+-- the ceiling is from 1 to 32,767, another gives 3; then the orchestra's answer
+unfoldable pub freshOf : List ℕ → ℕ → Fresh
+freshOf orchestra ceiling =
+    let r = loadedFrom orchestra in
     cond (leb 1 ceiling && leb ceiling 32767)
-    (record { panel = startOf program ceiling false; answer = Taken })
-    (record { panel = startOf program 1 true; answer = OutOfRange })
+    (cond (isTaken (r .answer)) (record { panel = startOf (r .program) ceiling false; answer = r .answer }) (noPanel (r .program) (r .answer)))
+    (noPanel (r .program) OutOfRange)
 
 -- ---- entrances: 9 first
 

@@ -15,7 +15,7 @@ use Rattle.players.specs.Plain.{startingTempo}
 use Rattle.sounding.specs.Voices.{Held, voices, notesIn, structOf}
 use Rattle.sounding.specs.declared.Instrument.{Instrument}
 use Rattle.panel.specs.declared.Panel.{Panel}
-use Rattle.panel.specs.declared.Program.{Program}
+use Rattle.loader.specs.declared.Program.{Program}
 
 -- the instruments of the accepted orchestra
 abbrev pub tableOf : Program → List Instrument

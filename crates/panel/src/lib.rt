@@ -1,5 +1,6 @@
 // The panel: its state by value, the fresh start, the three entrances and the cycle (document 01).
 use answer::Answer;
+use loader::Program;
 use score_line::Event;
 use score_line::Line;
 use score_line::LineRead;
@@ -23,15 +24,7 @@ ghost use Rattle.sounding.specs.Voices.{voices, notesIn};
 ghost use Rattle.panel.specs.Entrances.{lineIn, stickLine, pushedAll};
 ghost use Rattle.panel.specs.Turn.{bandFrom, TurnedBy};
 ghost use Rattle.panel.specs.State.{tableOf, voicesOf, queueIn, withQueue, coreOf, endedOf, startOf};
-ghost use Rattle.panel.specs.Calls.{freshOf, loadOf, enteredOf, receiveOf, enterOf, playedOf, cycleOf, blockAfter};
-
-// What the panel keeps of an accepted orchestra: its instruments, their straight-line code, and the numbers that it names.
-pub struct Program {
-    pub table: [Instrument; 8],
-    pub count: usize,
-    pub code: [u64; 6144],
-    pub vals: [f32; 2048],
-}
+ghost use Rattle.panel.specs.Calls.{noPanel, freshOf, loadOf, enteredOf, receiveOf, enterOf, playedOf, cycleOf, blockAfter};
 
 pub struct Panel {
     lines: [Line; 64],
@@ -212,6 +205,16 @@ fn start(program: Program, ceiling: u16, ended: bool) -> Panel
     }
 }
 
+// A refused start hands back a panel that has ended: every call on it answers 9.
+fn no_panel(program: Program, answer: Answer) -> Fresh
+    ensures { λ r. ⌜ r ≡ noPanel program answer ⌝ }
+{
+    Fresh {
+        panel: start(program, 1, true),
+        answer: answer,
+    }
+}
+
 // The count of missed notes stops at the largest number.
 fn counted(missed: u64, more: usize) -> u64
     requires { ⌜ more ≤ 64 ⌝ }
@@ -358,25 +361,25 @@ fn played(p: Panel, due: Lines, block: &mut [i16]) -> Panel
 impl Panel {
     pub const STARTING_TEMPO: f32 = 60.0;
 
-    // A fresh panel of a program; a ceiling that is not from 1 to 32,767 gives 3 and a panel that has ended.
-    pub fn fresh(program: Program, ceiling: u32) -> Fresh
-        ensures { λ r. ⌜ r ≡ freshOf program ceiling ⌝ }
+    // A fresh panel of an orchestra's bytes. A refusal, of the ceiling or of the orchestra, gives a panel that has ended.
+    pub fn fresh(orchestra: &[u8], ceiling: u32) -> Fresh
+        ensures { λ r. ⌜ r ≡ freshOf (now (orchestra .entry)) ceiling ⌝ }
     {
+        let read = loader::load(orchestra);
+        let program = read.program;
         if ceiling < 1 {
-            return Fresh {
-                panel: start(program, 1, true),
-                answer: Answer::OutOfRange,
-            };
+            return no_panel(program, Answer::OutOfRange);
         }
         if 32767 < ceiling {
-            return Fresh {
-                panel: start(program, 1, true),
-                answer: Answer::OutOfRange,
-            };
+            return no_panel(program, Answer::OutOfRange);
+        }
+        let answer = read.answer;
+        if !answer::is_taken(answer) {
+            return no_panel(program, answer);
         }
         Fresh {
             panel: start(program, ceiling as u16, false),
-            answer: Answer::Taken,
+            answer: answer,
         }
     }
 

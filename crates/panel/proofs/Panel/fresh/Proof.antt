@@ -1,39 +1,58 @@
 use mathlib.Core.Path.{_≡_, refl, ap, sym, _∙_}
 use native.Mathlib.Omega.{arith}
 use borrow.Author.Needs.{needs}
-use Rattle.panel.proofs.Entering.{fresh-low, fresh-high, fresh-taken}
+use Rattle.panel.proofs.Pushing.{not-true, not-false}
+use Rattle.panel.proofs.Entering.{fresh-low, fresh-high, fresh-refused, fresh-taken}
 use Rattle.panel.proofs.Panel.fresh.Statement.{statement}
 use Rattle.panel.proofs.Panel.fresh.Tie as tie
 
-start-requires : tie.Need-start-requires
-start-requires c κs = search needs
+load-requires : tie.Need-load-requires
+load-requires c κs = search needs
+
+no-panel-requires : tie.Need-no-panel-requires
+no-panel-requires c κs = search needs
 
 returns : tie.Need-returns
-returns c = fresh-low _ _ _ (c .before .if1 .taken) (c .start .ensures)
+returns c = fresh-low _ _ _ (c .before .before .before .load .ensures) (c .before .if1 .taken) _ (c .no-panel .ensures)
 
-start-requires-2 : tie.Need-start-requires-2
-start-requires-2 c κs = search needs
+no-panel-requires-2 : tie.Need-no-panel-requires-2
+no-panel-requires-2 c κs = search needs
 
 returns-2 : tie.Need-returns-2
-returns-2 c = fresh-high _ _ _ (c .before .before .if1 .left) (c .before .if2 .taken) (c .start2 .ensures)
+returns-2 c = fresh-high _ _ _ (c .before .before .before .before .load .ensures) (c .before .before .if1 .left) (c .before .if2 .taken) _ (c .no-panel2 .ensures)
+
+is-taken-requires : tie.Need-is-taken-requires
+is-taken-requires c κs = search needs
+
+no-panel-requires-3 : tie.Need-no-panel-requires-3
+no-panel-requires-3 c κs = search needs
+
+returns-3 : tie.Need-returns-3
+returns-3 c = fresh-refused _ _ _ (c .before .before .before .before .before .before .load .ensures) (c .before .before .before .before .if1 .left) (c .before .before .before .if2 .left)
+    (sym (c .before .before .is-taken .ensures) ∙ not-true _ (c .before .if3 .taken)) _ (c .no-panel3 .ensures)
 
 cast-start : tie.Need-cast-start
 cast-start c = search needs
 
-start-requires-3 : tie.Need-start-requires-3
-start-requires-3 c κs = search needs
+start-requires : tie.Need-start-requires
+start-requires c κs = search needs
 
-returns-3 : tie.Need-returns-3
-returns-3 c = fresh-taken _ _ _ (c .before .before .if1 .left) (c .before .if2 .left) (c .start3 .ensures)
+returns-4 : tie.Need-returns-4
+returns-4 c = fresh-taken _ _ _ (c .before .before .before .before .before .before .load .ensures) (c .before .before .before .before .if1 .left) (c .before .before .before .if2 .left)
+    (sym (c .before .before .is-taken .ensures) ∙ not-false _ (c .before .if3 .left)) _ (c .start .ensures)
 
 pub fresh-spec : {M : Type 1} → statement M
 fresh-spec =
     tie.close
     (tie.spec
-    start-requires
+    load-requires
+    no-panel-requires
     returns
-    start-requires-2
+    no-panel-requires-2
     returns-2
+    is-taken-requires
+    no-panel-requires-3
+    returns-3
     cast-start
-    start-requires-3
-    returns-3)
+    start-requires
+    returns-4)
