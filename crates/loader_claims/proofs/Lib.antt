@@ -1,0 +1,4 @@
+pub mod Declarations
+pub mod Rows
+pub mod Loaded
+pub mod Refused

@@ -1,0 +1,132 @@
+-- An accepted orchestra's program, as the loader keeps it, stands for its tree.
+use Prim.Native.Nat.{ℕ, zero, suc, _+_, _*_, _≤_, _<_, min}
+use native.Mathlib.Omega.{arith}
+use mathlib.Core.Path.{_≡_, refl, sym, ap, ap₂, _∙_, subst}
+use mathlib.Core.Bool.{true}
+use mathlib.Core.List.{List, [], _∷_, _++_, map}
+use lib.ListN.{length, take, drop, replicate, length-map}
+use lib.Seq.{take-append-seam}
+use lib.Ieee.{Float}
+use Rattle.tokens.specs.declared.Token.{Token}
+use Rattle.tokens.specs.Measures.{measured}
+use Rattle.syntax.specs.Tree.{Instrument}
+use Rattle.syntax.specs.Names.{placed, nameRules}
+use Rattle.syntax.specs.Program.{zeroF, program, instrument}
+use Rattle.grammar.specs.Grammar.{Orchestra}
+use Rattle.rules.specs.Formed.{opOf, argOf, opsOf, argsOf, valsOf}
+use Rattle.lowering.specs.Orchestra.{Code, code, codeOf, filled}
+use Rattle.bounds.proofs.Whole.{program-fits, orchestra-playable}
+use Rattle.bounds.specs.Sizes.{numbers}
+use Rattle.compiled.specs.Compiled.{wordsOf, startsOf, ProgramCode}
+use Rattle.compiled.proofs.Laws.{program-code}
+use Rattle.compiled.proofs.Declared.{orchestra-kinds}
+use Rattle.orchestra.specs.declared.Outcome.{Outcome}
+use Rattle.orchestra.specs.Compiled.{padded, laid, headsFrom, compile}
+use Rattle.orchestra.specs.Verdict.{Accepted}
+use Rattle.orchestra.proofs.Heads.{at-most-8}
+use Rattle.orchestra.proofs.Verdict.{accepted-exactly}
+use Rattle.sounding.specs.declared.Instrument as row
+use Rattle.sounding.specs.Voices.{blank}
+use Rattle.voices.specs.Represents.{Represents}
+use Rattle.voices.proofs.Rows.{represents}
+use Rattle.loader.specs.declared.Program.{Program}
+use Rattle.loader.specs.Loading as loading
+use Rattle.loader.specs.Loading.{laidIn, rowsFrom, programOf, keptOf, loadOf}
+use Rattle.loader_claims.specs.Claims.{StandsFor, LoadedAs, Loaded, TakenOnly}
+use Rattle.loader_claims.proofs.Declarations.{all-known}
+use Rattle.loader_claims.proofs.Rows.{programIn, startsIn, wordsIn, all-rows}
+
+-- the cells that count
+take-laid : {A : Type 0} (m : ℕ) (d : A) (xs : List A) → length xs ≤ m → take (length xs) (laidIn m d xs) ≡ xs
+unfolding laidIn
+take-laid m d [] le = refl
+take-laid zero d (x ∷ xs) le = absurd (omega arith)
+take-laid (suc m) d (x ∷ xs) le = ap (λ l. x ∷ l) (take-laid m d xs (omega arith))
+
+length-heads : (n : ℕ) (is : List Instrument) → length (headsFrom n is) ≡ length is
+unfolding headsFrom
+length-heads n [] = refl
+length-heads n (i ∷ is) = ap suc (length-heads (n + length (instrument (placed i))) is)
+
+length-rows : (os ns ss : List ℕ) (n j : ℕ) (hs : List ℕ) → length (rowsFrom os ns ss n j hs) ≡ length hs
+unfolding rowsFrom
+length-rows os ns ss n j [] = refl
+length-rows os ns ss n j (h ∷ hs) = ap suc (length-rows os ns ss n (suc j) hs)
+
+-- the arrays' first cells
+module _ (hs os ns : List ℕ) (vs : List Float) (few : length hs ≤ 8) (e : length os ≡ length ns) where
+  kept-is : keptOf (laid hs os ns vs) ≡ programOf os ns (padded 2048 zeroF vs) (padded 8 0 hs) (length hs)
+  kept-is =
+      let a : take (length os) (padded 2048 0 os) ≡ os = take-append-seam os (drop (length os) (replicate 2048 0)) in
+      let b : take (length os) (padded 2048 0 ns) ≡ ns = ap (λ k. take k (padded 2048 0 ns)) e ∙ take-append-seam ns (drop (length ns) (replicate 2048 0)) in
+      let c : min (length hs) 8 ≡ length hs = omega arith in
+      λ i. programOf (a i) (b i) (padded 2048 zeroF vs) (padded 8 0 hs) (c i)
+
+  -- the rows that count, and the code, by the words and the starts
+  module _ (ws ss : List ℕ) (p : codeOf 6144 27 os ns ≡ code ws ss) where
+    abbrev made : Program
+    made = programOf os ns (padded 2048 zeroF vs) (padded 8 0 hs) (length hs)
+
+    table-is : take (made .count) (made .table) ≡ rowsFrom os ns (filled 27 ss) (length hs) 0 hs
+    unfolding programOf
+    table-is =
+        let h : take (length hs) (padded 8 0 hs) ≡ hs = take-append-seam hs (drop (length hs) (replicate 8 0)) in
+        let s : loading.startsIn os ns ≡ filled 27 ss = ap (λ (c : Code). filled 27 (c .starts)) p in
+        let r = rowsFrom os ns (filled 27 ss) (length hs) 0 hs in
+        let l : length r ≡ length hs = length-rows os ns (filled 27 ss) (length hs) 0 hs in
+        ap₂ (λ (u v : List ℕ). take (length hs) (laidIn 8 blank (rowsFrom os ns u (length hs) 0 v))) s h
+        ∙ ap (λ k. take k (laidIn 8 blank r)) (sym l)
+        ∙ take-laid 8 blank r (omega arith)
+
+    code-is : made .code ≡ filled 6144 ws
+    unfolding programOf
+    code-is = ap (λ (c : Code). filled 6144 (c .words)) p
+
+    stands-by : (is : List Instrument) → Represents is (rowsFrom os ns (filled 27 ss) (length hs) 0 hs) (filled 6144 ws) (padded 2048 zeroF vs) → StandsFor is made
+    unfolding programOf
+    stands-by is r =
+        subst (λ (t : List row.Instrument). Represents is t (made .code) (padded 2048 zeroF vs)) (sym table-is)
+        (subst (λ (c : List ℕ). Represents is (rowsFrom os ns (filled 27 ss) (length hs) 0 hs) c (padded 2048 zeroF vs)) (sym code-is) r)
+
+module _ (is : List Instrument) (ts : List Token) (d : Orchestra is ts) (m : measured ts ≡ true) (named : nameRules is ≡ true) where
+  abbrev os : List ℕ
+  os = opsOf (programIn is)
+
+  abbrev ns : List ℕ
+  ns = argsOf (programIn is)
+
+  code-of : codeOf 6144 27 os ns ≡ code (wordsOf (map placed is)) (startsOf (map placed is))
+  unfolding ProgramCode
+  code-of =
+      program-code (numbers (programIn is) ++ []) 6144 27 (map placed is) (orchestra-playable is ts [] d m) (orchestra-kinds d)
+      (omega (arith, program-fits is ts d m))
+      (omega (arith, at-most-8 is named, length-map is placed))
+
+  compiled-stands : StandsFor is (keptOf (compile is))
+  unfolding compile
+  compiled-stands =
+      let hs = headsFrom 0 is in
+      let vs = valsOf (programIn is) in
+      let n : length hs ≡ length is = length-heads 0 is in
+      let few : length hs ≤ 8 = omega (arith, at-most-8 is named) in
+      let e : length os ≡ length ns = length-map (programIn is) opOf ∙ sym (length-map (programIn is) argOf) in
+      let more = drop (length vs) (replicate 2048 zeroF) in
+      let r = represents (wordsIn is) (vs ++ more) is (rowsFrom os ns (startsIn is) (length is) 0 hs) (all-rows is more ts d m (all-known d)) in
+      subst (StandsFor is) (sym (kept-is hs os ns vs few e))
+      (stands-by hs os ns vs few e (wordsOf (map placed is)) (startsOf (map placed is)) code-of is
+      (subst (λ (k : ℕ). Represents is (rowsFrom os ns (startsIn is) k 0 hs) (wordsIn is) (vs ++ more)) (sym n) r))
+
+pub loaded : Loaded
+unfolding loadOf
+loaded bs is a =
+    let e = accepted-exactly bs .1 is a in
+    record {
+      taken = ap (λ (o : Outcome). o .answer) e;
+      stands =
+          subst (λ (o : Outcome). StandsFor is (keptOf (o .program))) (sym e)
+          (compiled-stands is (a .tokens) (a .derived) (a .sized .within) (a .named));
+    }
+
+pub taken-only : TakenOnly
+unfolding loadOf
+taken-only bs e = accepted-exactly bs .0 e
