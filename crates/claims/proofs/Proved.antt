@@ -35,7 +35,9 @@ use Rattle.panel.specs.Calls.{freshOf, loadOf, receiveOf, enterOf, cycleOf, blo
 use Rattle.panel.specs.declared.Panel.{Panel}
 use Rattle.loader.specs.declared.Program.{Program}
 use Rattle.panel.specs.declared.Fresh.{Fresh}
-use Rattle.claims.specs.Claims.{afterCall, missedOf, entrances, programOf, freshPanel, Lawful, Condition3, CeilingBinds, Unchanged, RefusalsChangeNothing, EntrancesAlike}
+use Rattle.voices.proofs.Laws.{plain-alike-tree}
+use Rattle.loader_claims.proofs.Loaded.{loaded}
+use Rattle.claims.specs.Claims.{afterCall, missedOf, entrances, programOf, freshPanel, Lawful, ProgramAlike, Condition3, CeilingBinds, Unchanged, RefusalsChangeNothing, EntrancesAlike}
 use Rattle.claims.proofs.Steady.{score-steady, unit-steady, keypad-steady}
 use Rattle.claims.proofs.Doors.{Fine, Door, sticks, units, keypads}
 use Rattle.claims.proofs.Cycles.{Turn, cycles}
@@ -106,10 +108,18 @@ module _ (orchestra : List ℕ) (ceiling : ℕ) (l : Lawful orchestra ceiling) w
       ceiling-holds entrances (voicesOf (programOf orchestra)) ceiling coreOf (Fine (programOf orchestra) ceiling) (works (programOf orchestra) ceiling)
       (l .low) (l .high) (freshPanel orchestra ceiling) fresh-fine
 
--- condition 3, whole
+pub program-alike : ProgramAlike
+unfolding ProgramAlike
+program-alike orchestra ceiling l = alike orchestra ceiling l
+
+-- condition 3, whole: an accepted orchestra is loaded, its program stands for its tree, and so the program's plain player is the tree's
 pub condition-3 : Condition3
 unfolding Condition3
-condition-3 orchestra ceiling l = alike orchestra ceiling l
+condition-3 orchestra is ceiling a low high =
+    let l = loaded orchestra is a in
+    let g = programOf orchestra in
+    let lawful : Lawful orchestra ceiling = record { accepted = ap isTaken (l .taken); low = low; high = high } in
+    plain-alike-tree Panel entrances is (tableOf g) (g .code) (g .vals) (l .stands) ceiling (freshPanel orchestra ceiling) (alike orchestra ceiling lawful)
 
 pub ceiling-binds : CeilingBinds
 unfolding CeilingBinds

@@ -18,6 +18,9 @@ use Rattle.panel.specs.State.{voicesOf, endedOf}
 use Rattle.panel.specs.Calls.{freshOf, loadOf, receiveOf, enterOf, cycleOf, blockAfter}
 use Rattle.panel.specs.declared.Panel.{Panel}
 use Rattle.loader.specs.declared.Program.{Program}
+use Rattle.syntax.specs.Tree.{Instrument}
+use Rattle.orchestra.specs.Verdict.{Accepted}
+use Rattle.voices.specs.Tree.{treeVoices}
 use Rattle.loader.specs.Loading.{loadOf as loadedFrom}
 
 -- what each call of the panel leaves
@@ -59,12 +62,19 @@ pub record Lawful (orchestra : List ℕ) (ceiling : ℕ) : Type 0 where
   pub low : 1 ≤ ceiling
   pub high : ceiling ≤ 32767
 
--- Condition 3, first half. For any accepted orchestra, any ceiling and any list of calls on a fresh panel: if every line taken is timed
--- and in time, each cycle lent 320 samples gives the plain player's answer and block, and after every call the missed notes are its.
-unfoldable pub Condition3 : Type 0
-Condition3 =
+-- The first half of condition 3 with the voices of the panel's program.
+unfoldable pub ProgramAlike : Type 0
+ProgramAlike =
     (orchestra : List ℕ) (ceiling : ℕ) → Lawful orchestra ceiling →
     PlainAlike entrances (voicesOf (programOf orchestra)) ceiling (freshPanel orchestra ceiling)
+
+-- Condition 3, first half. For any accepted orchestra, whose tree is `is`, any ceiling and any list of calls on a fresh panel: if every
+-- line taken is timed and in time, each cycle lent 320 samples gives the answer and the block of the plain player, whose notes do what
+-- the tree means, and after every call the missed notes are its.
+unfoldable pub Condition3 : Type 0
+Condition3 =
+    (orchestra : List ℕ) (is : List Instrument) (ceiling : ℕ) → Accepted orchestra is → 1 ≤ ceiling → ceiling ≤ 32767 →
+    PlainAlike entrances (treeVoices is) ceiling (freshPanel orchestra ceiling)
 
 -- Condition 3, second half. For every list of calls no sample that a cycle gives lies above the ceiling or below its negative.
 unfoldable pub CeilingBinds : Type 0
