@@ -1,0 +1,189 @@
+// The fields of a record: a code, then, as its kind has them, a first number, a count, that many items, and a room.
+use ports::Port;
+
+pub enum Fault {
+    Whole,
+    Unknown,
+    Outside,
+    Cut,
+}
+
+pub struct Record {
+    pub port: Port,
+    pub code: u8,
+    pub first: u32,
+    pub count: u32,
+    pub room: u32,
+    pub fault: Fault,
+    pub ended: bool,
+}
+
+pub fn is_whole(f: Fault) -> bool {
+    match f {
+        Fault::Whole => true,
+        Fault::Unknown => false,
+        Fault::Outside => false,
+        Fault::Cut => false,
+    }
+}
+
+fn is_known(code: u8) -> bool {
+    match code {
+        b'F' | b'S' | b'U' | b'K' | b'C' | b'D' | b'd' | b'W' | b'w' => true,
+        _ => false,
+    }
+}
+
+fn has_first(code: u8) -> bool {
+    match code {
+        b'F' | b'D' | b'd' => true,
+        _ => false,
+    }
+}
+
+fn most_first(code: u8) -> u32 {
+    if code == b'F' { u32::MAX } else { 128 }
+}
+
+fn most_count(code: u8) -> u32 {
+    match code {
+        b'F' => 32768,
+        b'K' => 4096,
+        b'C' => 1024,
+        b'W' => 128,
+        _ => 1048576,
+    }
+}
+
+fn has_room(code: u8) -> bool {
+    match code {
+        b'W' | b'w' => true,
+        _ => false,
+    }
+}
+
+// How many bytes a number of items takes.
+pub fn size_of(code: u8, count: u32) -> usize {
+    let n = count as usize;
+    match code {
+        b'K' => 4 * n,
+        b'W' | b'w' => 72 * n,
+        b'C' => 0,
+        _ => n,
+    }
+}
+
+struct Field {
+    port: Port,
+    value: u32,
+    fault: Fault,
+}
+
+// A number that is at most `most`; where the kind has none, the one that stands for it.
+fn number(p: Port, wanted: bool, most: u32, otherwise: u32, input: &mut [u8], out: &[u8]) -> Field {
+    if !wanted {
+        return Field {
+            port: p,
+            value: otherwise,
+            fault: Fault::Whole,
+        };
+    }
+    let mut four = [0u8; 4];
+    let q = ports::receive(p, input, out, &mut four, 4);
+    let v = ports::word_at(&four, 0);
+    if q.dry {
+        return Field {
+            port: q,
+            value: 0,
+            fault: Fault::Cut,
+        };
+    }
+    if most < v {
+        return Field {
+            port: q,
+            value: 0,
+            fault: Fault::Outside,
+        };
+    }
+    Field {
+        port: q,
+        value: v,
+        fault: Fault::Whole,
+    }
+}
+
+fn stopped(p: Port, fault: Fault, ended: bool) -> Record {
+    Record {
+        port: p,
+        code: 0,
+        first: 0,
+        count: 0,
+        room: 0,
+        fault: fault,
+        ended: ended,
+    }
+}
+
+// The items of a record, into `data`, and its room.
+fn items(
+    p: Port,
+    code: u8,
+    first: u32,
+    count: u32,
+    input: &mut [u8],
+    out: &[u8],
+    data: &mut [u8],
+) -> Record {
+    let q = ports::receive(p, input, out, data, size_of(code, count));
+    if q.dry {
+        return stopped(q, Fault::Cut, false);
+    }
+    let room = number(q, has_room(code), 8192, 0, input, out);
+    let fault = room.fault;
+    let port = room.port;
+    Record {
+        port: port,
+        code: code,
+        first: first,
+        count: count,
+        room: room.value,
+        fault: fault,
+        ended: false,
+    }
+}
+
+// What follows the first number.
+fn counted(p: Port, code: u8, first: u32, input: &mut [u8], out: &[u8], data: &mut [u8]) -> Record {
+    let count = number(p, code != b'w', most_count(code), 1, input, out);
+    let fault = count.fault;
+    let port = count.port;
+    if is_whole(fault) {
+        return items(port, code, first, count.value, input, out, data);
+    }
+    stopped(port, fault, false)
+}
+
+// What follows a known code.
+fn body(p: Port, code: u8, input: &mut [u8], out: &[u8], data: &mut [u8]) -> Record {
+    let first = number(p, has_first(code), most_first(code), 0, input, out);
+    let fault = first.fault;
+    let port = first.port;
+    if is_whole(fault) {
+        return counted(port, code, first.value, input, out, data);
+    }
+    stopped(port, fault, false)
+}
+
+// The next record; `ended` where the input ends before one.
+pub fn read(p: Port, input: &mut [u8], out: &[u8], data: &mut [u8]) -> Record {
+    let mut one = [0u8; 1];
+    let q = ports::receive(p, input, out, &mut one, 1);
+    if q.dry {
+        return stopped(q, Fault::Whole, true);
+    }
+    let code = ports::byte_at(&one, 0);
+    if is_known(code) {
+        return body(q, code, input, out, data);
+    }
+    stopped(q, Fault::Unknown, false)
+}
