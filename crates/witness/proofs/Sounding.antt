@@ -1,0 +1,49 @@
+-- The piece's tokens, its tree and its blocks, computed.
+use mathlib.Core.Path.{_≡_, refl}
+use mathlib.Core.Bool.{Bool, true, false}
+use mathlib.Core.List.{List, [], _∷_}
+use native.Mathlib.Omega.{arith}
+use lib.IntN.{ℤ, pos}
+use lib.ListN.{replicate}
+use lib.Ieee.{Float, binary32, ofBits, fits, size, add, mul, round, lt, le, eq}
+use Rattle.tokens.specs.declared.Token.{Token}
+use Rattle.tokens.specs.declared.Token.the-variants.{Number, Symbol, Sign}
+use Rattle.tokens.specs.Bytes.{tokensAfter, tokenFrom}
+use Rattle.tokens.specs.Measures.{opened, since, bracketsKept, stretchesKept}
+use Rattle.syntax.specs.Names.{named, namedBy, has, apart, knownIn, known, eachKept, placeFrom, putIn, put}
+use Rattle.syntax.specs.Rates.{rate, ratesKept, rateRules}
+use Rattle.expressions.specs.Grammar.{Derives, real, named as a·name, sides, plus}
+use Rattle.grammar.specs.Grammar.{Stmts, none, set, out, Names, one, Fields, none as no·fields, Kinds, ksig, Decls, none as no·decls, some as some·decls, Instr, is, Orchestra, last}
+use Rattle.orchestra.specs.Verdict.{Sized, Accepted}
+use Rattle.meaning.specs.Meaning.{value, assigned, outputs, pass, fresh, birth, kPass, aPasses, cycle}
+use Rattle.players.specs.Lists.{keep, fold, each}
+use Rattle.players.specs.Cycle.{isDue, insert, ordered, anyEnd, lastTempo, limited, dueOf, ends, joinedBy, goesOn, born, started, controlledBy, controlled, runFrom, runAll, startedIn, bandOf, blockOf, stepped}
+use Rattle.players.specs.Plain.{startingTempo, plainStart, plainAnswer, plainStep, plainAt, answerAt, blockAt}
+use Rattle.float32.specs.Limit.{held, sampleOf}
+use Rattle.float32.specs.Operators.{binaryOf}
+use Rattle.timebase.specs.Time.{upTo, ticksOf, ticksIn, cycleOf, cycleIn}
+use Rattle.voices.specs.Tree.{silent, instrumentOf, importsOf, treeVoices}
+use Rattle.witness.specs.Growing.{bytes, tree, line, Sounds}
+
+-- instr s1 ( ) { ksig s2 ; s2 = s2 + 0.25 ; output ( s2 ) ; }
+abbrev tokens : List Token
+tokens =
+    Sign 1 ∷ Symbol 1 ∷ Sign 15 ∷ Sign 16 ∷ Sign 17 ∷ Sign 3 ∷ Symbol 2 ∷ Sign 20 ∷ Symbol 2 ∷ Sign 21 ∷ Symbol 2 ∷ Sign 32 ∷ Number (ofBits binary32 0x3e800000)
+    ∷ Sign 20 ∷ Sign 6 ∷ Sign 15 ∷ Symbol 2 ∷ Sign 16 ∷ Sign 20 ∷ Sign 18 ∷ []
+
+sized : Sized bytes tokens
+unfolding tokensAfter tokenFrom opened since bracketsKept stretchesKept ofBits fits size
+sized = record { short = omega arith; tokens = refl; within = refl }
+
+derived : Orchestra tree tokens
+derived =
+    last (is 1 no·fields (some·decls ksig (one 2) no·decls)
+    (set 2 (sides {m = 0} {l = 5} plus (omega arith) (a·name 2) (real (ofBits binary32 0x3e800000))) (out (a·name 2) none)))
+
+accepted : Accepted bytes tree
+unfolding named namedBy has apart knownIn known eachKept placeFrom putIn put rate ratesKept rateRules
+accepted = record { tokens = tokens; sized = sized; derived = derived; named = refl; rated = refl }
+
+pub growing-sounds : Sounds
+unfolding answerAt plainAnswer blockAt blockOf limited bandOf startedIn runAll runFrom started controlled dueOf plainAt plainStep plainStart startingTempo ends anyEnd stepped goesOn lastTempo cycleIn cycleOf keep fold each isDue insert ordered joinedBy born controlledBy ticksIn ticksOf upTo treeVoices instrumentOf importsOf silent sampleOf held binaryOf cycle kPass aPasses pass outputs assigned value fresh birth put putIn namedBy named placeFrom add mul round ofBits lt le eq
+growing-sounds = record { accepted = accepted; first = (refl, refl); second = (refl, refl); held = refl }
