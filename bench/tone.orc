@@ -1,0 +1,11 @@
+// One fixed tone: a phase that grows by an ivar, wraps by an if, shaped by two multiplications.
+instr tone(pitch) {
+    ivar step;
+    asig phase;
+    step = pitch / 32000;
+    phase = phase + step;
+    if (phase >= 1) {
+        phase = phase - 1;
+    }
+    output(phase * (1 - phase) * 0.25);
+}
