@@ -1,0 +1,17 @@
+// Document 01's values that a program runs, and every refusal, through the panel's public calls.
+mod desk;
+mod pieces;
+mod refusals;
+
+fn main() {
+    refusals::ceiling_cases();
+    refusals::fresh_cases();
+    refusals::keypad_cases();
+    refusals::unit_cases();
+    refusals::stick_cases();
+    pieces::sounding();
+    pieces::sixteen();
+    pieces::waiting();
+    pieces::late();
+    pieces::ended();
+}
