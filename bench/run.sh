@@ -20,7 +20,7 @@ counted() {
         echo $(((b - a) / 1000))
     done | sort -n | head -1)
     awk -v n="$name" -v all="$all" -v us="$best" 'BEGIN {
-        printf "%-8s %12d instructions, %6.1f per note and sample, %7.1f times real time\n", n, all, all / 5120000, 1e7 / us }'
+        printf "%-8s %12.0f instructions, %6.1f per note and sample, %7.1f times real time\n", n, all, all / 5120000, 1e7 / us }'
 }
 
 counted panel "$here/../target/bin/bench"
@@ -28,10 +28,10 @@ counted panel "$here/../target/bin/bench"
 cat >"$work/tone.saol" <<'SAOL'
 global { srate 32000; krate 100; outchannels 1; }
 instr tone(pitch) {
-    ivar step;
+    ivar grow;
     asig phase;
-    step = pitch / 32000;
-    phase = phase + step;
+    grow = pitch / 32000;
+    phase = phase + grow;
     if (phase >= 1) { phase = phase - 1; }
     output(phase * (1 - phase) * 0.25);
 }

@@ -1,9 +1,9 @@
 // One fixed tone: a phase that grows by an ivar, wraps by an if, shaped by two multiplications.
 instr tone(pitch) {
-    ivar step;
+    ivar grow;
     asig phase;
-    step = pitch / 32000;
-    phase = phase + step;
+    grow = pitch / 32000;
+    phase = phase + grow;
     if (phase >= 1) {
         phase = phase - 1;
     }
