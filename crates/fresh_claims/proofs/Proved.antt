@@ -3,7 +3,7 @@ use Prim.Native.Nat.{ℕ, _≤_}
 use native.Mathlib.Omega.{arith}
 use mathlib.Core.Path.{_≡_, refl, sym, ap, _∙_}
 use mathlib.Core.Bool.{Bool, true, false, cond, _&&_}
-use mathlib.Core.List.{List}
+use mathlib.Core.List.{List, []}
 use lib.Dec.{leb}
 use borrow.Author.Tests.{le-leb, leb-true}
 use Rattle.answer.specs.Numbers.{isTaken}
@@ -40,7 +40,7 @@ module _ (bs : List ℕ) (ceiling : ℕ) where
       by-low : (a b : Bool) → leb 1 ceiling ≡ a → leb ceiling 32767 ≡ b
           → cond (a && b)
           (cond (isTaken (loadOf bs .answer)) (record { panel = startOf (loadOf bs .program) ceiling false; answer = loadOf bs .answer }) (noPanel (loadOf bs .program) (loadOf bs .answer)))
-          (noPanel (loadOf bs .program) OutOfRange) .answer ≡ Taken
+          (noPanel (loadOf [] .program) OutOfRange) .answer ≡ Taken
           → (is : List Instrument) × Given bs is ceiling
       by-low true true l h f =
           let t = taken-only bs (by-answer (isTaken (loadOf bs .answer)) f) in

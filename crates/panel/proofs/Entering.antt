@@ -1,7 +1,7 @@
 -- One law for each way through the fresh start and the entrances.
 use mathlib.Core.Path.{_≡_, refl, sym, ap, _∙_}
 use mathlib.Core.Bool.{Bool, true, false, cond, _&&_}
-use mathlib.Core.List.{List}
+use mathlib.Core.List.{List, []}
 use Prim.Native.Nat.{ℕ, _≤_, _<_}
 use native.Mathlib.Omega.{arith}
 use lib.Dec.{leb}
@@ -21,25 +21,27 @@ use Rattle.panel.specs.State.{tableOf, queueIn, withQueue, startOf}
 use Rattle.panel.specs.Calls.{noPanel, freshOf, loadedOf, loadOf, enteredOf, receiveOf, enterOf}
 use Rattle.panel.specs.declared.Panel.{Panel}
 use Rattle.loader.specs.declared.Ready.{Ready}
+use Rattle.loader.specs.declared.Program.{Program}
 use Rattle.loader.specs.Loading.{loadOf as loadedFrom}
 use Rattle.panel.specs.declared.Fresh.{Fresh}
 use Rattle.panel.specs.declared.Pushed.{Pushed}
 use Rattle.panel.specs.declared.Loaded.{Loaded}
 use Rattle.panel.specs.declared.Entered.{Entered}
 
-module _ (orchestra : List ℕ) (ceiling : ℕ) (r : Ready) (er : r ≡ loadedFrom orchestra) where
-  pub fresh-low : ceiling < 1 → (x : Fresh) → x ≡ noPanel (r .program) OutOfRange → x ≡ freshOf orchestra ceiling
+module _ (orchestra : List ℕ) (ceiling : ℕ) where
+  pub fresh-low : ceiling < 1 → (q : Program) → q ≡ loadedFrom [] .program → (x : Fresh) → x ≡ noPanel q OutOfRange → x ≡ freshOf orchestra ceiling
   unfolding freshOf
-  fresh-low h x e =
-      e ∙ ap (λ (y : Ready). noPanel (y .program) OutOfRange) er
+  fresh-low h q eq x e =
+      e ∙ ap (λ (y : Program). noPanel y OutOfRange) eq
       ∙ sym (cond-false _ _ (ap (λ (t : Bool). t && leb ceiling 32767) (lt-leb 1 ceiling h)))
 
-  pub fresh-high : 1 ≤ ceiling → 32767 < ceiling → (x : Fresh) → x ≡ noPanel (r .program) OutOfRange → x ≡ freshOf orchestra ceiling
+  pub fresh-high : 1 ≤ ceiling → 32767 < ceiling → (q : Program) → q ≡ loadedFrom [] .program → (x : Fresh) → x ≡ noPanel q OutOfRange → x ≡ freshOf orchestra ceiling
   unfolding freshOf
-  fresh-high g h x e =
-      e ∙ ap (λ (y : Ready). noPanel (y .program) OutOfRange) er
+  fresh-high g h q eq x e =
+      e ∙ ap (λ (y : Program). noPanel y OutOfRange) eq
       ∙ sym (cond-false _ _ (ap (λ (t : Bool). t && leb ceiling 32767) (le-leb 1 ceiling g) ∙ lt-leb ceiling 32767 h))
 
+module _ (orchestra : List ℕ) (ceiling : ℕ) (r : Ready) (er : r ≡ loadedFrom orchestra) where
   module _ (g : 1 ≤ ceiling) (h : ceiling ≤ 32767) where
     in-range : (leb 1 ceiling && leb ceiling 32767) ≡ true
     in-range = ap (λ (t : Bool). t && leb ceiling 32767) (le-leb 1 ceiling g) ∙ le-leb ceiling 32767 h

@@ -1,6 +1,6 @@
 -- What each call of the panel gives, for every panel and every input.
 use mathlib.Core.Bool.{Bool, true, false, cond, _&&_}
-use mathlib.Core.List.{List}
+use mathlib.Core.List.{List, []}
 use Prim.Native.Nat.{ℕ}
 use lib.IntN.{ℤ}
 use lib.ListN.{length}
@@ -28,13 +28,13 @@ use Rattle.panel.specs.declared.Cycled.{Cycled}
 unfoldable pub noPanel : Program → Answer → Fresh
 noPanel program a = record { panel = startOf program 1 true; answer = a }
 
--- the ceiling is from 1 to 32,767, another gives 3; then the orchestra's answer
+-- the ceiling is from 1 to 32,767, another gives 3 before the orchestra is looked at; then the orchestra's answer
 unfoldable pub freshOf : List ℕ → ℕ → Fresh
 freshOf orchestra ceiling =
     let r = loadedFrom orchestra in
     cond (leb 1 ceiling && leb ceiling 32767)
     (cond (isTaken (r .answer)) (record { panel = startOf (r .program) ceiling false; answer = r .answer }) (noPanel (r .program) (r .answer)))
-    (noPanel (r .program) OutOfRange)
+    (noPanel (loadedFrom [] .program) OutOfRange)
 
 -- ---- entrances: 9 first
 

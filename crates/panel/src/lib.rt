@@ -13,6 +13,7 @@ use waiting::Lines;
 use waiting::Queue;
 ghost use mathlib.Core.Path.{_≡_};
 ghost use mathlib.Core.Bool.{true, false};
+ghost use mathlib.Core.List.{[]};
 ghost use Prim.Native.Nat.{_≤_, _<_, _+_, min};
 ghost use lib.ListN.{length, take};
 ghost use Rattle.answer.specs.Numbers.{isTaken};
@@ -24,6 +25,7 @@ ghost use Rattle.sounding.specs.Voices.{voices, notesIn};
 ghost use Rattle.panel.specs.Entrances.{lineIn, stickLine, pushedAll};
 ghost use Rattle.panel.specs.Turn.{bandFrom, TurnedBy};
 ghost use Rattle.panel.specs.State.{tableOf, voicesOf, queueIn, withQueue, coreOf, endedOf, startOf};
+ghost use Rattle.loader.specs.Loading.{loadOf as loadedFrom};
 ghost use Rattle.panel.specs.Calls.{noPanel, freshOf, loadOf, enteredOf, receiveOf, enterOf, playedOf, cycleOf, blockAfter};
 
 pub struct Panel {
@@ -205,6 +207,15 @@ fn start(program: Program, ceiling: u16, ended: bool) -> Panel
     }
 }
 
+// The program of no orchestra, for a panel whose orchestra is not looked at.
+fn unread() -> Program
+    ensures { λ r. ⌜ r ≡ loadedFrom [] .program ⌝ }
+{
+    let none = [0u8; 1];
+    let read = loader::load(&none[..0]);
+    read.program
+}
+
 // A refused start hands back a panel that has ended: every call on it answers 9.
 fn no_panel(program: Program, answer: Answer) -> Fresh
     ensures { λ r. ⌜ r ≡ noPanel program answer ⌝ }
@@ -365,14 +376,14 @@ impl Panel {
     pub fn fresh(orchestra: &[u8], ceiling: u32) -> Fresh
         ensures { λ r. ⌜ r ≡ freshOf (now (orchestra .entry)) ceiling ⌝ }
     {
-        let read = loader::load(orchestra);
-        let program = read.program;
         if ceiling < 1 {
-            return no_panel(program, Answer::OutOfRange);
+            return no_panel(unread(), Answer::OutOfRange);
         }
         if 32767 < ceiling {
-            return no_panel(program, Answer::OutOfRange);
+            return no_panel(unread(), Answer::OutOfRange);
         }
+        let read = loader::load(orchestra);
+        let program = read.program;
         let answer = read.answer;
         if !answer::is_taken(answer) {
             return no_panel(program, answer);
