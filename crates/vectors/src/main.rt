@@ -1,4 +1,5 @@
 // Document 01's values that a program runs, and every refusal, through the panel's public calls.
+mod areas;
 mod desk;
 mod pieces;
 mod refusals;
@@ -14,4 +15,10 @@ fn main() {
     pieces::waiting();
     pieces::late();
     pieces::ended();
+    areas::decode_score_cases();
+    areas::decode_unit_cases();
+    areas::cramped_cases();
+    areas::write_score_cases();
+    areas::write_unit_cases();
+    areas::short_cases();
 }

@@ -4,7 +4,7 @@ use crate::desk::told;
 use answer::Answer;
 use panel::Panel;
 
-fn number(a: Answer) -> u64 {
+pub fn number(a: Answer) -> u64 {
     answer::number(a) as u64
 }
 
