@@ -7,7 +7,7 @@ use mathlib.Core.List.{List, [], _∷_, map}
 use lib.ListN.{length, take}
 use lib.Dec.{ltb}
 use lib.Ieee.{Float}
-use borrow.Author.Tests.{ltb-true, ltb-false, le-ltb}
+use borrow.Author.Tests.{ltb-true, ltb-false, lt-ltb, le-ltb}
 use Rattle.answer.specs.declared.Answer.{Answer}
 use Rattle.answer.specs.declared.Answer.the-variants.{Taken, BadToken, BadGrammar, BadNames, BadRates, TooLarge}
 use Rattle.tokens.specs.declared.Token.{Token}
@@ -33,7 +33,7 @@ use Rattle.rules.proofs.RatesLaw.{rates-law}
 use Rattle.orchestra.specs.declared.Outcome.{Outcome}
 use Rattle.orchestra.specs.Compiled.{laid, compile, headsFrom}
 use Rattle.orchestra.specs.Reading.{taken, refused, startsFrom, byRates, byNames, byGrammar, byTokens, readOf}
-use Rattle.orchestra.specs.Verdict.{longest, Sized, Accepted, Verdict, tooLong, noTokens, tooLarge, outside, misnamed, misrated, accepted, EveryVerdict, AcceptedExactly, OneReading}
+use Rattle.orchestra.specs.Verdict.{longest, Sized, Accepted, Verdict, tooLong, noTokens, tooLarge, outside, misnamed, misrated, accepted, EveryVerdict, VerdictGiven, AcceptedExactly, OneReading}
 use Rattle.orchestra.proofs.Formed.{formed}
 use Rattle.orchestra.proofs.Heads.{heads-are, all-heads, at-most-8}
 
@@ -105,6 +105,26 @@ accepted-read bs is a =
     let n : ltb 16384 (length bs) ≡ false = le-ltb 16384 (length bs) (a .sized .short) in
     rw (n, a .sized .tokens, a .sized .within, complete (a .derived))
     (names-judged (a .derived) true (a .named) ∙ rates-judged (a .derived) (a .named) true (a .rated))
+
+-- no tree derives the tokens: nothing is read
+unread-so : (ts : List Token) → ((is : List Instrument) → Orchestra is ts → ⊥) → (x : Res) → All (Orchestrated ts) x → byGrammar x ≡ refused BadGrammar
+unread-so ts f no h = refl
+unread-so ts f (ok c r) (read h) = absurd (f (h .tree) (h .derives))
+
+-- tokens within the sizes are judged by the grammar
+sized-read : (bs : List ℕ) (ts : List Token) → Sized bs ts → readOf bs ≡ byGrammar (orchestra ts)
+unfolding readOf
+sized-read bs ts s = rw (le-ltb 16384 (length bs) (s .short), s .tokens, s .within)
+
+pub verdict-given : VerdictGiven
+unfolding readOf
+verdict-given bs r (tooLong lt) = rw (lt-ltb 16384 (length bs) lt)
+verdict-given bs r (noTokens le e) = rw (le-ltb 16384 (length bs) le, e)
+verdict-given bs r (tooLarge ts le e m) = rw (le-ltb 16384 (length bs) le, e, m)
+verdict-given bs r (outside ts s f) = sized-read bs ts s ∙ unread-so ts f (orchestra ts) (sound ts)
+verdict-given bs r (misnamed ts is s d n) = sized-read bs ts s ∙ ap byGrammar (complete d) ∙ names-judged d false n
+verdict-given bs r (misrated ts is s d n e) = sized-read bs ts s ∙ ap byGrammar (complete d) ∙ names-judged d true n ∙ rates-judged d n false e
+verdict-given bs r (accepted is a) = accepted-read bs is a
 
 -- a verdict of 0 comes from an accepted orchestra
 taken-accepted : (bs : List ℕ) (r : Outcome) → Verdict bs r → r .answer ≡ Taken → (is : List Instrument) × Accepted bs is

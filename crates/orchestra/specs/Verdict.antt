@@ -57,6 +57,10 @@ pub data Verdict (bs : List ℕ) : Outcome → Type 0 where
 abbrev pub EveryVerdict : Type 0
 EveryVerdict = (bs : List ℕ) → Verdict bs (readOf bs)
 
+-- And each answer is given whenever its condition holds: with the above, exactly then.
+abbrev pub VerdictGiven : Type 0
+VerdictGiven = (bs : List ℕ) (r : Outcome) → Verdict bs r → readOf bs ≡ r
+
 -- An orchestra is accepted exactly when some tree is its reading,
 abbrev pub AcceptedExactly : Type 0
 AcceptedExactly = (bs : List ℕ) → (readOf bs .answer ≡ Taken → (is : List Instrument) × Accepted bs is)
