@@ -12,10 +12,12 @@ use Rattle.score_line.specs.declared.Label.{Label}
 use Rattle.score_line.specs.declared.Line.{Line}
 use Rattle.players.specs.Cycle.{isLabelled, labelNumber}
 use Rattle.players.proofs.Lists.{cond-true, cond-false}
-use Rattle.synth.specs.Passes.{stretch, freshOf, once}
+use Rattle.synth.specs.Passes.{stretch, freshOf, once, Played, played}
+use Rattle.synth.specs.Room.{numbersIn, roomOf}
 use Rattle.synth.specs.Notes.{withValues}
+use Rattle.synth.proofs.Rooms.{once-program, played-program}
 use Rattle.synth.specs.declared.Note.{Note}
-use Rattle.sounding.specs.Voices.{named, bornNote, controlledNote}
+use Rattle.sounding.specs.Voices.{named, bornNote, controlledNote, kNote, ranNote, ranMix}
 use Rattle.sounding.specs.declared.Instrument.{Instrument}
 
 pub minus-one : (x : Float) → eq x (neg (ofBits binary32 0x3f800000)) ≡ eq x withoutEnd
@@ -25,12 +27,15 @@ minus-one x = refl
 pub born-law : (code : List ℕ) (vals : List Float) (x : Instrument) (l : Line) (position : ℕ) (label : Label) (name : ℕ) (duration : Float)
     → (vs : List Float) → vs ≡ freshOf (take (l .count) (l .values)) → (t : ℕ) → t ≡ ticksIn duration
     → (lab : Bool) → lab ≡ isLabelled label → (num : ℕ) → num ≡ labelNumber label → (end : Bool) → end ≡ eq duration withoutEnd
-    → (r : Note) → r ≡ withValues (once vals (stretch (x .istart) (x .iend) code) vs)
+    → (room : List Float) → room ≡ roomOf vals → (r : Note) → r ≡ withValues (once (numbersIn room) (stretch (x .istart) (x .iend) code) vs)
     (record { values = vs; labelled = lab; label = num; instrument = name; endless = end; end = position + t })
     → r ≡ bornNote code vals x l position label name duration
 unfolding bornNote
-born-law code vals x l position label name duration vs e t f lab g num h end k r q =
-    q ∙ (λ i. withValues (once vals (stretch (x .istart) (x .iend) code) (e i))
+born-law code vals x l position label name duration vs e t f lab g num h end k room m r q =
+    let ws = stretch (x .istart) (x .iend) code in
+    let n : Note = record { values = vs; labelled = lab; label = num; instrument = name; endless = end; end = position + t } in
+    q ∙ ap (λ (u : List Float). withValues (once (numbersIn u) ws vs) n) m ∙ ap (λ (u : List Float). withValues u n) (once-program vals ws vs)
+    ∙ (λ i. withValues (once vals ws (e i))
     (record { values = e i; labelled = g i; label = h i; instrument = name; endless = k i; end = position + f i }))
 
 module _ (x : Instrument) (n : Note) (label variable : ℕ) (value : Float) where
@@ -49,3 +54,38 @@ module _ (x : Instrument) (n : Note) (label variable : ℕ) (value : Float) wher
   pub control-none : n .labelled ≡ false → n ≡ controlledNote x n label variable value
   unfolding controlledNote
   control-none a = sym (cond-false _ _ (ap (λ (t : Bool). t && eqb label (n .label)) a))
+
+-- a note's cycle in a room whose numbers stay
+module _ (code : List ℕ) (N N′ : List Float) (x : Instrument) (n k : Note) (mix : List Float) (e : N′ ≡ N)
+    (h : k ≡ withValues (once N (stretch (x .kstart) (x .kend) code) (n .values)) n) where
+  pub ran-in : {r : Note} → r ≡ withValues (played N′ (stretch (x .astart) (x .aend) code) (k .values) mix .values) k → r ≡ ranNote code N x n mix
+  unfolding ranNote kNote
+  ran-in q = q ∙ (λ i. withValues (played (e i) (stretch (x .astart) (x .aend) code) (h i .values) mix .values) (h i))
+
+  pub mixed-in : {m : List Float} → m ≡ played N′ (stretch (x .astart) (x .aend) code) (k .values) mix .mix → m ≡ ranMix code N x n mix
+  unfolding ranMix kNote
+  mixed-in q = q ∙ (λ i. played (e i) (stretch (x .astart) (x .aend) code) (h i .values) mix .mix)
+
+-- and in a room with the program's numbers
+module _ (code : List ℕ) (vals : List Float) (x : Instrument) (n : Note) (mix N : List Float) (e : N ≡ numbersIn (roomOf vals)) where
+  abbrev kCode : List ℕ
+  kCode = stretch (x .kstart) (x .kend) code
+
+  abbrev aCode : List ℕ
+  aCode = stretch (x .astart) (x .aend) code
+
+  k-here : once N kCode (n .values) ≡ once vals kCode (n .values)
+  k-here = ap (λ (u : List Float). once u kCode (n .values)) e ∙ once-program vals kCode (n .values)
+
+  a-here : (vs : List Float) → played N aCode vs mix ≡ played vals aCode vs mix
+  a-here vs = ap (λ (u : List Float). played u aCode vs mix) e ∙ played-program vals aCode vs mix
+
+  pub ran-here : ranNote code N x n mix ≡ ranNote code vals x n mix
+  unfolding ranNote kNote
+  ran-here =
+      ap (λ (u : List Float). withValues (played N aCode u mix .values) (withValues u n)) k-here
+      ∙ ap (λ (q : Played). withValues (q .values) (withValues (once vals kCode (n .values)) n)) (a-here (once vals kCode (n .values)))
+
+  pub mixed-here : ranMix code N x n mix ≡ ranMix code vals x n mix
+  unfolding ranMix kNote
+  mixed-here = ap (λ (u : List Float). played N aCode u mix .mix) k-here ∙ ap (λ (q : Played). q .mix) (a-here (once vals kCode (n .values)))

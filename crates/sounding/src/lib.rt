@@ -14,6 +14,7 @@ ghost use lib.ListN.{length, take};
 ghost use Rattle.players.specs.Lists.{keep, each, over};
 ghost use Rattle.players.specs.Cycle.{goesOn, joinedBy, startedBy, started, isLabelled, labelNumber, controlEvent, controlled, runFrom};
 ghost use Rattle.synth.specs.Passes.{freshOf};
+ghost use Rattle.synth.specs.Room.{numbersIn};
 ghost use Rattle.sounding.specs.Voices.{voices, foundIn, fieldsIn, named, noteOf, notesIn, startedIn, bornNote, controlledNote, controlledIn, controlsIn, controlledAll, ranNote, ranMix, goesOnIn};
 
 // An instrument of the program: its name, how many fields it has, its instructions for the i, k and a passes, from one number
@@ -194,7 +195,8 @@ fn note_of<'a>(
         endless: duration == -1.0,
         end: position + ticks,
     };
-    synth::passed(code, x.istart, x.iend, vals, note)
+    let mut room = synth::room(vals);
+    synth::passed(code, x.istart, x.iend, &mut room, note)
 }
 
 // One note more, or one more missed where 16 sound.
@@ -380,12 +382,13 @@ pub fn control_lines(
 }
 
 // A note's cycle: its k pass, then an a pass for each sample of the mix.
-fn run_note<'a>(code: &'a [u64], vals: &'a [f32], x: Instrument, n: Note, mix: &mut [f32]) -> Note
-    ensures note { λ r. ⌜ r ≡ ranNote (now (code .entry)) (now (vals .entry)) x n (now (mix .entry)) ⌝ }
-    ensures mix { λ r. ⌜ now (mix .exit) ≡ ranMix (now (code .entry)) (now (vals .entry)) x n (now (mix .entry)) ⌝ }
+fn run_note(code: &[u64], room: &mut [f32; 4096], x: Instrument, n: Note, mix: &mut [f32]) -> Note
+    ensures note { λ r. ⌜ r ≡ ranNote (now (code .entry)) (numbersIn (now (room .entry))) x n (now (mix .entry)) ⌝ }
+    ensures mix { λ r. ⌜ now (mix .exit) ≡ ranMix (now (code .entry)) (numbersIn (now (room .entry))) x n (now (mix .entry)) ⌝ }
+    ensures room { λ r. ⌜ numbersIn (now (room .exit)) ≡ numbersIn (now (room .entry)) ⌝ }
 {
-    let k = synth::passed(code, x.kstart, x.kend, vals, n);
-    synth::sounded(code, x.astart, x.aend, vals, k, mix)
+    let k = synth::passed(code, x.kstart, x.kend, room, n);
+    synth::sounded(code, x.astart, x.aend, room, k, mix)
 }
 
 fn goes_on(n: Note, position: u64) -> bool
@@ -408,13 +411,14 @@ pub fn run_notes<'a>(
     ensures mix { λ r. ⌜ now (mix .exit) ≡ runFrom (voices (take n table) (now (code .entry)) (now (vals .entry))) (notesIn notes count) (now (mix .entry)) .mix ⌝ }
 {
     let m = within(count, 16);
+    let mut room = synth::room(vals);
     let mut a = notes;
     let mut j: usize = 0;
     while j < m {
         let x = notes[j];
         let f = find(table, n, x.instrument);
         let i = f.instrument;
-        let y = run_note(code, vals, i, x, mix);
+        let y = run_note(code, &mut room, i, x, mix);
         a[j] = y;
         j += 1;
     }

@@ -17,15 +17,20 @@ is-labelled-requires c κs = search needs
 label-number-requires : tie.Need-label-number-requires
 label-number-requires c κs = search needs
 
-add-t17 : tie.Need-add-t17
-add-t17 c = omega (arith, c .before .before .beats-to-ticks .ensures, ticks-most (c .before .before .before .before .before .before .before .args .duration), c .before .before .before .before .before .before .before .pre)
+add-t18 : tie.Need-add-t18
+add-t18 c = omega (arith, c .before .before .beats-to-ticks .ensures, ticks-most (c .before .before .before .before .before .before .before .args .duration), c .before .before .before .before .before .before .before .pre)
+
+room-requires : tie.Need-room-requires
+room-requires c κs = search needs
 
 passed-requires : tie.Need-passed-requires
 passed-requires c κs = search needs
 
 returns : tie.Need-returns
-returns c = born-law _ _ _ _ _ _ _ _ _ (c .before .before .before .before .fresh-values .ensures) _ (c .before .before .before .beats-to-ticks .ensures)
-    _ (c .before .before .is-labelled .ensures) _ (c .before .label-number .ensures) _ (minus-one _) _ (c .passed .ensures)
+returns c =
+    let p = c .before .before .before in
+    born-law _ _ _ _ _ _ _ _ _ (p .before .before .before .fresh-values .ensures) _ (p .before .before .beats-to-ticks .ensures) _ (p .before .is-labelled .ensures) _ (p .label-number .ensures)
+    _ (minus-one _) _ (c .before .before .room .ensures) _ (c .passed .ensures .0)
 
 pub note-of-spec : {M : Type 1} → statement M
 note-of-spec =
@@ -35,6 +40,7 @@ note-of-spec =
     beats-to-ticks-requires
     is-labelled-requires
     label-number-requires
-    add-t17
+    add-t18
+    room-requires
     passed-requires
     returns)

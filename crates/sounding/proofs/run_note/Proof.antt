@@ -1,10 +1,8 @@
 use mathlib.Core.Path.{ap, _∙_}
-use Rattle.synth.specs.Passes.{stretch, played}
-use Rattle.synth.specs.Notes.{withValues}
-use Rattle.synth.specs.declared.Note.{Note}
-use mathlib.Core.Path.{_≡_}
+use Rattle.synth.specs.Room.{numbersIn}
+use Rattle.synth.proofs.Rooms.{numbers-once, numbers-played}
+use Rattle.sounding.proofs.OneNote.{ran-in, mixed-in}
 use borrow.Author.Needs.{needs}
-use Rattle.sounding.specs.Voices.{ranNote, ranMix, kNote}
 use Rattle.sounding.proofs.run_note.Statement.{statement}
 use Rattle.sounding.proofs.run_note.Tie as tie
 
@@ -18,15 +16,12 @@ same-length : tie.Need-same-length
 same-length c = search needs
 
 returns : tie.Need-returns
-unfolding ranNote ranMix kNote
 returns c =
-    let a = c .before .before .before .before .before .before .before .before .args in
-    let g = c .before .before .sounded .ensures in
-    let e = c .before .before .before .before .passed .ensures in
-    let w = stretch (a .x .astart) (a .x .aend) (a .code .now) in (
-      g .0 ∙ ap (λ (y : Note). withValues (played (a .vals .now) w (y .values) (a .mix .now) .values) y) e,
-      g .1 ∙ ap (λ (y : Note). played (a .vals .now) w (y .values) (a .mix .now) .mix) e,
-    )
+    let p = c .before .before in
+    let k = p .before .before .before .passed .ensures in
+    let g = p .sounded .ensures in
+    let stay = ap numbersIn (k .1) ∙ numbers-once _ _ _ in
+    (ran-in _ _ _ _ _ _ _ stay (k .0) (g .0), (mixed-in _ _ _ _ _ _ _ stay (k .0) (g .1 .0), ap numbersIn (g .1 .1) ∙ numbers-played _ _ _ _ ∙ stay))
 
 pub run-note-spec : {M : Type 1} → statement M
 run-note-spec = tie.close (tie.spec passed-requires sounded-requires same-length returns)

@@ -11,21 +11,29 @@ use lib.ListN.{length, take}
 use Rattle.players.proofs.Loops.{take-end}
 use Rattle.synth.specs.declared.Note.{Note}
 use Rattle.sounding.specs.Voices.{voices, notesIn, bandIn}
+use Rattle.synth.specs.Room.{numbersIn, roomOf}
+use Rattle.sounding.proofs.OneNote.{ran-here, mixed-here}
 use Rattle.sounding.proofs.Band.{Running, running-none, running-step}
 use Rattle.sounding.proofs.run_notes.Statement.{statement}
 use Rattle.sounding.proofs.run_notes.Tie as tie
 
 abbrev Inv-loop : tie.InvT-loop
-Inv-loop table n code vals count mix₀ notes m a₀ j₀ mix a j = (j ≤ m) × (m ≤ 16) × Running (take n table) code vals notes a mix₀ mix j
+Inv-loop table n code vals count mix₀ notes m room₀ a₀ j₀ mix room a j =
+    (j ≤ m) × (m ≤ 16) × Running (take n table) code vals notes a mix₀ mix j × (numbersIn room ≡ numbersIn (roomOf vals))
 
 abbrev μ-loop : tie.MeasureT-loop
-μ-loop table n code vals count mix₀ notes m a₀ j₀ mix a j = m - j
+μ-loop table n code vals count mix₀ notes m room₀ a₀ j₀ mix room a j = m - j
 
 within-requires : tie.Need-within-requires Inv-loop μ-loop
 within-requires c κs = tt
 
+room-requires : tie.Need-room-requires Inv-loop μ-loop
+room-requires c κs = search needs
+
 loop-holds : tie.Need-loop-holds Inv-loop μ-loop
-loop-holds c = (omega (arith, c .within .ensures), omega (arith, c .within .ensures), running-none _ _ _ _ _ (c .before .before .before .before .good .1 .1 .1 .1 .0 .1 .0 .1))
+loop-holds c =
+    let w = c .before .within .ensures in
+    (omega (arith, w), omega (arith, w), running-none _ _ _ _ _ (c .before .before .before .before .before .good .1 .1 .1 .1 .0 .1 .0 .1), ap numbersIn (c .room .ensures))
 
 mul-x : tie.Need-mul-x Inv-loop μ-loop
 mul-x c = omega arith
@@ -52,20 +60,24 @@ loop-less : tie.Need-loop-less Inv-loop μ-loop
 loop-less c = omega arith
 
 loop-again : tie.Need-loop-again Inv-loop μ-loop
-loop-again c = let s = c .before .before .before .before .before .before .before .before .before .before .before .before .before in
-    let at = c .before .before .before .before .before .before .before .before .loop in (
+loop-again c =
+    let s = c .before .before .before .before .before .before .before .before .before .before .before .before .before .before .before in
+    let at = c .before .before .before .before .before .before .before .before .before .loop in
+    let ran = c .before .before .run-note .ensures in
+    let e = at .inv .3 in (
       omega arith,
       at .inv .1,
-      running-step _ _ _ _ _ _ _ _ _ (s .good .1 .1 .1 .1 .0 .1 .0 .1) (omega arith) _ (c .before .before .before .before .before .find .ensures) _ (c .before .before .run-note .ensures .0) _ (c .before .before .run-note .ensures .1) (at .inv .2),
+      running-step _ _ _ _ _ _ _ _ _ (s .good .1 .1 .1 .1 .0 .1 .0 .1) (omega arith) _ (c .before .before .before .before .before .before .find .ensures) _ (ran .0 ∙ ran-here _ _ _ _ _ _ e) _ (ran .1 .0 ∙ mixed-here _ _ _ _ _ _ e) (at .inv .2),
+      ran .1 .1 ∙ e,
     )
 
 same-length : tie.Need-same-length Inv-loop μ-loop
 same-length c = c .before .loop .inv .2 .samples
 
 returns : tie.Need-returns Inv-loop μ-loop
-returns c = let s = c .before .before .before .before .before .before in
+returns c = let s = c .before .before .before .before .before .before .before in
     let r = c .before .loop .inv .2 in
-    let w = c .before .before .within .ensures in
+    let w = c .before .before .before .within .ensures in
     let i = c .before .loop .inv .0 in
     let v = voices (take (s .args .n) (s .args .table)) (s .args .code .now) (s .args .vals .now) in
     let e : runFrom v (notesIn (s .args .t5) (c .before .loop .j)) (s .args .mix .now) ≡ runFrom v (notesIn (s .args .t5) (s .args .count)) (s .args .mix .now) =
@@ -82,6 +94,7 @@ run-notes-spec =
     Inv-loop
     μ-loop
     within-requires
+    room-requires
     loop-holds
     mul-x
     array-copy-out-x
