@@ -5,7 +5,7 @@ use native.Mathlib.Numerals.{add-one}
 use mathlib.Core.Path.{_≡_, refl, sym, ap, ap₂, _∙_, subst}
 use mathlib.Core.List.{List, [], _∷_, _++_, append-assoc}
 use mathlib.Core.Bool.{Bool, true, false, not, _&&_, cond}
-use lib.ListN.{length, take, drop, getD, set, length-set, drop-of-length-le, length-replicate}
+use lib.ListN.{length, take, drop, getD, set, length-set, drop-of-length-le, replicate}
 use lib.Seq.{drop-cons, drop-set-lt, take-suc-set, take-all}
 use borrow.Author.Tests.{not-true, not-false}
 use Rattle.syntax.specs.Program.{actOf}
@@ -15,8 +15,7 @@ use Rattle.syntax.specs.declared.Act.the-variants.{Value, Name, Store, Output, 
 use lib.Dec.{leb, ltb}
 use Rattle.rules.specs.Naming.{lawful, namesAfter, titlesAfter, placedName, namesFrom, placedFrom, namesPass, placesPass}
 use Rattle.rules.specs.Rating.{rates, guard, entered, left, ratesLawful, ratesAfter, ratesFrom, ratesPass}
-use Rattle.rules.specs.Table.{ownOf, titles, own, Fit, none, Next}
-use Rattle.rules.specs.declared.Names.{Names}
+use Rattle.rules.specs.Table.{ownOf, own}
 use Rattle.rules.specs.declared.Rates.{Rates}
 
 here : (l : List ℕ) (i : ℕ) → i < length l → drop i l ≡ getD l i 0 ∷ drop (i + 1) l
@@ -32,59 +31,73 @@ unfolding namesFrom
 no-more [] ts ms = refl
 no-more (o ∷ os) ts ms = refl
 
-pub record Inv (os ws : List ℕ) (t : Names) (pc : ℕ) : Type 0 where
+-- ts is the table of the instruments named so far, ms and ks are those of this one's names and their kinds
+pub record Inv (os ws ts ms ks : List ℕ) (heads count pc : ℕ) : Type 0 where
   pub inside : pc ≤ length os
-  pub fit : Fit t
-  pub is : namesFrom (drop pc os) (drop pc ws) (titles t) (own t) ≡ namesPass os ws
+  pub eight : heads ≤ 8
+  pub sixteen : count ≤ 16
+  pub long-titles : length ts ≡ 8
+  pub long-symbols : length ms ≡ 16
+  pub long-kinds : length ks ≡ 16
+  pub is : namesFrom (drop pc os) (drop pc ws) (take heads ts) (own ms ks count) ≡ namesPass os ws
 
-blank-fit : Fit none
-blank-fit = record { eight = omega arith; sixteen = omega arith; long-titles = refl; long-symbols = refl; long-kinds = refl }
-
-pub starts : (os ws : List ℕ) {t : Names} → t ≡ none → Inv os ws t 0
+pub starts : (os ws : List ℕ) → Inv os ws (replicate 8 0) (replicate 16 0) (replicate 16 0) 0 0 0
 unfolding ownOf
-starts os ws e = subst (λ (x : Names). Inv os ws x 0) (sym e) blank
-  where
-    blank : Inv os ws none 0
-    blank = record { inside = omega arith; fit = blank-fit; is = refl }
+starts os ws =
+    record { inside = omega arith; eight = omega arith; sixteen = omega arith; long-titles = refl; long-symbols = refl; long-kinds = refl; is = refl }
 
-module _ {os ws : List ℕ} {t : Names} {pc : ℕ} (v : Inv os ws t pc) where
+module _ {os ws ts ms ks : List ℕ} {heads count pc : ℕ} (v : Inv os ws ts ms ks heads count pc) where
   pub ends : length os ≤ pc → true ≡ namesPass os ws
   unfolding namesFrom
   ends le = rw (past os pc le) at (v .is)
 
   pub ends-short : length ws ≤ pc → true ≡ namesPass os ws
-  ends-short le = sym (no-more (drop pc os) (titles t) (own t)) ∙ rw (past ws pc le) at (v .is)
+  ends-short le = sym (no-more (drop pc os) (take heads ts) (own ms ks count)) ∙ rw (past ws pc le) at (v .is)
 
-  step : (o w : ℕ) (b : Bool) → pc < length os → pc < length ws → o ≡ getD os pc 0 → w ≡ getD ws pc 0 → b ≡ lawful (actOf o) w (titles t) (own t)
-      → (b && namesFrom (drop (pc + 1) os) (drop (pc + 1) ws) (titlesAfter (actOf o) w (titles t)) (namesAfter (actOf o) o w (own t))) ≡ namesPass os ws
-  unfolding namesFrom
-  step o w b p q d e l = rw (l, d, e) (rw (here os pc p, here ws pc q) at (v .is))
+  -- the instruction here and its name
+  abbrev o : ℕ
+  o = getD os pc 0
 
-  pub fails : (o w : ℕ) {b : Bool} → pc < length os → pc < length ws → o ≡ getD os pc 0 → w ≡ getD ws pc 0 → b ≡ lawful (actOf o) w (titles t) (own t) → not b ≡ true
-      → false ≡ namesPass os ws
-  fails o w {b} p q d e l n = let f = not-true b n in rw f at (step o w b p q d e l)
+  abbrev w : ℕ
+  w = getD ws pc 0
 
-  pub again : (o w : ℕ) {b : Bool} {r : Names} → pc < length os → pc < length ws → o ≡ getD os pc 0 → w ≡ getD ws pc 0 → b ≡ lawful (actOf o) w (titles t) (own t) → not b ≡ false
-      → Next t r (titlesAfter (actOf o) w (titles t)) (namesAfter (actOf o) o w (own t)) → Inv os ws r (pc + 1)
-  again o w {b} p q d e l n x =
-      let f = not-false b n in
-      let s = rw f at (step o w b p q d e l) in
-      record { inside = omega arith; fit = x .fit; is = ap₂ (namesFrom (drop (pc + 1) os) (drop (pc + 1) ws)) (x .heads-are) (x .names-are) ∙ s }
+  module _ {a : Act} {b : Bool} (p : pc < length os) (q : pc < length ws) (f : a ≡ actOf o) (l : (ks : List ℕ) → b ≡ lawful a w (take heads ts) (own ms ks count)) where
+    step : (b && namesFrom (drop (pc + 1) os) (drop (pc + 1) ws) (titlesAfter a w (take heads ts)) (namesAfter a o w (own ms ks count))) ≡ namesPass os ws
+    unfolding namesFrom
+    step = rw (l ks, f) (rw (here os pc p, here ws pc q) at (v .is))
+
+    pub fails : not b ≡ true → false ≡ namesPass os ws
+    fails n = let f = not-true b n in rw f at step
+
+    pub again : not b ≡ false → (heads′ count′ : ℕ) (ts′ ms′ ks′ : List ℕ)
+        → heads′ ≤ 8 → take heads′ ts′ ≡ titlesAfter a w (take heads ts) → length ts′ ≡ length ts
+        → count′ ≤ 16 → own ms′ ks′ count′ ≡ namesAfter a o w (own ms ks count) → length ms′ ≡ length ms → length ks′ ≡ length ks
+        → Inv os ws ts′ ms′ ks′ heads′ count′ (pc + 1)
+    again n heads′ count′ ts′ ms′ ks′ eight titles-are t sixteen names-are m k =
+        let f = not-false b n in
+        record {
+          inside = omega arith;
+          eight = eight;
+          sixteen = sixteen;
+          long-titles = t ∙ v .long-titles;
+          long-symbols = m ∙ v .long-symbols;
+          long-kinds = k ∙ v .long-kinds;
+          is = ap₂ (namesFrom (drop (pc + 1) os) (drop (pc + 1) ws)) titles-are names-are ∙ rw f at step;
+        }
 
 -- ---- names put by their places
 
-pub record Put (os ws₀ ws : List ℕ) (t : Names) (pc : ℕ) : Type 0 where
+pub record Put (os ws₀ ws ms ks : List ℕ) (count pc : ℕ) : Type 0 where
   pub inside : pc ≤ length os
   pub size : length ws ≡ length ws₀
-  pub fit : Fit t
-  pub is : take pc ws ++ placedFrom (drop pc os) (drop pc ws) (own t) ≡ placesPass os ws₀
+  pub sixteen : count ≤ 16
+  pub long-symbols : length ms ≡ 16
+  pub long-kinds : length ks ≡ 16
+  pub is : take pc ws ++ placedFrom (drop pc os) (drop pc ws) (own ms ks count) ≡ placesPass os ws₀
 
-pub put-starts : (os ws : List ℕ) {t : Names} → t ≡ none → Put os ws ws t 0
+pub put-starts : (os ws : List ℕ) → Put os ws ws (replicate 16 0) (replicate 16 0) 0 0
 unfolding ownOf
-put-starts os ws e = subst (λ (x : Names). Put os ws ws x 0) (sym e) blank
-  where
-    blank : Put os ws ws none 0
-    blank = record { inside = omega arith; size = refl; fit = blank-fit; is = refl }
+put-starts os ws = record { inside = omega arith; size = refl; sixteen = omega arith; long-symbols = refl; long-kinds = refl; is = refl }
 
 none-left : (os : List ℕ) (ms : List Named) → placedFrom os [] ms ≡ []
 unfolding placedFrom
@@ -101,7 +114,7 @@ take-drop (suc i) [] = refl
 take-drop zero (a ∷ l) = refl
 take-drop (suc i) (a ∷ l) = ap (λ m. a ∷ m) (take-drop i l)
 
-module _ {os ws₀ ws : List ℕ} {t : Names} {pc : ℕ} (v : Put os ws₀ ws t pc) where
+module _ {os ws₀ ws ms ks : List ℕ} {count pc : ℕ} (v : Put os ws₀ ws ms ks count pc) where
   pub put-ends : length os ≤ pc → ws ≡ placesPass os ws₀
   unfolding placedFrom
   put-ends le = sym (take-drop pc ws) ∙ rw (past os pc le) at (v .is)
@@ -111,16 +124,19 @@ module _ {os ws₀ ws : List ℕ} {t : Names} {pc : ℕ} (v : Put os ws₀ ws t 
       let e = rw (past ws pc le, none-left) at (v .is) in
       sym (take-all pc ws le) ∙ sym (append-nothing (take pc ws)) ∙ e
 
-  pub put-again : (o w : ℕ) {p : ℕ} {r : Names} → pc < length os → pc < length ws → o ≡ getD os pc 0 → w ≡ getD ws pc 0 → p ≡ placedName (actOf o) w (own t)
-      → Next t r (titlesAfter (actOf o) w (titles t)) (namesAfter (actOf o) o w (own t)) → Put os ws₀ (set ws pc p) r (pc + 1)
+  pub put-again : {a : Act} {p : ℕ} → pc < length os → pc < length ws → a ≡ actOf (getD os pc 0) → p ≡ placedName a (getD ws pc 0) (own ms ks count) → (count′ : ℕ) (ms′ ks′ : List ℕ)
+      → count′ ≤ 16 → own ms′ ks′ count′ ≡ namesAfter a (getD os pc 0) (getD ws pc 0) (own ms ks count) → length ms′ ≡ length ms → length ks′ ≡ length ks
+      → Put os ws₀ (set ws pc p) ms′ ks′ count′ (pc + 1)
   unfolding placedFrom
-  put-again o w {p} a b d e f x =
-      let i = rw (here os pc a, here ws pc b, ← d, ← e, ← f) at (v .is) in
+  put-again {a} {p} x y f g count′ ms′ ks′ sixteen names-are m k =
+      let i = rw (here os pc x, here ws pc y, ← f, ← g) at (v .is) in
       record {
         inside = omega arith;
         size = length-set ws pc p ∙ v .size;
-        fit = x .fit;
-        is = rw (add-one pc, take-suc-set ws pc p b, drop-set-lt (suc pc) ws pc p (omega arith), ← add-one pc, x .names-are, append-assoc) i;
+        sixteen = sixteen;
+        long-symbols = m ∙ v .long-symbols;
+        long-kinds = k ∙ v .long-kinds;
+        is = rw (add-one pc, take-suc-set ws pc p y, drop-set-lt (suc pc) ws pc p (omega arith), ← add-one pc, names-are, append-assoc) i;
       }
 
 -- ---- the rate rules

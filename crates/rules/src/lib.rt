@@ -3,29 +3,23 @@
 use syntax::Act;
 ghost use mathlib.Core.Path.{_≡_};
 ghost use mathlib.Core.Bool.{not, _&&_};
-ghost use Prim.Native.Nat.{_+_, _-_, _*_, _<_, _≤_, max};
-ghost use lib.ListN.{length, take, getD};
+ghost use Prim.Native.Nat.{ℕ, _+_, _-_, _*_, _<_, _≤_, max};
+ghost use mathlib.Core.List.{List};
+ghost use lib.ListN.{length, take};
 ghost use lib.Dec.{leb, ltb};
 ghost use Rattle.syntax.specs.Program.{actOf};
 ghost use Rattle.syntax.specs.Names.{has, rateOfKind, place as placeOf};
 ghost use Rattle.syntax.specs.Rates.{rateOf};
 ghost use Rattle.rules.specs.Naming.{lawful, namesAfter, titlesAfter, placedName, namesPass, placesPass};
-ghost use Rattle.rules.specs.Table.{seekIn, titles, own, Fit, declaring, heading, clearing, none, Next};
+ghost use Rattle.rules.specs.Table.{seekIn, own};
 ghost use Rattle.rules.specs.Rating.{rates, guard as guardOf, entered as enteredOf, left as leftOf, ratesLawful, ratesAfter, ratesPass};
 
-// The names of the instruments so far, and those of this one, with their kinds.
-struct Names {
-    titles: [u16; 16],
-    heads: usize,
-    symbols: [u16; 16],
-    kinds: [u8; 16],
-    count: usize,
-}
+// Tables of names are slices of which the first n words are filled.
 
 // The place of the first of n words that is s, or n.
-fn seek(table: [u16; 16], n: usize, s: u16) -> usize
-    requires { ⌜ n ≤ length table ⌝ }
-    ensures { λ r. ⌜ r ≡ seekIn (take n table) s ⌝ }
+fn seek(table: &[u16], n: usize, s: u16) -> usize
+    requires { ⌜ n ≤ length (now table) ⌝ }
+    ensures { λ r. ⌜ r ≡ seekIn (take n (now (table .entry))) s ⌝ }
 {
     let mut i: usize = 0;
     while i < n {
@@ -37,17 +31,17 @@ fn seek(table: [u16; 16], n: usize, s: u16) -> usize
     n
 }
 
-fn known(table: [u16; 16], n: usize, s: u16) -> bool
-    requires { ⌜ n ≤ length table ⌝ }
-    ensures { λ r. ⌜ r ≡ has s (take n table) ⌝ }
+fn known(table: &[u16], n: usize, s: u16) -> bool
+    requires { ⌜ n ≤ length (now table) ⌝ }
+    ensures { λ r. ⌜ r ≡ has s (take n (now (table .entry))) ⌝ }
 {
     seek(table, n, s) < n
 }
 
 // Whether there is room for one more name below `most`, and s is none of the n.
-fn free(table: [u16; 16], n: usize, most: usize, s: u16) -> bool
-    requires { ⌜ n ≤ length table ⌝ }
-    ensures { λ r. ⌜ r ≡ (ltb n most && not (has s (take n table))) ⌝ }
+fn free(table: &[u16], n: usize, most: usize, s: u16) -> bool
+    requires { ⌜ n ≤ length (now table) ⌝ }
+    ensures { λ r. ⌜ r ≡ (ltb n most && not (has s (take n (now (table .entry))))) ⌝ }
 {
     if n < most {
         return n <= seek(table, n, s);
@@ -69,131 +63,80 @@ fn rate_of_kind(k: u8) -> u16
 }
 
 // 16 * rate + place of a name; 0 where there is none.
-fn place(t: Names, s: u16) -> u16
-    requires { ⌜ Fit t ⌝ }
-    ensures { λ r. ⌜ r ≡ placeOf (own t) s ⌝ }
+fn place(symbols: &[u16], kinds: &[u8], n: usize, s: u16) -> u16
+    requires { ⌜ (n ≤ 16) × (n ≤ length (now symbols)) × (n ≤ length (now kinds)) ⌝ }
+    ensures { λ r. ⌜ r ≡ placeOf (own (now (symbols .entry)) (now (kinds .entry)) n) s ⌝ }
 {
-    let n = t.count;
-    let symbols = t.symbols;
-    let kinds = t.kinds;
     let i = seek(symbols, n, s);
     if i < n {
-        let k = kinds[i];
-        return 16 * rate_of_kind(k) + (i as u16);
+        return 16 * rate_of_kind(kinds[i]) + (i as u16);
     }
     0
 }
 
-fn is_lawful(op: u8, arg: u16, t: Names) -> bool
-    requires { ⌜ Fit t ⌝ }
-    ensures { λ r. ⌜ r ≡ lawful (actOf op) arg (titles t) (own t) ⌝ }
+// Whether an instruction keeps the rules, whatever the kinds of the names.
+fn is_lawful(
+    act: Act,
+    arg: u16,
+    titles: &[u16],
+    heads: usize,
+    symbols: &[u16],
+    count: usize,
+) -> bool
+    requires { ⌜ (heads ≤ length (now titles)) × (count ≤ length (now symbols)) ⌝ }
+    ensures { λ r. ⌜ ((ks : List ℕ) → r ≡ lawful act arg (take heads (now (titles .entry))) (own (now (symbols .entry)) ks count)) ⌝ }
 {
-    let n = t.count;
-    let h = t.heads;
-    let symbols = t.symbols;
-    let titles = t.titles;
-    match syntax::act_of(op) {
-        Act::Value => true,
-        Act::Name => known(symbols, n, arg),
-        Act::Store => known(symbols, n, arg),
-        Act::Output => true,
-        Act::If => true,
-        Act::Else => true,
-        Act::End => true,
-        Act::Declare => free(symbols, n, 16, arg),
-        Act::Instr => free(titles, h, 8, arg),
+    match act {
+        Act::Name => known(symbols, count, arg),
+        Act::Store => known(symbols, count, arg),
+        Act::Declare => free(symbols, count, 16, arg),
+        Act::Instr => free(titles, heads, 8, arg),
+        _ => true,
     }
 }
 
-fn declared(t: Names, n: u16, k: u8) -> Names
-    requires { ⌜ (t .count < 16) × (length (t .symbols) ≡ 16) × (length (t .kinds) ≡ 16) ⌝ }
-    ensures { λ r. ⌜ r ≡ declaring t n k ⌝ }
+// Enters an instrument's name, where there are fewer than 8; how many there are then.
+fn titles_after(act: Act, arg: u16, titles: &mut [u16], heads: usize) -> usize
+    requires { ⌜ (heads ≤ 8) × (length (now titles) ≡ 8) ⌝ }
+    ensures room { λ r. ⌜ r ≤ 8 ⌝ }
+    ensures is { λ r. ⌜ take r (now (titles .exit)) ≡ titlesAfter act arg (take heads (now (titles .entry))) ⌝ }
 {
-    let count = t.count;
-    let mut symbols = t.symbols;
-    let mut kinds = t.kinds;
-    symbols[count] = n;
-    kinds[count] = k;
-    let titles = t.titles;
-    Names {
-        titles: titles,
-        heads: t.heads,
-        symbols: symbols,
-        kinds: kinds,
-        count: count + 1,
-    }
-}
-
-fn headed(t: Names, n: u16) -> Names
-    requires { ⌜ (t .heads < 8) × (length (t .titles) ≡ 16) ⌝ }
-    ensures { λ r. ⌜ r ≡ heading t n ⌝ }
-{
-    let heads = t.heads;
-    let mut titles = t.titles;
-    titles[heads] = n;
-    let symbols = t.symbols;
-    let kinds = t.kinds;
-    Names {
-        titles: titles,
-        heads: heads + 1,
-        symbols: symbols,
-        kinds: kinds,
-        count: 0,
-    }
-}
-
-fn cleared(t: Names) -> Names
-    ensures { λ r. ⌜ r ≡ clearing t ⌝ }
-{
-    let titles = t.titles;
-    let symbols = t.symbols;
-    let kinds = t.kinds;
-    Names {
-        titles: titles,
-        heads: t.heads,
-        symbols: symbols,
-        kinds: kinds,
-        count: 0,
-    }
-}
-
-// The tables after an instruction.
-fn after(op: u8, arg: u16, t: Names) -> Names
-    requires { ⌜ Fit t ⌝ }
-    ensures { λ r. ⌜ Next t r (titlesAfter (actOf op) arg (titles t)) (namesAfter (actOf op) op arg (own t)) ⌝ }
-{
-    match syntax::act_of(op) {
-        Act::Value => t,
-        Act::Name => t,
-        Act::Store => t,
-        Act::Output => t,
-        Act::If => t,
-        Act::Else => t,
-        Act::End => t,
-        Act::Declare => {
-            if t.count < 16 {
-                return declared(t, arg, op);
-            }
-            t
-        }
+    match act {
         Act::Instr => {
-            if t.heads < 8 {
-                return headed(t, arg);
+            if heads < 8 {
+                titles[heads] = arg;
+                return heads + 1;
             }
-            cleared(t)
+            heads
         }
+        _ => heads,
     }
 }
 
-fn blank() -> Names
-    ensures { λ r. ⌜ r ≡ none ⌝ }
+// Enters a declared name with its kind, where there are fewer than 16; a new instrument has none. How many there are then.
+fn names_after(
+    act: Act,
+    op: u8,
+    arg: u16,
+    symbols: &mut [u16],
+    kinds: &mut [u8],
+    count: usize,
+) -> usize
+    requires { ⌜ (count ≤ 16) × (length (now symbols) ≡ 16) × (length (now kinds) ≡ 16) ⌝ }
+    ensures room { λ r. ⌜ r ≤ 16 ⌝ }
+    ensures is { λ r. ⌜ own (now (symbols .exit)) (now (kinds .exit)) r ≡ namesAfter act op arg (own (now (symbols .entry)) (now (kinds .entry)) count) ⌝ }
 {
-    Names {
-        titles: [0; 16],
-        heads: 0,
-        symbols: [0; 16],
-        kinds: [0; 16],
-        count: 0,
+    match act {
+        Act::Declare => {
+            if count < 16 {
+                symbols[count] = arg;
+                kinds[count] = op;
+                return count + 1;
+            }
+            count
+        }
+        Act::Instr => 0,
+        _ => count,
     }
 }
 
@@ -201,7 +144,12 @@ fn blank() -> Names
 pub fn names_kept(ops: &[u8], args: &[u16]) -> bool
     ensures { λ r. ⌜ r ≡ namesPass (now (ops .entry)) (now (args .entry)) ⌝ }
 {
-    let mut t = blank();
+    let mut titles = [0u16; 8];
+    let mut symbols = [0u16; 16];
+    // No rule asks for the kinds: they are entered with the names.
+    let mut kinds = [0u8; 16];
+    let mut heads: usize = 0;
+    let mut count: usize = 0;
     let mut pc: usize = 0;
     while pc < ops.len() {
         if args.len() <= pc {
@@ -209,30 +157,26 @@ pub fn names_kept(ops: &[u8], args: &[u16]) -> bool
         }
         let op = ops[pc];
         let arg = args[pc];
-        let fine = is_lawful(op, arg, t);
+        let act = syntax::act_of(op);
+        let fine = is_lawful(act, arg, &titles, heads, &symbols, count);
         if !fine {
             return false;
         }
-        t = after(op, arg, t);
+        heads = titles_after(act, arg, &mut titles, heads);
+        count = names_after(act, op, arg, &mut symbols, &mut kinds, count);
         pc += 1;
     }
     true
 }
 
-fn placed(op: u8, arg: u16, t: Names) -> u16
-    requires { ⌜ Fit t ⌝ }
-    ensures { λ r. ⌜ r ≡ placedName (actOf op) arg (own t) ⌝ }
+fn placed(act: Act, arg: u16, symbols: &[u16], kinds: &[u8], count: usize) -> u16
+    requires { ⌜ (count ≤ 16) × (count ≤ length (now symbols)) × (count ≤ length (now kinds)) ⌝ }
+    ensures { λ r. ⌜ r ≡ placedName act arg (own (now (symbols .entry)) (now (kinds .entry)) count) ⌝ }
 {
-    match syntax::act_of(op) {
-        Act::Value => arg,
-        Act::Name => place(t, arg),
-        Act::Store => place(t, arg),
-        Act::Output => arg,
-        Act::If => arg,
-        Act::Else => arg,
-        Act::End => arg,
-        Act::Declare => arg,
-        Act::Instr => arg,
+    match act {
+        Act::Name => place(symbols, kinds, count, arg),
+        Act::Store => place(symbols, kinds, count, arg),
+        _ => arg,
     }
 }
 
@@ -240,7 +184,9 @@ fn placed(op: u8, arg: u16, t: Names) -> u16
 pub fn place_names(ops: &[u8], args: &mut [u16])
     ensures { λ r. ⌜ now (args .exit) ≡ placesPass (now (ops .entry)) (now (args .entry)) ⌝ }
 {
-    let mut t = blank();
+    let mut symbols = [0u16; 16];
+    let mut kinds = [0u8; 16];
+    let mut count: usize = 0;
     let mut pc: usize = 0;
     while pc < ops.len() {
         if args.len() <= pc {
@@ -248,8 +194,9 @@ pub fn place_names(ops: &[u8], args: &mut [u16])
         }
         let op = ops[pc];
         let arg = args[pc];
-        args[pc] = placed(op, arg, t);
-        t = after(op, arg, t);
+        let act = syntax::act_of(op);
+        args[pc] = placed(act, arg, &symbols, &kinds, count);
+        count = names_after(act, op, arg, &mut symbols, &mut kinds, count);
         pc += 1;
     }
 }

@@ -6,15 +6,15 @@ use Rattle.rules.proofs.assigns.Reads as reads
 use Rattle.rules.proofs.assigns.Lts as lts
 use Rattle.rules.proofs.guard.Reads as guard-reads
 
--- src/lib.rt:347:16
+-- src/lib.rt:294:16
 guard-requires : tie.Need-guard-requires
 guard-requires c κs = search needs
 
--- src/lib.rt:347:9
+-- src/lib.rt:294:9
 returns : tie.Need-returns
 returns c = search assigns-yes
 
--- src/lib.rt:343:1
+-- src/lib.rt:290:1
 returns-2 : tie.Need-returns-2
 returns-2 c = search assigns-no
 

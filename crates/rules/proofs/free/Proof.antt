@@ -6,15 +6,15 @@ use Rattle.rules.proofs.free.Reads as reads
 use Rattle.rules.proofs.free.Lts as lts
 use Rattle.rules.proofs.seek.Reads as seek-reads
 
--- src/lib.rt:53:21
+-- src/lib.rt:47:21
 seek-requires : tie.Need-seek-requires
 seek-requires c κs = search needs
 
--- src/lib.rt:53:9
+-- src/lib.rt:47:9
 returns : tie.Need-returns
 returns c = search free-is
 
--- src/lib.rt:48:1
+-- src/lib.rt:42:1
 returns-2 : tie.Need-returns-2
 returns-2 c = search full-is
 

@@ -6,11 +6,11 @@ use Rattle.rules.proofs.known.Reads as reads
 use Rattle.rules.proofs.known.Lts as lts
 use Rattle.rules.proofs.seek.Reads as seek-reads
 
--- src/lib.rt:44:5
+-- src/lib.rt:38:5
 seek-requires : tie.Need-seek-requires
 seek-requires c κs = search needs
 
--- src/lib.rt:40:1
+-- src/lib.rt:34:1
 returns : tie.Need-returns
 returns c = search known-is
 

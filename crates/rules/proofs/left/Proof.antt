@@ -6,15 +6,15 @@ use Rattle.rules.proofs.left.Reads as reads
 use Rattle.rules.proofs.left.Lts as lts
 use Rattle.rules.proofs.less_one.Reads as less-one-reads
 
--- src/lib.rt:327:16
+-- src/lib.rt:274:16
 less-one-requires : tie.Need-less-one-requires
 less-one-requires c κs = search needs
 
--- src/lib.rt:328:16
+-- src/lib.rt:275:16
 less-one-requires-2 : tie.Need-less-one-requires-2
 less-one-requires-2 c κs = search needs
 
--- src/lib.rt:322:1
+-- src/lib.rt:269:1
 returns : tie.Need-returns
 returns c = search left-is
 

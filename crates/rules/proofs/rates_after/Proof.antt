@@ -12,115 +12,115 @@ use Rattle.rules.proofs.left.Reads as left-reads
 use Rattle.rules.proofs.rate_of.Reads as rate-of-reads
 use Rattle.syntax.proofs.act_of.Reads as act-of-reads
 
--- src/lib.rt:372:11
+-- src/lib.rt:319:11
 act-of-requires : tie.Need-act-of-requires
 act-of-requires c κs = search needs
 
--- src/lib.rt:373:23
+-- src/lib.rt:320:23
 enum-told : tie.Need-enum-told
 enum-told c = search needs
 
--- src/lib.rt:375:39
+-- src/lib.rt:322:39
 enum-told-2 : tie.Need-enum-told-2
 enum-told-2 c = search needs
 
--- src/lib.rt:375:39
+-- src/lib.rt:322:39
 rate-of-requires : tie.Need-rate-of-requires
 rate-of-requires c κs = search needs
 
--- src/lib.rt:375:17
+-- src/lib.rt:322:17
 faster-requires : tie.Need-faster-requires
 faster-requires c κs = search needs
 
--- src/lib.rt:376:13
+-- src/lib.rt:323:13
 ended-requires : tie.Need-ended-requires
 ended-requires c κs = search needs
 
--- src/lib.rt:378:23
+-- src/lib.rt:325:23
 enum-told-3 : tie.Need-enum-told-3
 enum-told-3 c = search needs
 
--- src/lib.rt:378:23
+-- src/lib.rt:325:23
 ended-requires-2 : tie.Need-ended-requires-2
 ended-requires-2 c κs = search needs
 
--- src/lib.rt:379:24
+-- src/lib.rt:326:24
 enum-told-4 : tie.Need-enum-told-4
 enum-told-4 c = search needs
 
--- src/lib.rt:379:24
+-- src/lib.rt:326:24
 ended-requires-3 : tie.Need-ended-requires-3
 ended-requires-3 c κs = search needs
 
--- src/lib.rt:381:28
+-- src/lib.rt:328:28
 enum-told-5 : tie.Need-enum-told-5
 enum-told-5 c = search needs
 
--- src/lib.rt:381:28
+-- src/lib.rt:328:28
 guard-requires : tie.Need-guard-requires
 guard-requires c κs = search needs
 
--- src/lib.rt:381:17
+-- src/lib.rt:328:17
 faster-requires-2 : tie.Need-faster-requires-2
 faster-requires-2 c κs = search needs
 
--- src/lib.rt:382:13
+-- src/lib.rt:329:13
 entered-requires : tie.Need-entered-requires
 entered-requires c κs = search needs
 
--- src/lib.rt:384:22
+-- src/lib.rt:331:22
 enum-told-6 : tie.Need-enum-told-6
 enum-told-6 c = search needs
 
--- src/lib.rt:385:21
+-- src/lib.rt:332:21
 enum-told-7 : tie.Need-enum-told-7
 enum-told-7 c = search needs
 
--- src/lib.rt:385:21
+-- src/lib.rt:332:21
 left-requires : tie.Need-left-requires
 left-requires c κs = search needs
 
--- src/lib.rt:386:25
+-- src/lib.rt:333:25
 enum-told-8 : tie.Need-enum-told-8
 enum-told-8 c = search needs
 
--- src/lib.rt:387:23
+-- src/lib.rt:334:23
 enum-told-9 : tie.Need-enum-told-9
 enum-told-9 c = search needs
 
--- src/lib.rt:368:1
+-- src/lib.rt:315:1
 returns : tie.Need-returns
 returns c = search a-value
 
--- src/lib.rt:368:1
+-- src/lib.rt:315:1
 returns-2 : tie.Need-returns-2
 returns-2 c = search a-name
 
--- src/lib.rt:368:1
+-- src/lib.rt:315:1
 returns-3 : tie.Need-returns-3
 returns-3 c = search a-store
 
--- src/lib.rt:368:1
+-- src/lib.rt:315:1
 returns-4 : tie.Need-returns-4
 returns-4 c = search a-output
 
--- src/lib.rt:368:1
+-- src/lib.rt:315:1
 returns-5 : tie.Need-returns-5
 returns-5 c = search a-if
 
--- src/lib.rt:368:1
+-- src/lib.rt:315:1
 returns-6 : tie.Need-returns-6
 returns-6 c = search a-else
 
--- src/lib.rt:368:1
+-- src/lib.rt:315:1
 returns-7 : tie.Need-returns-7
 returns-7 c = search a-end
 
--- src/lib.rt:368:1
+-- src/lib.rt:315:1
 returns-8 : tie.Need-returns-8
 returns-8 c = search a-declare
 
--- src/lib.rt:368:1
+-- src/lib.rt:315:1
 returns-9 : tie.Need-returns-9
 returns-9 c = search a-instr
 

@@ -16,51 +16,51 @@ Inv-loop ops args q₀ pc₀ q pc = Rated ops args q pc
 abbrev μ-loop : tie.MeasureT-loop
 μ-loop ops args q₀ pc₀ q pc = length ops - pc
 
--- src/lib.rt:401:5
+-- src/lib.rt:348:5
 loop-holds : tie.Need-loop-holds Inv-loop μ-loop
 loop-holds c = rated-starts _ _
 
--- src/lib.rt:403:13
+-- src/lib.rt:350:13
 returns : tie.Need-returns Inv-loop μ-loop
 returns c = search rated-short
 
--- src/lib.rt:405:18
+-- src/lib.rt:352:18
 shared-slice-read-op : tie.Need-shared-slice-read-op Inv-loop μ-loop
 shared-slice-read-op c = search needs
 
--- src/lib.rt:406:19
+-- src/lib.rt:353:19
 mul-arg : tie.Need-mul-arg Inv-loop μ-loop
 mul-arg c = search needs
 
--- src/lib.rt:406:19
+-- src/lib.rt:353:19
 shared-slice-read-arg : tie.Need-shared-slice-read-arg Inv-loop μ-loop
 shared-slice-read-arg c = search needs
 
--- src/lib.rt:407:13
+-- src/lib.rt:354:13
 rate-lawful-requires : tie.Need-rate-lawful-requires Inv-loop μ-loop
 rate-lawful-requires c κs = search needs
 
--- src/lib.rt:409:13
+-- src/lib.rt:356:13
 returns-2 : tie.Need-returns-2 Inv-loop μ-loop
 returns-2 c = search rated-fails
 
--- src/lib.rt:411:9
+-- src/lib.rt:358:9
 rates-after-requires : tie.Need-rates-after-requires Inv-loop μ-loop
 rates-after-requires c κs = search needs
 
--- src/lib.rt:412:9
+-- src/lib.rt:359:9
 add-pc : tie.Need-add-pc Inv-loop μ-loop
 add-pc c = search needs
 
--- src/lib.rt:401:5
+-- src/lib.rt:348:5
 loop-less : tie.Need-loop-less Inv-loop μ-loop
 loop-less c = omega arith
 
--- src/lib.rt:401:5
+-- src/lib.rt:348:5
 loop-again : tie.Need-loop-again Inv-loop μ-loop
 loop-again c = search rated-again
 
--- src/lib.rt:392:1
+-- src/lib.rt:339:1
 returns-3 : tie.Need-returns-3 Inv-loop μ-loop
 returns-3 c = search rated-ends
 
