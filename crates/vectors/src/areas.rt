@@ -1,6 +1,10 @@
 // Scores and units decoded on their own and written: every refusal that these calls can give. An area has 18 words a line.
 use crate::desk::told;
 use crate::refusals::number;
+use score_line::Event;
+use score_line::Label;
+use score_line::Line;
+use score_line::When;
 
 fn decoded_score(title: &[u8], expected: u64, bytes: &[u8]) {
     let mut area = [0u32; 18];
@@ -399,4 +403,49 @@ pub fn short_cases() {
         0,
     ];
     short_of_bytes(b"write a score, 7 bytes", b"write a unit, 4 bytes", &a);
+}
+
+// An end line with a time, for a host that holds lines by value.
+fn end_at(time: f32) -> Line {
+    Line {
+        when: When::Timed {
+            use_if_late: false,
+            time: time,
+        },
+        priority: false,
+        event: Event::End,
+        count: 0,
+        values: [0.0f32; 8],
+    }
+}
+
+fn nine_values() -> Line {
+    Line {
+        when: When::Untimed,
+        priority: false,
+        event: Event::Instr {
+            label: Label::Unlabelled,
+            instrument: 0,
+            duration: 0.0,
+        },
+        count: 9,
+        values: [0.0f32; 8],
+    }
+}
+
+fn written_line(title: &[u8], expected: u64, line: Line) {
+    let mut out = [0u8; 64];
+    let r = area_writer::write_unit(line, &mut out);
+    let a = r.answer;
+    told(title, expected, number(a));
+}
+
+pub fn write_line_cases() {
+    written_line(b"write a line as a unit, end at beat 1", 0, end_at(1.0));
+    written_line(b"write a line as a unit, -0 as a time", 3, end_at(-0.0));
+    written_line(b"write a line as a unit, 9 values", 5, nine_values());
+    let mut four = [0u8; 4];
+    let r = area_writer::write_unit(end_at(1.0), &mut four);
+    let a = r.answer;
+    told(b"write a line as a unit, 4 bytes", 8, number(a));
 }

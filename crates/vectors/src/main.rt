@@ -21,4 +21,5 @@ fn main() {
     areas::write_score_cases();
     areas::write_unit_cases();
     areas::short_cases();
+    areas::write_line_cases();
 }
