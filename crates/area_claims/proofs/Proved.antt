@@ -11,6 +11,7 @@ use lib.ListN.{length, getD, take, drop, replicate, length-append, length-replic
 use lib.Seq.{take-at, drop-at, drop-drop, getD-drop, length-take-le, take-add}
 use lib.Ieee.{Float}
 use lib.Ieee.Fits.{and-l, and-r, and-i}
+use Rattle.laws.proofs.Choice.{cond-true, cond-false}
 use Rattle.answer.specs.Numbers.{isTaken}
 use Rattle.answer.specs.declared.Answer.the-variants as answer
 use Rattle.bitstream.specs.Bits.{bitsOf}
@@ -41,12 +42,6 @@ use Rattle.area_writer.specs.Slots.{allZero, slotLine, slotAt, areaFault, areaL
 use Rattle.area_writer.specs.Written.{scoreWritten, scoreLeft, told, left}
 use Rattle.area_writer.proofs.Area.{lines-count}
 use Rattle.area_claims.specs.Claims.{AreaHoldsLines, ScoreThroughArea, AreaThroughScore}
-
-cond-true : {A : Type 0} {b : Bool} (x y : A) → b ≡ true → cond b x y ≡ x
-cond-true x y e = rw e
-
-cond-false : {A : Type 0} {b : Bool} (x y : A) → b ≡ false → cond b x y ≡ y
-cond-false x y e = rw e
 
 -- ---- a line has at most 18 numbers
 

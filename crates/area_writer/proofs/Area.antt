@@ -11,6 +11,7 @@ use native.Mathlib.Omega.{arith}
 use borrow.Author.Tests.{eq-eqb, ne-eqb}
 use lib.ListN.{length, getD, take, drop, length-append, length-drop, drop-of-length-le}
 use lib.Seq.{drop-cons, take-all}
+use Rattle.laws.proofs.Choice.{cond-true, cond-false}
 use Rattle.answer.specs.Numbers.{isTaken}
 use Rattle.answer.specs.declared.Answer.the-variants as answer
 use Rattle.score_line.specs.Reading.{lineInWords, refusedLine}
@@ -22,12 +23,6 @@ use Rattle.line_writer.proofs.Proved.{length-line}
 use Rattle.score_writer.specs.Writing.{linesBits}
 use Rattle.area_writer.specs.Slots.{allZero, slotLine, slotAt, areaFault, areaLines}
 use Rattle.area_writer.specs.Written.{Short}
-
-cond-true : {A : Type 0} {b : Bool} (x y : A) → b ≡ true → cond b x y ≡ x
-cond-true x y e = rw e
-
-cond-false : {A : Type 0} {b : Bool} (x y : A) → b ≡ false → cond b x y ≡ y
-cond-false x y e = rw e
 
 -- ---- zeros to the end
 

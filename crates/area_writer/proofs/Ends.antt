@@ -8,6 +8,7 @@ use borrow.Author.Tests.{le-leb, lt-leb}
 use lib.ListN.{length, getD, replicate, length-append}
 use mir.Val.{Fits}
 use mir.Syntax.{w8}
+use Rattle.laws.proofs.Choice.{cond-true, cond-false}
 use Rattle.answer.specs.Numbers.{isTaken}
 use Rattle.answer.specs.declared.Answer.{Answer}
 use Rattle.answer.specs.declared.Answer.the-variants.{Taken, OutOfRange, NoRoom}
@@ -53,12 +54,6 @@ module _ (area : List ℕ) (n : ℕ) (first s t : List ℕ) (p : ℕ) (room : Ro
       ∙ ap (λ (k : ℕ). over (bitsOf first) 0 (filledUp (field 20 k ++ linesBits (areaLines area n 0)))) (sym length-lines)
 
 -- ---- bytes into the lent bytes
-
-cond-true : {A : Type 0} {b : Bool} (x y : A) → b ≡ true → cond b x y ≡ x
-cond-true x y e = rw e
-
-cond-false : {A : Type 0} {b : Bool} (x y : A) → b ≡ false → cond b x y ≡ y
-cond-false x y e = rw e
 
 head-length : (w v : ℕ) (body : List Bool) → length (bytesOf (filledUp (field w v ++ body))) ≡ (w + length body + 7) / 8
 head-length w v body = length-bytes (field w v ++ body) ∙ ap (λ (k : ℕ). (k + 7) / 8) (length-append (field w v) body ∙ ap (λ (k : ℕ). k + length body) (length-field w v))

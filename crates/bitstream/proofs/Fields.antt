@@ -10,6 +10,7 @@ use borrow.Author.Tests.{le-leb, lt-leb, leb-true}
 use lib.ListN.{length, getD, take, drop, length-drop, length-append, length-take, take-append-drop}
 use lib.Seq.{take-at, drop-at, drop-drop, drop-nil, drop-append-add, take-all, take-take, length-take-le, paste}
 use lib.Dec.{leb}
+use Rattle.laws.proofs.Choice.{both-true}
 use Rattle.bitstream.specs.Bits.{field, bitsOf, valueOf}
 use Rattle.bitstream.specs.Fields.{farthest, put, over, roomFor, Room, pick, written}
 use Rattle.bitstream.specs.Reads.{readAt}
@@ -47,15 +48,11 @@ room-bytes bytes at n h g = go (decLe (at + n) (8 * bytes))
     go (yes k) = let e : (at + n + 7) / 8 ≤ bytes = omega arith in le-leb _ _ e ∙ sym (room-yes (8 * bytes) at n h g k)
     go (no k) = let e : bytes < (at + n + 7) / 8 = omega arith in lt-leb _ _ e ∙ sym (room-short (8 * bytes) at n (lt-of-not-le k))
 
-and-true : (a b : Bool) → (a && b) ≡ true → (a ≡ true) × (b ≡ true)
-and-true true b e = (refl, e)
-and-true false b e = (e, absurd (let z : _≡_ {A = ℕ} 0 1 = cc in omega arith))
-
 pub room-back : (bits at n : ℕ) → roomFor bits at n ≡ true → Room bits at n
 unfolding roomFor
 room-back bits at n e =
-    let p = and-true (leb n 32) _ e in
-    let q = and-true (leb at farthest) (leb (at + n) bits) (p .1) in
+    let p = both-true (leb n 32) _ e in
+    let q = both-true (leb at farthest) (leb (at + n) bits) (p .1) in
     record { width = leb-true _ _ (p .0); near = leb-true _ _ (q .0); within = leb-true _ _ (q .1) }
 
 -- ---- reading

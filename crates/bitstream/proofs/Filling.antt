@@ -10,6 +10,7 @@ use lib.ListN.{length, getD, take, drop, replicate, length-append, length-drop, 
 use lib.Pow.{pow-pos}
 use lib.Seq.{length-take-le, take-at, drop-at, drop-drop, take-all, drop-cons}
 use lib.Dec.{eqb, ltb}
+use Rattle.laws.proofs.Choice.{both-true}
 use Rattle.bitstream.specs.Bits.{field, bitsOf, valueOf}
 use Rattle.bitstream.specs.Filling.{filled, missing, filledUp, bytesFrom, bytesOf}
 use Rattle.bitstream.proofs.Laws.{length-field, valueOf-field, field-valueOf, valueOf-lt, length-bitsOf}
@@ -29,15 +30,11 @@ value-zeros [] e = refl
 value-zeros (true ∷ l) e = absurd (omega (arith, pow-pos (length l)))
 value-zeros (false ∷ l) e = ap (λ (x : List Bool). false ∷ x) (value-zeros l (omega arith))
 
-and-true : (a b : Bool) → (a && b) ≡ true → (a ≡ true) × (b ≡ true)
-and-true true b e = (refl, e)
-and-true false b e = (e, absurd (let z : _≡_ {A = ℕ} 0 1 = cc in omega arith))
-
 -- what a filled end is
 pub filled-back : (l : List Bool) (p : ℕ) → filled l p ≡ true → (length l < p + 8) × (drop p l ≡ replicate (length l - p) false)
 unfolding filled
 filled-back l p e =
-    let f = and-true (ltb (length l) (p + 8)) (eqb (valueOf (drop p l)) 0) e in
+    let f = both-true (ltb (length l) (p + 8)) (eqb (valueOf (drop p l)) 0) e in
     (ltb-true _ _ (f .0), value-zeros (drop p l) (eqb-true _ _ (f .1)) ∙ ap (λ (n : ℕ). replicate n false) (length-drop p l))
 
 pub filled-here : (l : List Bool) (p k : ℕ) → k < 8 → drop p l ≡ replicate k false → filled l p ≡ true

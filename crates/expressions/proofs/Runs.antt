@@ -7,6 +7,7 @@ use mathlib.Core.List.{List, [], _∷_, _++_, map}
 use mathlib.Core.Bool.{Bool, true, false, cond}
 use lib.ListN.{length, drop, set, length-append, length-drop, length-map}
 use lib.Seq.{drop-drop, sets, length-sets}
+use Rattle.laws.proofs.Lists.{map-append}
 use Rattle.tokens.specs.declared.Token.{Token}
 use Rattle.syntax.specs.Program.{Ins}
 use Rattle.expressions.specs.declared.Got.{Got}
@@ -22,10 +23,6 @@ use Rattle.expressions.proofs.Laws.{All, some, Took}
 sets-append : {A : Type 0} (l : List A) (i : ℕ) (u v : List A) → sets (sets l i u) (i + length u) v ≡ sets l i (u ++ v)
 sets-append l i [] v = rw add-zero
 sets-append l i (a ∷ u) v = ap (λ k. sets (sets (set l i a) (suc i) u) k v) (omega arith) ∙ sets-append (set l i a) (suc i) u v
-
-map-append : {A B : Type 0} (f : A → B) (u v : List A) → map f (u ++ v) ≡ map f u ++ map f v
-map-append f [] v = refl
-map-append f (a ∷ u) v = ap (λ l. f a ∷ l) (map-append f u v)
 
 stored-in : {B : Type 0} (f : Ins → B) (a : List B) (out : ℕ) (u v : List Ins)
     → sets (sets a out (map f u)) (out + length u) (map f v) ≡ sets a out (map f (u ++ v))

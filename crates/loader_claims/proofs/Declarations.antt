@@ -7,6 +7,7 @@ use mathlib.Core.List.{List, [], _∷_, _++_, map, append-assoc, append-nil}
 use lib.ListN.{length, take, drop, getD, replicate}
 use lib.Dec.{eqb, leb}
 use borrow.Author.Tests.{eqb-true}
+use Rattle.laws.proofs.Lists.{map-append}
 use Rattle.tokens.specs.declared.Token.{Token}
 use Rattle.syntax.specs.Tree.{Expr, number, name, unary, binary, choose, Statements, done, assign, output, branch, Declaration, Instrument, fieldKind}
 use Rattle.syntax.specs.Names.{Named, named, namedBy, namesOf}
@@ -16,10 +17,6 @@ use Rattle.grammar.specs.Grammar.{Kinds, Decls, Instr, Orchestra}
 use Rattle.rules.specs.Formed.{opOf, argOf, opsOf, argsOf}
 use Rattle.voices.specs.Tree.{importOf, importsOf}
 use Rattle.loader.specs.Loading.{laidIn, declares, noImport, fieldCount, importsAt}
-
-pub map-append : {A B : Type 0} (f : A → B) (u v : List A) → map f (u ++ v) ≡ map f u ++ map f v
-map-append f [] v = refl
-map-append f (a ∷ u) v = ap (λ l. f a ∷ l) (map-append f u v)
 
 -- ---- code that declares nothing at its start
 

@@ -6,6 +6,7 @@ use mathlib.Core.Bool.{true}
 use mathlib.Core.List.{List, [], _∷_, _++_, map, append-assoc, append-nil}
 use lib.ListN.{length, take, drop, getD, length-map, length-append}
 use lib.Ieee.{Float}
+use Rattle.laws.proofs.Lists.{map-append}
 use Rattle.tokens.specs.declared.Token.{Token}
 use Rattle.tokens.specs.Measures.{measured}
 use Rattle.syntax.specs.Tree.{Instrument}
@@ -25,7 +26,7 @@ use Rattle.sounding.specs.declared.Instrument as row
 use Rattle.voices.specs.Tree.{importsOf}
 use Rattle.voices.specs.Represents.{Row, Rows}
 use Rattle.loader.specs.Loading.{laidIn, noImport, fieldCount, importsAt, rowAt, rowsFrom}
-use Rattle.loader_claims.proofs.Declarations.{map-append, Known, AllKnown, nil, cons, restOf, fields-are, imports-are, imports-laid}
+use Rattle.loader_claims.proofs.Declarations.{Known, AllKnown, nil, cons, restOf, fields-are, imports-are, imports-laid}
 
 -- ---- a program around one instruction
 

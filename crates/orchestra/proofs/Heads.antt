@@ -8,6 +8,7 @@ use lib.ListN.{length, take, length-map}
 use lib.Seq.{take-all}
 use lib.Dec.{eqb, leb}
 use borrow.Author.Tests.{eqb-true, leb-true}
+use Rattle.laws.proofs.Lists.{map-append}
 use Rattle.syntax.specs.Tree.{Expr, number, name, unary, binary, choose, Statements, done, assign, output, branch, Declaration, Instrument, fieldKind}
 use Rattle.syntax.specs.Names.{placed, nameRules, distinct, titleOf, eachKept}
 use Rattle.syntax.specs.Program.{Ins, ins, insArg, instrOp, actOf, compile, code, declare, declared, instrument, program}
@@ -79,10 +80,6 @@ plain-starts : (n : ℕ) {c : List Ins} → Plain c → (os : List ℕ) → star
 unfolding startsFrom
 plain-starts n nil os = ap (λ k. startsFrom k os) (omega arith)
 plain-starts n (cons i {c = c} e p) os = rw e (plain-starts (suc n) p os ∙ ap (λ k. startsFrom k os) (omega arith))
-
-map-append : {A B : Type 0} (f : A → B) (u v : List A) → map f (u ++ v) ≡ map f u ++ map f v
-map-append f [] v = refl
-map-append f (a ∷ u) v = ap (λ l. f a ∷ l) (map-append f u v)
 
 -- placing changes no length
 length-alike : (i : Instrument) → length (instrument (placed i)) ≡ length (instrument i)

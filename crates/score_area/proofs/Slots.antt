@@ -8,6 +8,7 @@ use native.Mathlib.Omega.{arith}
 use borrow.Author.Tests.{le-leb, lt-leb}
 use lib.ListN.{length, getD, take, drop, set, length-append, length-set}
 use lib.Seq.{paste, paste-zero, paste-suc, take-all, take-at, drop-drop, drop-append-add}
+use Rattle.laws.proofs.Choice.{cond-true, cond-false}
 use Rattle.answer.specs.Numbers.{isTaken}
 use Rattle.answer.specs.declared.Answer.{Answer}
 use Rattle.answer.specs.declared.Answer.the-variants.{Taken, NoRoom}
@@ -115,12 +116,6 @@ module _ (bits : List Bool) (n : ℕ) (start : Cursor) (old : List ℕ) where
   fill-end new c i f l = let e : i ≡ n = omega (arith, f .upto) in f .stands ∙ ap (λ (j : ℕ). laid (areaWords (walked bits j start)) old) e
 
 -- ---- the answers
-
-cond-true : {A : Type 0} {b : Bool} (x y : A) → b ≡ true → cond b x y ≡ x
-cond-true x y e = rw e
-
-cond-false : {A : Type 0} {b : Bool} (x y : A) → b ≡ false → cond b x y ≡ y
-cond-false x y e = rw e
 
 -- what a score that was read leaves, by its three ways
 module _ (s : Score) (old : List ℕ) where

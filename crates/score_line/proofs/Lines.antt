@@ -10,6 +10,7 @@ use lib.Dec.{eqb, ltb}
 use lib.ListN.{length, take, drop, set, replicate, length-set, length-append, length-replicate, take-append-drop}
 use lib.Seq.{take-suc-set, drop-set-lt, drop-drop, append-snoc, length-take-le}
 use lib.Ieee.{Float}
+use Rattle.laws.proofs.Choice.{cond-true, cond-false}
 use Rattle.answer.specs.Numbers.{isTaken}
 use Rattle.answer.specs.declared.Answer.{Answer}
 use Rattle.answer.specs.declared.Answer.the-variants as answer
@@ -186,12 +187,6 @@ module _ (s : Source) (at : ℕ) where
   line-when-no c f g y = y ∙ sym (rw (sym f ∙ ap whenIs g))
 
 -- ---- a whole keypad line
-
-cond-true : {A : Type 0} {b : Bool} (x y : A) → b ≡ true → cond b x y ≡ x
-cond-true x y e = rw e
-
-cond-false : {A : Type 0} {b : Bool} (x y : A) → b ≡ false → cond b x y ≡ y
-cond-false x y e = rw e
 
 module _ (words : List ℕ) (r : LineRead) (e : r ≡ lineInWords words 0) where
   here : wholeRun (length words) r ≡ keypadLine words

@@ -10,6 +10,7 @@ use lib.Dec.{T, ltb, eqb}
 use lib.Ieee.{Float, nan, inf, fin, binary32, fits, isNan, ofBits, toBits, lt, eq, le}
 use lib.Ieee.Bits.{ofBits-toBits, toBits-ofBits, ofBits-fits}
 use lib.Ieee.Scale.{finite}
+use Rattle.laws.proofs.Choice.{both-true}
 use Rattle.timebase.specs.Time.{finiteBits, timeBits, durationBits, tempoBits, ticksOf, ticksIn, cycleOf, cycleIn, latest, slowest, fastest, endless}
 use Rattle.timebase.specs.Range.{checked}
 use Rattle.timebase.specs.declared.Checked.the-variants.{Value, Outside}
@@ -53,20 +54,15 @@ float-back p x f e = rw (e, ofBits-toBits binary32 x f)
 
 -- ---- what each range tells of the float
 
-and-true : (p q : Bool) → (p && q) ≡ true → (p ≡ true) × (q ≡ true)
-and-true true true e = (refl, refl)
-and-true true false e = absurd (true≢false (sym e))
-and-true false q e = absurd (true≢false (sym e))
-
 pub time-from-to : (b : ℕ) → timeBits b ≡ true → (le zeroF (ofBits binary32 b) ≡ true) × (le (ofBits binary32 b) latest ≡ true)
 unfolding timeBits
 time-from-to b e =
-    let p = and-true (ltb b (2 ^ 31)) (le (ofBits binary32 b) latest) e in
+    let p = both-true (ltb b (2 ^ 31)) (le (ofBits binary32 b) latest) e in
     (from-zero b latest (ltb-true b (2 ^ 31) (p .0)) (p .1), p .1)
 
 pub tempo-from-to : (b : ℕ) → tempoBits b ≡ true → (le slowest (ofBits binary32 b) ≡ true) × (le (ofBits binary32 b) fastest ≡ true)
 unfolding tempoBits
-tempo-from-to b e = and-true (le slowest (ofBits binary32 b)) (le (ofBits binary32 b) fastest) e
+tempo-from-to b e = both-true (le slowest (ofBits binary32 b)) (le (ofBits binary32 b) fastest) e
 
 -- the same for a float of the format whose pattern is accepted
 pub time-float : (x : Float) → T (fits binary32 x) → timeBits (toBits binary32 x) ≡ true → (le zeroF x ≡ true) × (le x latest ≡ true)
@@ -197,6 +193,6 @@ cycle-most x = go (le slowest x && le x fastest) refl
   where
     go : (q : Bool) → (le slowest x && le x fastest) ≡ q → cond q (cycleOf x) 0 ≤ 983040
     go true e =
-        let p = and-true (le slowest x) (le x fastest) e in
+        let p = both-true (le slowest x) (le x fastest) e in
         le-trans (cycleOf-grows x fastest (p .0) (p .1) (tempo-ends .2)) (le-of-eq (tempo-ends .4))
     go false e = zero-le

@@ -10,6 +10,7 @@ use lib.Dec.{T, ltb, eqb}
 use lib.Ieee.{Float, nan, inf, fin, up, down, below, level, lt, eq, le, isNan}
 use lib.Ieee.Fits.{down-pos}
 use lib.Ieee.Positive.{through}
+use Rattle.laws.proofs.Choice.{both-true}
 
 -- ±a at most ±b
 unfoldable pub AtMost : Bool → ℕ → Bool → ℕ → Type 0
@@ -22,11 +23,6 @@ AtMost true a true b = b ≤ a
 abbrev test : Bool → ℕ → Bool → ℕ → Bool
 test s a t b = below s a t b || level s a t b
 
-and-true : (p q : Bool) → (p && q) ≡ true → (p ≡ true) × (q ≡ true)
-and-true true true e = (refl, refl)
-and-true true false e = absurd (true≢false (sym e))
-and-true false q e = absurd (true≢false (sym e))
-
 less-or-equal : (a b : ℕ) (q : Bool) → (ltb a b || (eqb a b && q)) ≡ true → a ≤ b
 less-or-equal a b q e = go (decLe a b)
   where
@@ -38,7 +34,7 @@ pub at-most : (s : Bool) (a : ℕ) (t : Bool) (b : ℕ) → test s a t b ≡ tru
 unfolding AtMost
 at-most false a false b e = less-or-equal a b true e
 at-most false a true b e =
-    let p = and-true (eqb a b) (eqb a 0) e in
+    let p = both-true (eqb a b) (eqb a 0) e in
     let u : a ≡ b = eqb-true a b (p .0) in
     let v : a ≡ 0 = eqb-true a 0 (p .1) in
     (v, sym u ∙ v)
