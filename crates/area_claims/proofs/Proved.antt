@@ -11,7 +11,7 @@ use lib.ListN.{length, getD, take, drop, replicate, length-append, length-replic
 use lib.Seq.{take-at, drop-at, drop-drop, getD-drop, length-take-le, take-add}
 use lib.Ieee.{Float}
 use lib.Ieee.Fits.{and-l, and-r, and-i}
-use Rattle.laws.proofs.Choice.{cond-true, cond-false}
+use Rattle.laws.proofs.Choice.{cond-true}
 use Rattle.answer.specs.Numbers.{isTaken}
 use Rattle.answer.specs.declared.Answer.the-variants as answer
 use Rattle.bitstream.specs.Bits.{bitsOf}

@@ -1,20 +1,19 @@
 -- Fields at a position of a list of bits: one law each way for every width, and what writing leaves. Assumes nothing.
-use Prim.Native.Nat.{ℕ, zero, suc, _+_, _-_, _*_, _/_, _%_, _^_, _<_, _≤_}
+use Prim.Native.Nat.{ℕ, zero, suc, _+_, _-_, _*_, _/_, _^_, _<_, _≤_}
 use mathlib.Core.Path.{_≡_, refl, sym, ap, ap₂, _∙_, subst}
 use mathlib.Core.Bool.{Bool, true, false, _&&_}
-use mathlib.Core.List.{List, [], _∷_, _++_, append-assoc, append-nil}
+use mathlib.Core.List.{List, [], _∷_, _++_, append-assoc}
 use native.Mathlib.Nat.{mod-eq-of-lt, add-assoc, lt-of-not-le}
 use native.Mathlib.Omega.{arith}
 use native.Mathlib.Decide.{decLe}
 use borrow.Author.Tests.{le-leb, lt-leb, leb-true}
-use lib.ListN.{length, getD, take, drop, length-drop, length-append, length-take, take-append-drop}
+use lib.ListN.{length, getD, take, drop, length-drop, length-append, take-append-drop}
 use lib.Seq.{take-at, drop-at, drop-drop, drop-nil, drop-append-add, take-all, take-take, length-take-le, paste}
 use lib.Dec.{leb}
 use Rattle.laws.proofs.Choice.{both-true}
 use Rattle.bitstream.specs.Bits.{field, bitsOf, valueOf}
 use Rattle.bitstream.specs.Fields.{farthest, put, over, roomFor, Room, pick, written}
 use Rattle.bitstream.specs.Reads.{readAt}
-use Rattle.bitstream.specs.declared.Got.{Got}
 use Rattle.bitstream.specs.declared.Got.the-variants.{Value, Short}
 use Rattle.bitstream.proofs.Laws.{length-field, valueOf-field, field-valueOf, valueOf-lt, length-bitsOf}
 

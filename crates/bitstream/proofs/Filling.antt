@@ -1,11 +1,11 @@
 -- Filling: what a filled end says, and that bytes and whole bytes of bits are one. Assumes nothing.
 use Prim.Native.Nat.{ℕ, zero, suc, _+_, _-_, _*_, _/_, _%_, _^_, _<_, _≤_}
-use mathlib.Core.Path.{_≡_, refl, sym, ap, ap₂, _∙_, subst}
-use mathlib.Core.Bool.{Bool, true, false, _&&_}
+use mathlib.Core.Path.{_≡_, refl, sym, ap, ap₂, _∙_}
+use mathlib.Core.Bool.{Bool, true, false}
 use mathlib.Core.List.{List, [], _∷_, _++_, append-nil}
-use native.Mathlib.Nat.{mod-eq-of-lt, lt-of-lt-of-le, div-one}
+use native.Mathlib.Nat.{mod-eq-of-lt, div-one}
 use native.Mathlib.Omega.{arith}
-use borrow.Author.Tests.{lt-ltb, le-ltb, ltb-true, eq-eqb, eqb-true}
+use borrow.Author.Tests.{lt-ltb, le-ltb, ltb-true, eqb-true}
 use lib.ListN.{length, getD, take, drop, replicate, length-append, length-drop, length-replicate, take-append-drop, drop-of-length-le}
 use lib.Pow.{pow-pos}
 use lib.Seq.{length-take-le, take-at, drop-at, drop-drop, take-all, drop-cons}
@@ -13,7 +13,7 @@ use lib.Dec.{eqb, ltb}
 use Rattle.laws.proofs.Choice.{both-true}
 use Rattle.bitstream.specs.Bits.{field, bitsOf, valueOf}
 use Rattle.bitstream.specs.Filling.{filled, missing, filledUp, bytesFrom, bytesOf}
-use Rattle.bitstream.proofs.Laws.{length-field, valueOf-field, field-valueOf, valueOf-lt, length-bitsOf}
+use Rattle.bitstream.proofs.Laws.{length-field, valueOf-field, field-valueOf, length-bitsOf}
 use Rattle.bitstream.proofs.Fields.{bitsOf-drop}
 use Rattle.bitstream.proofs.Window.{value-part}
 

@@ -2,17 +2,16 @@
 use Prim.Native.Nat.{ℕ, zero, suc, _+_, _-_, _*_, _/_, _%_, _^_, _<_, _≤_}
 use mathlib.Core.Path.{_≡_, refl, sym, ap, ap₂, _∙_, subst}
 use mathlib.Core.Bool.{Bool, true, false}
-use mathlib.Core.List.{List, [], _∷_, _++_, append-assoc}
-use native.Mathlib.Nat.{add-comm, add-assoc, mul-assoc, mul-comm, zero-mul, one-mul, zero-add, add-zero, mod-lt, mul-add-mod-self-right, mod-eq-of-lt, mod-one, pow-suc, lt-of-lt-of-le, mul-add-div-right, div-div-eq-div-mul, add-sub-of-le, div-one, suc-add, div-add-mod', lt-of-not-le}
+use mathlib.Core.List.{List, [], _∷_, _++_}
+use native.Mathlib.Nat.{add-comm, mul-assoc, mul-comm, zero-add, add-zero, mod-lt, mul-add-mod-self-right, mod-one, pow-suc, mul-add-div-right, suc-add, div-add-mod', lt-of-not-le}
 use native.Mathlib.Numerals.{add-one}
 use native.Mathlib.Omega.{arith}
 use native.Mathlib.Decide.{decLe, ℕ-discrete}
 use lib.Arith.{lt-of-le-ne, digits-lt}
-use lib.ListN.{length, take, drop, getD, set, length-append, length-set, List·getD-append}
+use lib.ListN.{length, getD, set, length-append, length-set, List·getD-append}
 use lib.Seq.{ext-getD, getD-append-add, getD-set-same, getD-set-other, set-append-left}
-use lib.Dec.{eqb, T, eqb→eq}
-use lib.Pow.{pow-pos, pow-add, high, low, split, mod-pow-add, shr-shr, shr-lt}
-use borrow.Author.Tests.{eq-eqb, eqb-true}
+use lib.Dec.{eqb}
+use lib.Pow.{pow-pos, pow-add, high, split, mod-pow-add, shr-shr, shr-lt}
 use Rattle.bitstream.specs.Bits.{bit, field, bitsOf, digit, valueOf}
 
 -- ---- one bit

@@ -1,13 +1,13 @@
 -- A field out of the number of a few whole bytes; and which bytes a write leaves. Assumes nothing.
 use Prim.Native.Nat.{ℕ, zero, suc, _+_, _-_, _*_, _/_, _%_, _^_, _<_, _≤_}
 use mathlib.Core.Path.{_≡_, refl, sym, ap, ap₂, _∙_, subst}
-use mathlib.Core.Bool.{Bool, true, false}
+use mathlib.Core.Bool.{Bool}
 use mathlib.Core.List.{List, [], _∷_, _++_, append-assoc, append-nil}
-use native.Mathlib.Nat.{add-assoc, mul-assoc, add-mul, suc-add, zero-add, mod-eq-of-lt, mul-one, add-zero}
+use native.Mathlib.Nat.{add-assoc, mul-assoc, add-mul, suc-add, zero-add, mod-eq-of-lt}
 use native.Mathlib.Omega.{arith}
-use lib.ListN.{length, getD, take, drop, length-append, length-drop, length-take, take-append-drop}
-use lib.Seq.{take-nil, drop-nil, take-take, drop-drop, take-suc, getD-drop, getD-take, length-take-le, drop-append-add, take-append-le}
-use lib.Pow.{pow-add, pow-pos, high, low}
+use lib.ListN.{length, getD, take, drop, length-append, length-drop, take-append-drop}
+use lib.Seq.{take-nil, take-take, drop-drop, take-suc, getD-drop, length-take-le}
+use lib.Pow.{pow-add, high, low}
 use Rattle.bitstream.specs.Bits.{field, bitsOf, valueOf, digit}
 use Rattle.bitstream.proofs.Laws.{length-field, valueOf-field, valueOf-lt, length-bitsOf}
 use Rattle.bitstream.specs.Fields.{over}

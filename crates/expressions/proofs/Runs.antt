@@ -13,7 +13,7 @@ use Rattle.syntax.specs.Program.{Ins}
 use Rattle.expressions.specs.declared.Got.{Got}
 use Rattle.expressions.specs.declared.Got.the-variants.{Next, Refused}
 use Rattle.expressions.specs.Roles.{signL}
-use Rattle.expressions.specs.Reader.{Res, no, ok, seq, sign, emit}
+use Rattle.expressions.specs.Reader.{Res, ok, seq, sign, emit}
 use Rattle.expressions.specs.Areas.{Areas, opOf, argOf, valOf, stored, storedAt, oneMore, passed, left, Holds, Place, Ready, gone, come, Runs, refused, done}
 use Rattle.expressions.proofs.Moves.{sign-in}
 use Rattle.expressions.proofs.Laws.{All, some, Took}

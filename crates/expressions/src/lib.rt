@@ -1,10 +1,8 @@
 // The expression reader: from a place among the tokens to postfix code, by precedence climbing.
 use tokens::Token;
 ghost use mathlib.Core.Path.{_≡_};
-ghost use mathlib.Core.Bool.{Bool};
 ghost use lib.ListN.{drop};
 ghost use Rattle.tokens.specs.Token.{toks};
-ghost use Rattle.syntax.specs.Program.{Ins};
 ghost use Rattle.expressions.specs.Roles.{headOf, tailOf, isSign, headL, tailL, signL};
 ghost use Rattle.expressions.specs.Reader.{reader, lastly};
 ghost use Rattle.expressions.specs.Areas.{areas, storedAt, oneMore, passed, Place, Ready, Runs};

@@ -13,7 +13,7 @@ use Rattle.syntax.specs.Tree.{Expr, Statements, done, assign, output, branch, D
 use Rattle.syntax.specs.Program.{Ins, ins, insArg, instrOp, outputOp, ifOp, elseOp, endOp, storeOp, compile, code, declare, declared, program}
 use Rattle.syntax.specs.Program.{instrument as code·of}
 use Rattle.expressions.specs.Roles.{signL, isSign}
-use Rattle.expressions.specs.Reader.{Res, ok, seq, sign, reader}
+use Rattle.expressions.specs.Reader.{Res, ok, seq, sign}
 use Rattle.grammar.specs.declared.Start.{Start}
 use Rattle.grammar.specs.declared.Start.the-variants.{Name, Output, If, Stop}
 use Rattle.grammar.specs.declared.Lead.{Lead}

@@ -9,7 +9,7 @@ use Rattle.tokens.specs.declared.Token.{Token}
 use Rattle.syntax.specs.Program.{Ins, ins, insArg, instrOp, outputOp, ifOp, elseOp, endOp, storeOp}
 use Rattle.syntax.specs.Tree.{fieldKind, importsKind}
 use Rattle.expressions.specs.Roles.{signL}
-use Rattle.expressions.specs.Reader.{Res, ok, seq, sign, emit, reader}
+use Rattle.expressions.specs.Reader.{Res, ok, seq, sign, emit}
 use Rattle.grammar.specs.declared.Start.{Start}
 use Rattle.grammar.specs.declared.Start.the-variants.{Name, Output, If, Stop}
 use Rattle.grammar.specs.declared.Lead.{Lead}

@@ -1,20 +1,20 @@
 -- What the loader reads of an instrument's declarations is what the tree declares.
 use Prim.Native.Nat.{ℕ, zero, suc, _+_, _≤_}
 use native.Mathlib.Omega.{arith}
-use mathlib.Core.Path.{_≡_, refl, sym, ap, _∙_, subst}
+use mathlib.Core.Path.{_≡_, refl, sym, ap, _∙_}
 use mathlib.Core.Bool.{Bool, true, false, cond}
 use mathlib.Core.List.{List, [], _∷_, _++_, map, append-assoc, append-nil}
-use lib.ListN.{length, take, drop, getD, replicate}
-use lib.Dec.{eqb, leb}
+use lib.ListN.{length, take, replicate}
+use lib.Dec.{eqb}
 use borrow.Author.Tests.{eqb-true}
 use Rattle.laws.proofs.Lists.{map-append}
 use Rattle.tokens.specs.declared.Token.{Token}
 use Rattle.syntax.specs.Tree.{Expr, number, name, unary, binary, choose, Statements, done, assign, output, branch, Declaration, Instrument, fieldKind}
-use Rattle.syntax.specs.Names.{Named, named, namedBy, namesOf}
-use Rattle.syntax.specs.Program.{Ins, compile, code, declare, declared, instrument, program}
+use Rattle.syntax.specs.Names.{named, namedBy, namesOf}
+use Rattle.syntax.specs.Program.{Ins, compile, code, declare, declared, program}
 use Rattle.grammar.specs.Grammar as grammar
 use Rattle.grammar.specs.Grammar.{Kinds, Decls, Instr, Orchestra}
-use Rattle.rules.specs.Formed.{opOf, argOf, opsOf, argsOf}
+use Rattle.rules.specs.Formed.{opsOf, argsOf}
 use Rattle.voices.specs.Tree.{importOf, importsOf}
 use Rattle.loader.specs.Loading.{laidIn, declares, noImport, fieldCount, importsAt}
 

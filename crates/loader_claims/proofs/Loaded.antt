@@ -1,5 +1,5 @@
 -- An accepted orchestra's program, as the loader keeps it, stands for its tree.
-use Prim.Native.Nat.{ℕ, zero, suc, _+_, _*_, _≤_, _<_, min}
+use Prim.Native.Nat.{ℕ, zero, suc, _+_, _≤_, min}
 use native.Mathlib.Omega.{arith}
 use mathlib.Core.Path.{_≡_, refl, sym, ap, ap₂, _∙_, subst}
 use mathlib.Core.Bool.{true}
@@ -22,7 +22,6 @@ use Rattle.compiled.proofs.Laws.{program-code}
 use Rattle.compiled.proofs.Declared.{orchestra-kinds}
 use Rattle.orchestra.specs.declared.Outcome.{Outcome}
 use Rattle.orchestra.specs.Compiled.{padded, laid, headsFrom, compile}
-use Rattle.orchestra.specs.Verdict.{Accepted}
 use Rattle.orchestra.proofs.Heads.{at-most-8}
 use Rattle.orchestra.proofs.Verdict.{accepted-exactly}
 use Rattle.sounding.specs.declared.Instrument as row
@@ -32,7 +31,7 @@ use Rattle.voices.proofs.Rows.{represents}
 use Rattle.loader.specs.declared.Program.{Program}
 use Rattle.loader.specs.Loading as loading
 use Rattle.loader.specs.Loading.{laidIn, rowsFrom, programOf, keptOf, loadOf}
-use Rattle.loader_claims.specs.Claims.{StandsFor, LoadedAs, Loaded, TakenOnly}
+use Rattle.loader_claims.specs.Claims.{StandsFor, Loaded, TakenOnly}
 use Rattle.loader_claims.proofs.Declarations.{all-known}
 use Rattle.loader_claims.proofs.Rows.{programIn, startsIn, wordsIn, all-rows}
 

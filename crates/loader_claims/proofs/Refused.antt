@@ -1,14 +1,13 @@
 -- A refused orchestra leaves a blank program.
 use Prim.Native.Nat.{ℕ}
-use mathlib.Core.Path.{_≡_, refl, ap, _∙_}
+use mathlib.Core.Path.{_≡_, refl}
 use mathlib.Core.List.{List, []}
-use lib.ListN.{length, replicate}
-use Rattle.answer.specs.declared.Answer.{Answer}
+use lib.ListN.{replicate}
 use Rattle.answer.specs.declared.Answer.the-variants.{Taken}
 use Rattle.lowering.specs.Orchestra.{codeOf, rateOfProgram, walkFrom, filled}
 use Rattle.orchestra.specs.declared.Outcome.{Outcome}
 use Rattle.orchestra.specs.Compiled as compiled
-use Rattle.orchestra.specs.Reading.{refused, readOf}
+use Rattle.orchestra.specs.Reading.{readOf}
 use Rattle.orchestra.specs.Verdict.{Verdict, tooLong, noTokens, tooLarge, outside, misnamed, misrated, accepted}
 use Rattle.orchestra.proofs.Verdict.{every-verdict}
 use Rattle.sounding.specs.Voices.{blank}

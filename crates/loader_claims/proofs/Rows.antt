@@ -1,10 +1,10 @@
 -- The rows of the loader's table are those of the tree's instruments.
-use Prim.Native.Nat.{ℕ, zero, suc, _+_, _*_, _≤_, _<_}
+use Prim.Native.Nat.{ℕ, suc, _+_, _*_, _<_}
 use native.Mathlib.Omega.{arith}
 use mathlib.Core.Path.{_≡_, refl, sym, ap, ap₂, _∙_, subst}
 use mathlib.Core.Bool.{true}
 use mathlib.Core.List.{List, [], _∷_, _++_, map, append-assoc, append-nil}
-use lib.ListN.{length, take, drop, getD, length-map, length-append}
+use lib.ListN.{length, drop, getD, length-map, length-append}
 use lib.Ieee.{Float}
 use Rattle.laws.proofs.Lists.{map-append}
 use Rattle.tokens.specs.declared.Token.{Token}
@@ -23,7 +23,6 @@ use Rattle.compiled.specs.Compiled.{wordsOf, startsOf, InstrumentCode}
 use Rattle.compiled.proofs.Laws.{instrument-code, getD-filled}
 use Rattle.orchestra.specs.Compiled.{headsFrom}
 use Rattle.sounding.specs.declared.Instrument as row
-use Rattle.voices.specs.Tree.{importsOf}
 use Rattle.voices.specs.Represents.{Row, Rows}
 use Rattle.loader.specs.Loading.{laidIn, noImport, fieldCount, importsAt, rowAt, rowsFrom}
 use Rattle.loader_claims.proofs.Declarations.{Known, AllKnown, nil, cons, restOf, fields-are, imports-are, imports-laid}

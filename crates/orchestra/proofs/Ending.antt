@@ -1,9 +1,9 @@
 -- The ways through the reading of a whole orchestra.
-use Prim.Native.Nat.{ℕ, zero, suc, _+_, _≤_}
+use Prim.Native.Nat.{ℕ, suc, _+_, _≤_}
 use native.Mathlib.Omega.{arith}
 use mathlib.Core.Path.{_≡_, refl, sym, ap, _∙_}
 use mathlib.Core.Bool.{Bool, true, false, cond, _&&_}
-use mathlib.Core.List.{List, [], _∷_, _++_, map, append-nil}
+use mathlib.Core.List.{List, [], _∷_, _++_, map}
 use lib.ListN.{length, take, drop, replicate, length-map, length-append, length-replicate, length-drop}
 use lib.Seq.{take-at, drop-at, sets, sets-eq}
 use lib.Dec.{ltb, leb}
@@ -20,12 +20,12 @@ use Rattle.tokens.specs.Measures.{measured, bracketsKept, stretchesKept}
 use Rattle.tokens.specs.Reading.{stored as stored·tokens, judged, readOf as tokens·of}
 use Rattle.tokens.proofs.Laws.{tokens-lawful, stored-tokens}
 use Rattle.syntax.specs.Tree.{Instrument}
-use Rattle.syntax.specs.Program.{Ins, zeroF, program, actOf}
+use Rattle.syntax.specs.Program.{zeroF, program, actOf}
 use Rattle.syntax.specs.Names.{Named}
 use Rattle.expressions.specs.Reader.{Res, no, ok}
 use Rattle.expressions.specs.declared.Got.{Got}
 use Rattle.expressions.specs.declared.Got.the-variants.{Next, Refused}
-use Rattle.expressions.specs.Areas.{Areas, areas, stored}
+use Rattle.expressions.specs.Areas.{Areas, areas}
 use Rattle.expressions.proofs.Laws.{All, some as took}
 use Rattle.grammar.specs.Grammar.{Orchestra}
 use Rattle.grammar.specs.Reader.{orchestra, stepInstruments}
@@ -36,11 +36,11 @@ use Rattle.grammar.proofs.Complete.{complete}
 use Rattle.grammar.proofs.Sound.{Orchestrated, sound}
 use Rattle.instruments.specs.Reading.{Reads, read, refused as unread}
 use Rattle.rules.specs.Formed.{opsOf, argsOf, valsOf}
-use Rattle.rules.specs.Naming.{namesPass, placesPass, placedFrom, placedName, namesAfter}
+use Rattle.rules.specs.Naming.{namesPass, placesPass, placedFrom, namesAfter}
 use Rattle.rules.specs.Rating.{ratesPass}
 use Rattle.orchestra.specs.declared.Outcome.{Outcome}
 use Rattle.orchestra.specs.Compiled.{padded}
-use Rattle.orchestra.specs.Reading.{taken, refused, startsFrom, byRates, byNames, byGrammar, byTokens, readOf}
+use Rattle.orchestra.specs.Reading.{taken, refused, startsFrom, byNames, byGrammar, readOf}
 use Rattle.orchestra.specs.Arrays.{judgement, placedIf, keptIn, finishedIn}
 
 never : {A : Type 0} → _≡_ {A = ℕ} 0 1 → A

@@ -7,7 +7,7 @@ use Rattle.syntax.specs.Tree.{Expr, Statements, Declaration, Instrument}
 use Rattle.syntax.specs.Program.{actOf}
 use Rattle.syntax.specs.declared.Act.the-variants.{Value, Declare}
 use Rattle.expressions.specs.Grammar.{Derives, real, whole, named, prefixed, bracketed, called, called2, sides, chosen, Operator, or, and, equal, unequal, less, greater, atMost, atLeast, plus, minus, times, over, Prefix, negative, not, Call, abs, sgn, int, frac, Call2, min, max}
-use Rattle.grammar.specs.Grammar.{Stmts, none, set, out, when, either, Kinds, ivar, ksig, asig, imports, Decls, none as no·decls, some as some·decls, Instr, is, Orchestra, last, next}
+use Rattle.grammar.specs.Grammar.{Stmts, none, set, out, when, either, Kinds, ivar, ksig, asig, imports, Decls, none as no·decls, some as some·decls, is, Orchestra, last, next}
 use Rattle.rules.specs.Formed.{FormedIn, Formed, FormedKinds, FormedAll}
 
 operator-value : {o l : ℕ} → Operator o l → actOf o ≡ Value

@@ -1,8 +1,8 @@
 -- In the program of a tree the operation instr stands where an instrument starts, and nowhere else.
-use Prim.Native.Nat.{ℕ, zero, suc, _+_, _≤_}
+use Prim.Native.Nat.{ℕ, suc, _+_, _≤_}
 use native.Mathlib.Omega.{arith}
 use mathlib.Core.Path.{_≡_, refl, sym, ap, _∙_}
-use mathlib.Core.Bool.{Bool, true, false, cond, _&&_}
+use mathlib.Core.Bool.{Bool, true, false, _&&_}
 use mathlib.Core.List.{List, [], _∷_, _++_, map, append-nil}
 use lib.ListN.{length, take, length-map}
 use lib.Seq.{take-all}
@@ -11,7 +11,7 @@ use borrow.Author.Tests.{eqb-true, leb-true}
 use Rattle.laws.proofs.Lists.{map-append}
 use Rattle.syntax.specs.Tree.{Expr, number, name, unary, binary, choose, Statements, done, assign, output, branch, Declaration, Instrument, fieldKind}
 use Rattle.syntax.specs.Names.{placed, nameRules, distinct, titleOf, eachKept}
-use Rattle.syntax.specs.Program.{Ins, ins, insArg, instrOp, actOf, compile, code, declare, declared, instrument, program}
+use Rattle.syntax.specs.Program.{Ins, instrOp, actOf, compile, code, declare, declared, instrument, program}
 use Rattle.syntax.specs.declared.Act.{Act}
 use Rattle.syntax.specs.declared.Act.the-variants.{Value, Declare, Instr}
 use Rattle.rules.specs.Formed.{FormedIn, Formed, FormedKinds, FormedAll, opOf, opsOf}

@@ -1,8 +1,8 @@
 -- The ways through the last stages of reading.
 use Prim.Native.Nat.{ℕ, _≤_}
 use native.Mathlib.Omega.{arith}
-use mathlib.Core.Path.{_≡_, refl, sym, ap, _∙_}
-use mathlib.Core.Bool.{Bool, true, false, cond}
+use mathlib.Core.Path.{_≡_, sym, ap, _∙_}
+use mathlib.Core.Bool.{Bool, true, false}
 use mathlib.Core.List.{List}
 use lib.ListN.{length, take}
 use lib.Seq.{length-take-le}
@@ -11,7 +11,6 @@ use Rattle.answer.specs.declared.Answer.the-variants.{Taken, BadNames, BadRates
 use Rattle.rules.specs.Naming.{namesPass, placesPass}
 use Rattle.rules.specs.Rating.{ratesPass}
 use Rattle.orchestra.specs.declared.Starts.{Starts}
-use Rattle.orchestra.specs.declared.Outcome.{Outcome}
 use Rattle.orchestra.specs.Reading.{startsFrom, taken}
 use Rattle.orchestra.specs.Arrays.{judgement, placedIf, startsIn, keptIn}
 

@@ -1,22 +1,20 @@
 -- Every orchestra is given what its tokens and its tree say, and has one reading only.
-use Prim.Native.Nat.{ℕ, _≤_, _<_}
+use Prim.Native.Nat.{ℕ, _≤_}
 use native.Mathlib.Omega.{arith}
-use mathlib.Core.Path.{_≡_, refl, sym, ap, ap₂, _∙_, subst}
-use mathlib.Core.Bool.{Bool, true, false, cond, false≢true}
-use mathlib.Core.List.{List, [], _∷_, map}
+use mathlib.Core.Path.{_≡_, refl, sym, ap, _∙_}
+use mathlib.Core.Bool.{Bool, true, false, cond}
+use mathlib.Core.List.{List, [], map}
 use lib.ListN.{length, take}
 use lib.Dec.{ltb}
-use lib.Ieee.{Float}
 use borrow.Author.Tests.{ltb-true, ltb-false, lt-ltb, le-ltb}
-use Rattle.answer.specs.declared.Answer.{Answer}
-use Rattle.answer.specs.declared.Answer.the-variants.{Taken, BadToken, BadGrammar, BadNames, BadRates, TooLarge}
+use Rattle.answer.specs.declared.Answer.the-variants.{Taken, BadGrammar, BadNames, BadRates, TooLarge}
 use Rattle.tokens.specs.declared.Token.{Token}
 use Rattle.tokens.specs.Bytes.{Got, none, some, tokensOf}
 use Rattle.tokens.specs.Measures.{measured}
 use Rattle.syntax.specs.Tree.{Instrument}
 use Rattle.syntax.specs.Names.{nameRules, placed}
 use Rattle.syntax.specs.Rates.{rateRules}
-use Rattle.syntax.specs.Program.{Ins, program}
+use Rattle.syntax.specs.Program.{program}
 use Rattle.expressions.specs.Reader.{Res, no, ok}
 use Rattle.expressions.proofs.Laws.{All, none as unread, some as read}
 use Rattle.grammar.specs.Grammar.{Orchestra}
@@ -25,13 +23,13 @@ use Rattle.grammar.proofs.Complete.{complete}
 use Rattle.grammar.proofs.Sound.{Orchestrated, sound}
 use Rattle.grammar.proofs.Unique.{unique}
 use Rattle.rules.specs.Formed.{opsOf, argsOf, valsOf}
-use Rattle.rules.specs.Naming.{namesPass, placesPass}
+use Rattle.rules.specs.Naming.{placesPass}
 use Rattle.rules.specs.Rating.{ratesPass}
 use Rattle.rules.proofs.NamesLaw.{names-law}
 use Rattle.rules.proofs.PlacesLaw.{places-law, ops-stay, vals-stay}
 use Rattle.rules.proofs.RatesLaw.{rates-law}
 use Rattle.orchestra.specs.declared.Outcome.{Outcome}
-use Rattle.orchestra.specs.Compiled.{laid, compile, headsFrom}
+use Rattle.orchestra.specs.Compiled.{laid, compile}
 use Rattle.orchestra.specs.Reading.{taken, refused, startsFrom, byRates, byNames, byGrammar, byTokens, readOf}
 use Rattle.orchestra.specs.Verdict.{longest, Sized, Accepted, Verdict, tooLong, noTokens, tooLarge, outside, misnamed, misrated, accepted, EveryVerdict, VerdictGiven, AcceptedExactly, OneReading}
 use Rattle.orchestra.proofs.Formed.{formed}

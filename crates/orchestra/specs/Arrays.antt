@@ -1,8 +1,8 @@
 -- The last stages of reading on the arrays that hold the program.
 use Prim.Native.Nat.{ℕ, _+_, _≤_}
 use mathlib.Core.Path.{_≡_}
-use mathlib.Core.Bool.{Bool, true, false, cond}
-use mathlib.Core.List.{List, [], _∷_, _++_}
+use mathlib.Core.Bool.{cond}
+use mathlib.Core.List.{List, _++_}
 use lib.ListN.{length, take, drop, set}
 use lib.Dec.{eqb, ltb}
 use lib.Ieee.{Float}

@@ -1,6 +1,6 @@
 -- What reading an orchestra's bytes gives, stage by stage: each stage runs over the whole orchestra before the next.
 use Prim.Native.Nat.{ℕ, suc}
-use mathlib.Core.Bool.{Bool, true, false, cond}
+use mathlib.Core.Bool.{cond}
 use mathlib.Core.List.{List, [], _∷_}
 use lib.ListN.{length, take}
 use lib.Dec.{eqb, ltb}

@@ -2,21 +2,20 @@
 use mathlib.Core.Path.{_≡_, refl, sym, ap, _∙_, subst, subst⁻¹}
 use mathlib.Core.Bool.{Bool, true, false, _&&_, cond}
 use mathlib.Core.List.{List, [], _∷_, _++_}
-use Prim.Native.Nat.{ℕ, suc, zero, _+_, _*_, _≤_, _<_}
+use Prim.Native.Nat.{ℕ, suc, _+_, _≤_}
 use native.Mathlib.Omega.{arith}
 use native.Mathlib.Nat.{le-refl}
 use lib.IntN.{ℤ}
 use lib.ListN.{length}
 use lib.Dec.{eqb}
-use borrow.Author.Tests.{eqb-true, eqb-false, eq-eqb}
+use borrow.Author.Tests.{eqb-false}
 use Rattle.score_line.specs.declared.Line.{Line}
-use Rattle.players.specs.Lists.{All}
-use Rattle.players.specs.Cycle.{Voices, Core, samples, ends, stepped, stopped, blockOf, withLines, capped, farthest}
+use Rattle.players.specs.Cycle.{Voices, Core, samples, ends, stepped, stopped, blockOf, withLines, capped}
 use Rattle.players.specs.Plain.{plainStart, plainStep, plainAnswer, plainAt, answerAt, blockAt, startingTempo}
-use Rattle.players.specs.History.{Call, stick, unit, keypad, cycle, After, Entrances, Last, none, at, numbered, counted, linesOf, brought, taken, lastAfter, inTime, InTime, Same, Agrees, PlainAlike}
+use Rattle.players.specs.History.{Call, stick, unit, keypad, cycle, After, Entrances, Last, none, at, numbered, counted, linesOf, taken, InTime, Agrees, PlainAlike}
 use Rattle.players.proofs.Lists.{cond-true, cond-false, all-append}
 use Rattle.players.proofs.Join.{AllAbove, with-none, with-with, ends-join, block-join, step-join}
-use Rattle.players.proofs.Count.{AllSteady, steady, Slow, within-limit, cap-none, slow-stepped, starting}
+use Rattle.players.proofs.Count.{AllSteady, Slow, within-limit, cap-none, slow-stepped, starting}
 use Rattle.players.proofs.Works.{Entered, took, refused, Turned, off, over, finished, played, Works}
 use Rattle.players.proofs.Later.{later}
 

@@ -1,5 +1,5 @@
 -- Condition 3, second half, for every player that works: every sample that a cycle gives lies within the ceiling.
-use mathlib.Core.Path.{_≡_, refl, sym, ap, _∙_, subst, subst⁻¹}
+use mathlib.Core.Path.{_≡_, sym, ap, _∙_, subst, subst⁻¹}
 use mathlib.Core.Bool.{Bool, true, false}
 use mathlib.Core.List.{List, [], _∷_}
 use Prim.Native.Nat.{ℕ, _≤_}
@@ -7,12 +7,11 @@ use native.Mathlib.Omega.{arith}
 use lib.IntN.{ℤ}
 use lib.ListN.{length}
 use lib.Dec.{eqb}
-use lib.Ieee.{Float}
-use Rattle.float32.specs.Limit.{sampleOf, Within}
+use Rattle.float32.specs.Limit.{Within}
 use Rattle.float32.proofs.Laws.{every-sample-within}
 use Rattle.players.specs.Lists.{All}
 use Rattle.players.specs.Cycle.{Voices, Core, samples, limited, blockOf, bandOf}
-use Rattle.players.specs.History.{Call, stick, unit, keypad, cycle, After, Entrances, Limited, AllLimited, CeilingHolds}
+use Rattle.players.specs.History.{Call, stick, unit, keypad, cycle, Entrances, Limited, AllLimited, CeilingHolds}
 use Rattle.players.proofs.Lists.{all-each}
 use Rattle.players.proofs.Works.{Turned, off, over, finished, played, Works}
 

@@ -1,21 +1,21 @@
 -- The count of missed notes never comes near 64 bits: at most 64 lines a cycle, at least 1,024 ticks a cycle, and a limit on position.
-use mathlib.Core.Path.{_≡_, refl, sym, ap, _∙_, subst}
+use mathlib.Core.Path.{_≡_, refl, ap}
 use mathlib.Core.Bool.{Bool, true, false, not, _||_, cond}
 use mathlib.Core.List.{List, [], _∷_, _++_}
-use Prim.Native.Nat.{ℕ, suc, _+_, _*_, _≤_, _<_, min}
+use Prim.Native.Nat.{ℕ, suc, _+_, _*_, _≤_, min}
 use native.Mathlib.Omega.{arith}
 use lib.Dec.{ltb}
-use lib.Ieee.{Float, binary32, ofBits, ofFields, le, lt, eq, span, climb, size, odd}
-use lib.ListN.{length, length-append}
+use lib.Ieee.{Float, ofBits, ofFields, le, lt, eq, span, climb, size, odd}
+use lib.ListN.{length}
 use borrow.Author.Tests.{ltb-false}
 use Rattle.timebase.specs.Time.{cycleIn, cycleOf}
 use Rattle.score_line.specs.declared.Event.{Event}
 use Rattle.score_line.specs.declared.Event.the-variants.{Instr, Control, End, Tempo}
 use Rattle.score_line.specs.declared.Line.{Line}
 use Rattle.players.specs.Lists.{keep, fold, All}
-use Rattle.players.specs.Cycle.{Voices, Core, Note, Started, isDue, earlier, insert, ordered, dueOf, anyEnd, ends, farthest, tempoFrom, lastTempo, mostNotes, joinedBy, startedBy, started, startedIn, born, stepped, capped, withLines}
+use Rattle.players.specs.Cycle.{Voices, Core, Note, Started, isDue, earlier, insert, ordered, dueOf, ends, farthest, tempoFrom, lastTempo, mostNotes, joinedBy, startedBy, started, startedIn, born, stepped, capped}
 use Rattle.players.specs.Plain.{startingTempo}
-use Rattle.players.proofs.Lists.{cond-true, cond-false, length-keep, all-keep}
+use Rattle.players.proofs.Lists.{length-keep, all-keep}
 
 -- a tempo of at least 1: 1,024 ticks a cycle or more
 abbrev pub steady : Event → Type 0

@@ -1,19 +1,17 @@
 -- Lines that are not due yet commute with a cycle: a core with such lines behind its own steps as the core does, and they still wait.
-use mathlib.Core.Path.{_≡_, refl, sym, ap, _∙_}
-use mathlib.Core.Bool.{Bool, true, false, not, _||_}
+use mathlib.Core.Path.{_≡_, refl, ap, _∙_}
+use mathlib.Core.Bool.{Bool, false, not, _||_}
 use mathlib.Core.List.{List, [], _∷_, _++_, append-assoc, append-nil}
-use Prim.Native.Nat.{ℕ, _+_, _≤_, _<_}
+use Prim.Native.Nat.{ℕ, _+_, _≤_}
 use native.Mathlib.Omega.{arith}
-use lib.Dec.{ltb, leb}
-use lib.IntN.{ℤ}
-use lib.Ieee.{Float}
+use lib.Dec.{ltb}
 use borrow.Author.Tests.{lt-leb}
 use Rattle.timebase.specs.Time.{ticksIn, cycleIn}
 use Rattle.score_line.specs.declared.When.{When}
 use Rattle.score_line.specs.declared.When.the-variants.{Timed, Untimed}
 use Rattle.score_line.specs.declared.Line.{Line}
-use Rattle.players.specs.Lists.{keep, fold, All}
-use Rattle.players.specs.Cycle.{Voices, Core, Note, Started, Band, dueWhen, isDue, ordered, dueOf, anyEnd, ends, farthest, lastTempo, started, startedIn, controlled, runAll, limited, bandOf, blockOf, goesOn, stepped, withLines}
+use Rattle.players.specs.Lists.{keep, All}
+use Rattle.players.specs.Cycle.{Voices, Core, dueWhen, isDue, ordered, dueOf, anyEnd, ends, farthest, lastTempo, started, startedIn, controlled, runAll, limited, bandOf, blockOf, goesOn, stepped, withLines}
 use Rattle.players.specs.History.{above}
 use Rattle.players.proofs.Lists.{cond-true, cond-false, keep-append}
 

@@ -1,17 +1,16 @@
 -- Lines taken after a cycle that answered 0 are above its position, since the plain player's position never falls.
-use mathlib.Core.Path.{_≡_, refl, subst⁻¹}
+use mathlib.Core.Path.{_≡_, subst⁻¹}
 use mathlib.Core.Bool.{Bool, true, false, _&&_, cond}
-use mathlib.Core.List.{List, [], _∷_, _++_}
-use Prim.Native.Nat.{ℕ, suc, zero, _≤_, _<_}
+use mathlib.Core.List.{List, [], _∷_}
+use Prim.Native.Nat.{ℕ, suc, zero, _≤_}
 use native.Mathlib.Omega.{arith}
 use native.Mathlib.Decide.{decLe}
 use native.Mathlib.Nat.{le-trans, le-refl}
 use lib.Dec.{eqb}
 use Rattle.score_line.specs.declared.Line.{Line}
-use Rattle.players.specs.Lists.{All}
 use Rattle.players.specs.Cycle.{Voices, Core, ends, stepped, stopped}
 use Rattle.players.specs.Plain.{plainStep, plainAt}
-use Rattle.players.specs.History.{Call, After, Entrances, Last, none, at, numbered, counted, brought, taken, lastAfter, above, inTime, InTime}
+use Rattle.players.specs.History.{Call, Entrances, at, numbered, counted, brought, taken, inTime, InTime}
 use Rattle.players.proofs.Lists.{all-append, all-map}
 use Rattle.players.proofs.Join.{AllAbove, above-weaken}
 

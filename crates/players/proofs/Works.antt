@@ -8,7 +8,7 @@ use lib.ListN.{length}
 use lib.Dec.{eqb}
 use Rattle.score_line.specs.declared.Line.{Line}
 use Rattle.players.specs.Cycle.{Voices, Core, samples, ends, stepped, stopped, blockOf, withLines, capped}
-use Rattle.players.specs.History.{Call, stick, unit, keypad, cycle, After, Entrances}
+use Rattle.players.specs.History.{Call, stick, unit, keypad, cycle, Entrances}
 use Rattle.players.proofs.Count.{AllSteady}
 
 -- a line call that answers `answer`: the lines go in behind the others, or nothing changes

@@ -1,7 +1,7 @@
 -- All that an instrument declares, as one list of names.
 use Prim.Native.Nat.{ℕ}
-use mathlib.Core.Path.{_≡_, refl, sym, ap, _∙_}
-use mathlib.Core.List.{List, [], _∷_, _++_, map, append-assoc}
+use mathlib.Core.Path.{_≡_, refl, ap, _∙_}
+use mathlib.Core.List.{List, [], _∷_, _++_, append-assoc}
 use Rattle.syntax.specs.Tree.{Declaration, Instrument, fieldKind}
 use Rattle.syntax.specs.Program.{Ins, insArg, actOf, instrOp, code, declare, declared, instrument}
 use Rattle.syntax.specs.Names.{Named, named, namedBy, namesOf}

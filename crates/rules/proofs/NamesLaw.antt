@@ -1,5 +1,5 @@
 -- The pass over the program of a tree says whether the tree keeps the name rules.
-use Prim.Native.Nat.{ℕ, zero, suc, _+_, _≤_, _<_}
+use Prim.Native.Nat.{ℕ, suc, _+_, _≤_}
 use native.Mathlib.Omega.{arith}
 use native.Mathlib.Nat.{zero-add, add-zero}
 use mathlib.Core.Path.{_≡_, refl, sym, ap, _∙_}
@@ -9,10 +9,10 @@ use lib.ListN.{length, length-append}
 use lib.Dec.{leb, ltb}
 use borrow.Author.Tests.{le-leb, lt-leb, ltb-true, ltb-false}
 use Rattle.syntax.specs.Tree.{Expr, number, name, unary, binary, choose, Statements, done, assign, output, branch, Instrument}
-use Rattle.syntax.specs.Program.{Ins, ins, insArg, actOf, nameOp, storeOp, chooseOp, outputOp, ifOp, elseOp, endOp, instrOp, compile, code, instrument, program}
-use Rattle.syntax.specs.Names.{Named, namesOf, symbolOf, symbols, has, apart, distinct, knownIn, known, namesKept, eachKept, titleOf, nameRules}
+use Rattle.syntax.specs.Program.{Ins, ins, insArg, actOf, storeOp, chooseOp, outputOp, ifOp, elseOp, endOp, instrOp, compile, code, instrument, program}
+use Rattle.syntax.specs.Names.{Named, namesOf, symbols, has, apart, distinct, knownIn, known, namesKept, eachKept, titleOf, nameRules}
 use Rattle.syntax.specs.declared.Act.{Act}
-use Rattle.syntax.specs.declared.Act.the-variants.{Value, Name, Store, Output, If, Else, End, Declare, Instr}
+use Rattle.syntax.specs.declared.Act.the-variants.{Value, Store, Output, If, Else, End, Declare, Instr}
 use Rattle.rules.specs.Naming.{lawful, namesAfter, titlesAfter, namesFrom, namesPass}
 use Rattle.rules.specs.Formed.{FormedIn, Formed, FormedKinds, FormedAll, opsOf, argsOf}
 use Rattle.rules.proofs.Declaring.{declareAll, Kinds, instrument-is, kinds-of}

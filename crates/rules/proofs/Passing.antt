@@ -12,9 +12,9 @@ use Rattle.syntax.specs.Program.{actOf}
 use Rattle.syntax.specs.Names.{Named}
 use Rattle.syntax.specs.declared.Act.{Act}
 use Rattle.syntax.specs.declared.Act.the-variants.{Value, Name, Store, Output, If, Else, End, Declare, Instr}
-use lib.Dec.{leb, ltb}
+use lib.Dec.{leb}
 use Rattle.rules.specs.Naming.{lawful, namesAfter, titlesAfter, placedName, namesFrom, placedFrom, namesPass, placesPass}
-use Rattle.rules.specs.Rating.{rates, guard, entered, left, ratesLawful, ratesAfter, ratesFrom, ratesPass}
+use Rattle.rules.specs.Rating.{rates, guard, entered, ratesLawful, ratesAfter, ratesFrom, ratesPass}
 use Rattle.rules.specs.Table.{ownOf, own}
 use Rattle.rules.specs.declared.Rates.{Rates}
 

@@ -1,20 +1,19 @@
 -- The pass that puts names by their places gives the program of the tree whose names are put by their places.
-use Prim.Native.Nat.{ℕ, zero, suc, _+_, _≤_, _<_}
+use Prim.Native.Nat.{ℕ, _+_, _≤_}
 use native.Mathlib.Omega.{arith}
 use mathlib.Core.Path.{_≡_, refl, sym, ap, _∙_}
 use mathlib.Core.List.{List, [], _∷_, _++_, map, append-assoc}
-use mathlib.Core.Bool.{Bool, true, false, not, _&&_, cond}
-use lib.ListN.{length, length-append}
-use lib.Dec.{leb, ltb}
-use lib.Ieee.{Float}
+use mathlib.Core.Bool.{Bool, true, false, _&&_}
+use lib.ListN.{length}
+use lib.Dec.{leb}
 use borrow.Author.Tests.{lt-ltb, leb-true}
 use Rattle.syntax.specs.Tree.{Expr, number, name, unary, binary, choose, Statements, done, assign, output, branch, Instrument}
-use Rattle.syntax.specs.Program.{Ins, ins, insArg, actOf, nameOp, storeOp, chooseOp, outputOp, ifOp, elseOp, endOp, instrOp, compile, code, instrument, program}
+use Rattle.syntax.specs.Program.{Ins, ins, insArg, actOf, nameOp, storeOp, chooseOp, outputOp, ifOp, elseOp, endOp, instrOp, compile, code, program}
 use Rattle.syntax.specs.Names.{Named, namesOf, symbols, distinct, known, namesKept, eachKept, titleOf, nameRules, place, putIn, put, placed}
 use Rattle.syntax.specs.declared.Act.{Act}
-use Rattle.syntax.specs.declared.Act.the-variants.{Value, Name, Store, Output, If, Else, End, Declare, Instr}
+use Rattle.syntax.specs.declared.Act.the-variants.{Value, Store, Output, If, Else, End, Declare, Instr}
 use Rattle.rules.specs.Naming.{namesAfter, placedName, placedFrom, placesPass}
-use Rattle.rules.specs.Formed.{FormedIn, Formed, FormedKinds, FormedAll, opsOf, argsOf, valsOf}
+use Rattle.rules.specs.Formed.{FormedIn, Formed, FormedAll, opsOf, argsOf, valsOf}
 use Rattle.rules.proofs.Declaring.{declareAll, Kinds, instrument-is, kinds-of}
 use Rattle.rules.proofs.NamesLaw.{length-end, append-none}
 

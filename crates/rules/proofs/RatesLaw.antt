@@ -1,20 +1,20 @@
 -- The pass over the program of a placed tree says whether the tree keeps the rate rules.
-use Prim.Native.Nat.{ℕ, zero, suc, _+_, _-_, _*_, _/_, _%_, _≤_, _<_, max}
+use Prim.Native.Nat.{ℕ, suc, _+_, _-_, _*_, _≤_, _<_, max}
 use native.Mathlib.Omega.{arith}
-use mathlib.Core.Path.{_≡_, refl, sym, ap, ap₂, _∙_, subst}
+use mathlib.Core.Path.{_≡_, refl, sym, ap, ap₂, _∙_}
 use mathlib.Core.List.{List, [], _∷_, _++_, map, append-assoc}
-use mathlib.Core.Bool.{Bool, true, false, not, _&&_, cond, and-assoc}
+use mathlib.Core.Bool.{Bool, true, false, _&&_, cond, and-assoc}
 use lib.ListN.{length}
 use lib.Dec.{leb, ltb, eqb}
-use borrow.Author.Tests.{le-leb, lt-leb, lt-ltb, le-ltb, ltb-true, ltb-false, leb-true, leb-false}
+use borrow.Author.Tests.{le-leb, lt-ltb, ltb-false, leb-true, leb-false}
 use Rattle.syntax.specs.Tree.{Expr, number, name, unary, binary, choose, Statements, done, assign, output, branch, Instrument}
-use Rattle.syntax.specs.Program.{Ins, ins, insArg, actOf, nameOp, numberOp, storeOp, chooseOp, outputOp, ifOp, elseOp, endOp, instrOp, compile, code, instrument, program}
-use Rattle.syntax.specs.Names.{Named, namesOf, namesKept, eachKept, nameRules, rateOfKind, placeFrom, place, putIn, put, placed}
+use Rattle.syntax.specs.Program.{Ins, ins, insArg, actOf, storeOp, chooseOp, outputOp, ifOp, elseOp, endOp, instrOp, compile, code, program}
+use Rattle.syntax.specs.Names.{Named, namesOf, namesKept, eachKept, nameRules, rateOfKind, placeFrom, putIn, put, placed}
 use Rattle.syntax.specs.Rates.{rateOf, rate, ratesKept, rateRules}
 use Rattle.syntax.specs.declared.Act.{Act}
-use Rattle.syntax.specs.declared.Act.the-variants.{Value, Name, Store, Output, If, Else, End, Declare, Instr}
-use Rattle.rules.specs.Rating.{rates, guard, entered, left, ratesLawful, ratesAfter, ratesFrom, ratesPass}
-use Rattle.rules.specs.Formed.{FormedIn, Formed, FormedKinds, FormedAll, opsOf, argsOf}
+use Rattle.syntax.specs.declared.Act.the-variants.{Value, Store, Output, If, Else, End, Declare, Instr}
+use Rattle.rules.specs.Rating.{rates, entered, ratesLawful, ratesAfter, ratesFrom, ratesPass}
+use Rattle.rules.specs.Formed.{FormedIn, Formed, FormedAll, opsOf, argsOf}
 use Rattle.rules.specs.declared.Rates.{Rates}
 use Rattle.rules.proofs.Declaring.{declareAll, Kinds, instrument-is, kinds-of}
 use Rattle.rules.proofs.PlacesLaw.{and-left, and-right, at-most-16, each-kept}

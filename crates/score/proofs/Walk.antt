@@ -1,5 +1,5 @@
 -- The cursor passes exactly the lines of an accepted score. Assumes nothing.
-use Prim.Native.Nat.{ℕ, zero, suc, _-_, _<_}
+use Prim.Native.Nat.{ℕ, zero, suc, _-_}
 use mathlib.Core.Path.{_≡_, refl, sym, ap, ap₂, _∙_, subst}
 use mathlib.Core.Bool.{Bool, true, false, cond}
 use mathlib.Core.List.{List, [], _∷_}
@@ -9,7 +9,7 @@ use lib.Dec.{eqb}
 use lib.ListN.{length}
 use Rattle.answer.specs.declared.Answer.{Answer}
 use Rattle.answer.specs.declared.Answer.the-variants.{Taken, CutShort, NotCarried, LeftOver}
-use Rattle.answer.specs.Numbers.{isTaken, numberOf}
+use Rattle.answer.specs.Numbers.{isTaken}
 use Rattle.bitstream.specs.Reads.{readAt}
 use Rattle.bitstream.specs.Filling.{filled}
 use Rattle.bitstream.specs.declared.Got.{Got}
@@ -19,9 +19,8 @@ use Rattle.score_line.specs.Reading.{Read, got, refused, lineFrom, lineAt, line
 use Rattle.score_line.specs.declared.Fault.{Fault}
 use Rattle.score_line.specs.declared.Line.{Line}
 use Rattle.score_line.specs.declared.LineRead.{LineRead}
-use Rattle.score.specs.Score.{Lines, all, faulty, before, lineThen, linesFrom, Score, taken, refusedScore, ended, counted, scoreOf, startOf, firstOf, stepOf, nextOf, walked, Ahead, wholeLine, opened, unitOf}
+use Rattle.score.specs.Score.{Lines, all, faulty, before, lineThen, linesFrom, Score, taken, refusedScore, ended, counted, scoreOf, startOf, firstOf, nextOf, walked, Ahead, wholeLine, opened, unitOf}
 use Rattle.score.specs.declared.Cursor.{Cursor}
-use Rattle.score.specs.declared.Step.{Step}
 use Rattle.score.proofs.Ways.{fault-not-taken, whole-refused}
 
 -- ---- an accepted score's parts

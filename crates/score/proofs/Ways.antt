@@ -1,13 +1,12 @@
 -- One law for each way through the readers of scores and units. Assumes nothing.
 use Prim.Native.Nat.{ℕ, zero, suc, _+_, _-_, _<_, _≤_}
-use mathlib.Core.Path.{_≡_, refl, sym, ap, ap₂, _∙_, subst}
+use mathlib.Core.Path.{_≡_, refl, sym, ap, ap₂, _∙_}
 use mathlib.Core.Bool.{Bool, true, false, cond}
 use mathlib.Core.List.{List, [], _∷_}
 use native.Mathlib.Numerals.{add-one}
 use native.Mathlib.Omega.{arith}
 use borrow.Author.Tests.{eq-eqb, ne-eqb}
 use Rattle.answer.specs.Numbers.{isTaken}
-use Rattle.answer.specs.declared.Answer.{Answer}
 use Rattle.answer.specs.declared.Answer.the-variants.{Taken, CutShort, NotCarried, LeftOver}
 use Rattle.bitstream.specs.Reads.{readAt}
 use Rattle.bitstream.specs.Filling.{filled}
@@ -22,7 +21,6 @@ use Rattle.score_line.specs.declared.LineRead.{LineRead}
 use Rattle.score.specs.Score.{Lines, all, faulty, before, lineThen, linesFrom, taken, refusedScore, ended, counted, scoreOf, heard, startOf, firstOf, stepOf, nextOf, wholeLine, opened, unitOf}
 use Rattle.score.specs.declared.ScoreRead.{ScoreRead}
 use Rattle.score.specs.declared.Cursor.{Cursor}
-use Rattle.score.specs.declared.Step.{Step}
 
 -- ---- one line
 

@@ -5,11 +5,11 @@ use mathlib.Core.Bool.{Bool, true, false, cond}
 use mathlib.Core.List.{List}
 use native.Mathlib.Omega.{arith}
 use borrow.Author.Tests.{leb-true, lt-ltb, le-ltb, le-leb, lt-leb, eq-eqb, ne-eqb}
-use lib.Dec.{eqb, leb, ltb}
+use lib.Dec.{eqb, leb}
 use lib.ListN.{length, getD}
 use mir.Val.{Fits}
 use mir.Syntax.{w16}
-use lib.Ieee.{Float, binary32, ofBits}
+use lib.Ieee.{Float}
 use Rattle.bitstream.specs.Bits.{bitsOf}
 use Rattle.bitstream.specs.Reads.{readAt}
 use Rattle.bitstream.specs.declared.Got.{Got}
@@ -20,7 +20,7 @@ use Rattle.timebase.specs.declared.Checked.{Checked}
 use Rattle.timebase.specs.declared.Checked.the-variants as range-check
 use Rattle.timebase.proofs.Laws.{checked-in, checked-out}
 use Rattle.score_line.specs.Source.{Source, sourceOf, bitSource, keypadSource}
-use Rattle.score_line.specs.Reading.{Read, got, refused, andThen, numberIs, realIs, whenIs, labelIs, eventIs, inRange, numberFrom, smallFrom, flagFrom, symbolFrom, floatFrom, timedFrom, whenFrom, labelFrom, instrFrom, labelledFrom, controlFrom, tempoFrom, eventFrom}
+use Rattle.score_line.specs.Reading.{Read, got, refused, andThen, numberIs, realIs, labelIs, inRange, numberFrom, smallFrom, floatFrom, timedFrom, whenFrom, labelFrom, instrFrom, labelledFrom, controlFrom, tempoFrom, eventFrom}
 use Rattle.score_line.specs.declared.When.{When}
 use Rattle.score_line.specs.declared.When.the-variants.{Timed, Untimed}
 use Rattle.score_line.specs.declared.Label.{Label}
@@ -28,7 +28,7 @@ use Rattle.score_line.specs.declared.Label.the-variants.{Unlabelled, Lab
 use Rattle.score_line.specs.declared.Event.{Event}
 use Rattle.score_line.specs.declared.Event.the-variants.{Instr, Control, End, Tempo}
 use Rattle.score_line.specs.declared.Fault.{Fault}
-use Rattle.score_line.specs.declared.Fault.the-variants.{CutShort, NotCarried, OutOfRange, TooManyValues}
+use Rattle.score_line.specs.declared.Fault.the-variants.{CutShort, NotCarried, OutOfRange}
 use Rattle.score_line.specs.declared.Range.{Range}
 use Rattle.score_line.specs.declared.Range.the-variants as range
 use Rattle.score_line.specs.declared.Number.{Number}

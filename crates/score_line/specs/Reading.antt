@@ -1,6 +1,6 @@
 -- Reading a line, field by field, from any source: document 01's fields, ranges and faults. Definitions only.
 use Prim.Native.Nat.{ℕ, zero, suc, _-_, _+_}
-use mathlib.Core.Bool.{Bool, true, false, cond}
+use mathlib.Core.Bool.{Bool, false, cond}
 use mathlib.Core.List.{List, [], _∷_, _++_}
 use lib.ListN.{length, replicate}
 use lib.Dec.{eqb, leb, ltb}

@@ -1,15 +1,13 @@
 -- The round trips of whole scores and units, and document 01's worked score. Assumes nothing.
-use Prim.Native.Nat.{ℕ, _+_, _*_, _%_, _^_, _<_, _≤_}
-use mathlib.Core.Path.{_≡_, refl, sym, ap, ap₂, _∙_, subst}
-use mathlib.Core.Bool.{Bool, true, false}
-use mathlib.Core.List.{List, [], _∷_}
+use Prim.Native.Nat.{ℕ, _+_, _%_}
+use mathlib.Core.Path.{_≡_, refl, sym, ap, _∙_}
+use mathlib.Core.Bool.{Bool}
+use mathlib.Core.List.{List}
 use native.Mathlib.Omega.{arith}
 use lib.Dec.{T}
-use lib.Ieee.{binary32, ofBits, toBits}
-use lib.ListN.{length, getD}
-use Rattle.answer.specs.declared.Answer.{Answer}
+use lib.Ieee.{ofBits, toBits}
+use lib.ListN.{length}
 use Rattle.answer.specs.declared.Answer.the-variants.{Taken}
-use Rattle.answer.specs.Numbers.{isTaken}
 use Rattle.bitstream.specs.Bits.{bitsOf, bit, field, valueOf}
 use Rattle.bitstream.specs.Filling.{filledUp, bytesFrom, bytesOf}
 use Rattle.bitstream.proofs.Laws.{length-bitsOf}
@@ -19,11 +17,11 @@ use Rattle.score_line.specs.declared.Line.{Line}
 use Rattle.score_line.specs.declared.LineRead.{LineRead}
 use Rattle.line_writer.specs.Fields.{whenBefore, eventBefore, valueFields, lineFields, fieldBits, lineBefore, lineBits}
 use Rattle.line_writer.specs.Lawful.{lawful}
-use Rattle.score.specs.Score.{Score, taken, scoreOf, unitOf}
+use Rattle.score.specs.Score.{Score, scoreOf, unitOf}
 use Rattle.score.proofs.Walk.{answered}
-use Rattle.score_writer.specs.Writing.{linesBits, scoreBits, scoreBytes, unitBits, unitBytes, mostLines, allLawful}
-use Rattle.score_writer.specs.Claims.{Bytes, ScoreReadBack, ScoreOfBytes, ScoreWrittenBack, BytesTellScores, UnitRead, UnitReadBack, UnitWrittenBack, BytesTellUnits, Example, endAtBeat1}
-use Rattle.score_writer.proofs.Whole.{score-here, whole-bytes, Score-back, score-back, unit-here, whole-unit, Unit-back, unit-back}
+use Rattle.score_writer.specs.Writing.{linesBits, scoreBits, scoreBytes, unitBits, unitBytes}
+use Rattle.score_writer.specs.Claims.{ScoreReadBack, ScoreWrittenBack, BytesTellScores, UnitReadBack, UnitWrittenBack, BytesTellUnits, Example}
+use Rattle.score_writer.proofs.Whole.{score-here, whole-bytes, score-back, unit-here, whole-unit, unit-back}
 
 pub score-read-back : ScoreReadBack
 unfolding scoreBytes

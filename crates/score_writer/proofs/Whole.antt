@@ -1,35 +1,30 @@
 -- Whole scores and units, written and read: each undoes the other. Assumes nothing.
-use Prim.Native.Nat.{ℕ, zero, suc, _+_, _-_, _*_, _%_, _^_, _<_, _≤_}
-use mathlib.Core.Path.{_≡_, refl, sym, ap, ap₂, _∙_, subst}
-use mathlib.Core.Bool.{Bool, true, false, cond}
-use mathlib.Core.List.{List, [], _∷_, _++_, append-assoc, append-nil}
-use native.Mathlib.Nat.{add-assoc, zero-add, add-zero}
+use Prim.Native.Nat.{ℕ, zero, suc, _+_, _-_, _*_, _%_, _<_, _≤_}
+use mathlib.Core.Path.{_≡_, refl, sym, ap, _∙_, subst}
+use mathlib.Core.Bool.{Bool, false, cond}
+use mathlib.Core.List.{List, [], _∷_, _++_, append-assoc}
+use native.Mathlib.Nat.{add-assoc, add-zero}
 use native.Mathlib.Omega.{arith}
-use lib.ListN.{length, getD, take, drop, replicate, length-append, length-replicate, length-drop}
+use lib.ListN.{length, drop, replicate, length-append, length-drop}
 use lib.Dec.{T}
 use lib.Ieee.Fits.{and-l, and-r, and-i}
 use lib.Seq.{drop-at, drop-drop}
-use Rattle.answer.specs.declared.Answer.{Answer}
-use Rattle.answer.specs.declared.Answer.the-variants.{Taken, CutShort, NotCarried, LeftOver}
-use Rattle.answer.specs.Numbers.{isTaken}
-use Rattle.bitstream.specs.Bits.{field, bitsOf}
+use Rattle.answer.specs.declared.Answer.the-variants.{LeftOver}
+use Rattle.bitstream.specs.Bits.{field}
 use Rattle.bitstream.specs.Fields.{farthest, put}
-use Rattle.bitstream.specs.Reads.{readAt}
-use Rattle.bitstream.specs.Filling.{filled, missing, filledUp, bytesOf}
-use Rattle.bitstream.specs.declared.Got.{Got}
-use Rattle.bitstream.specs.declared.Got.the-variants.{Value, Short}
-use Rattle.bitstream.proofs.Laws.{length-field, length-bitsOf}
-use Rattle.bitstream.proofs.Fields.{read-here, read-back, Read}
-use Rattle.bitstream.proofs.Filling.{filled-back, filled-here, filled-up, length-filledUp, bitsOf-bytesOf, bytesOf-bitsOf}
+use Rattle.bitstream.specs.Filling.{missing, filledUp}
+use Rattle.bitstream.proofs.Laws.{length-field}
+use Rattle.bitstream.proofs.Fields.{read-here, read-back}
+use Rattle.bitstream.proofs.Filling.{filled-back, filled-here, filled-up, length-filledUp}
 use Rattle.score_line.specs.Source.{bitSource}
-use Rattle.score_line.specs.Reading.{Read as Reading, got, refused, lineFrom, lineAt, lineRead, refusedLine}
+use Rattle.score_line.specs.Reading.{Read as Reading, got, lineFrom, lineAt, lineRead, refusedLine}
 use Rattle.score_line.specs.declared.Line.{Line}
 use Rattle.line_writer.specs.Fields.{lineBits}
 use Rattle.line_writer.specs.Lawful.{lawful}
 use Rattle.line_writer.proofs.Proved.{read-taken, line-long, before-append, line-here as bits-here, line-back-here}
-use Rattle.score_writer.specs.Writing.{linesBits, scoreBits, scoreBytes, unitBits, unitBytes, mostLines, allLawful}
-use Rattle.score.specs.Score.{Lines, all, faulty, before, lineThen, linesFrom, taken, scoreOf, unitOf, opened, wholeLine}
-use Rattle.score.proofs.Walk.{Accepted, accepted, accepts, More, lines-back, Unit-accepted, unit-accepted}
+use Rattle.score_writer.specs.Writing.{linesBits, scoreBits, unitBits, mostLines, allLawful}
+use Rattle.score.specs.Score.{all, before, lineThen, linesFrom, taken, scoreOf, unitOf, opened, wholeLine}
+use Rattle.score.proofs.Walk.{accepted, accepts, lines-back, unit-accepted}
 
 pub record Back (l : List Bool) (at : ℕ) (x : Line) (p : ℕ) : Type 0 where
   pub here : drop at l ≡ lineBits x ++ drop p l

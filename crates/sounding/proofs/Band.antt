@@ -2,7 +2,7 @@
 use mathlib.Core.Path.{_≡_, refl, sym, ap, _∙_}
 use mathlib.Core.Bool.{Bool, true, false, cond, _&&_}
 use mathlib.Core.List.{List, [], _∷_, _++_}
-use Prim.Native.Nat.{ℕ, suc, _+_, _≤_, _<_}
+use Prim.Native.Nat.{ℕ, suc, _+_, _<_}
 use native.Mathlib.Omega.{arith}
 use native.Mathlib.Numerals.{add-one}
 use lib.Dec.{eqb}
@@ -14,9 +14,9 @@ use Rattle.score_line.specs.declared.Event.{Event}
 use Rattle.score_line.specs.declared.Event.the-variants.{Instr, Control, End, Tempo}
 use Rattle.score_line.specs.declared.Line.{Line}
 use Rattle.players.specs.Lists.{each, fold, keep}
-use Rattle.players.specs.Cycle.{Voices, Ran, Band, born, joinedBy, startedBy, withState, runFrom, controlledBy, controlEvent, controlled, goesOn}
+use Rattle.players.specs.Cycle.{Band, born, joinedBy, startedBy, withState, runFrom, controlledBy, controlEvent, controlled, goesOn}
 use Rattle.players.specs.Cycle as cycle
-use Rattle.synth.specs.Passes.{stretch, once, sums, played}
+use Rattle.synth.specs.Passes.{sums, played}
 use Rattle.synth.specs.declared.Note.{Note}
 use Rattle.sounding.specs.Voices.{Held, instrumentIn, foundIn, voices, birthOf, ranValues, ranMixOf, named, noteOf, structOf, notesIn, bandIn, bornNote, controlledNote, controlledIn, controlsIn, controlledAll, kNote, ranNote, ranMix, goesOnIn}
 use Rattle.synth.specs.Notes.{withValues}

@@ -1,18 +1,18 @@
 -- Laws for the loops and the notes, one for each way through the code.
 use mathlib.Core.Path.{_≡_, refl, sym, ap, _∙_}
-use mathlib.Core.Bool.{Bool, true, false, cond, _&&_}
-use mathlib.Core.List.{List, [], _∷_, _++_, append-nil}
+use mathlib.Core.Bool.{true, false, cond}
+use mathlib.Core.List.{List, [], _∷_, _++_}
 use Prim.Native.Nat.{ℕ, zero, suc, _+_, _≤_, _<_, min}
 use native.Mathlib.Omega.{arith}
 use native.Mathlib.Numerals.{add-one}
 use native.Mathlib.Nat.{le-of-suc-le-suc}
-use lib.Dec.{eqb, ltb}
+use lib.Dec.{eqb}
 use lib.Ieee.{Float}
-use lib.ListN.{length, take, drop, getD, set, length-take, length-set, length-drop}
+use lib.ListN.{length, take, drop, getD, set, length-take}
 use lib.Seq.{take-suc, take-suc-set, drop-cons, take-all, length-take-le, getD-take}
 use borrow.Author.Tests.{lt-ltb, le-ltb}
 use Rattle.players.specs.Lists.{each}
-use Rattle.players.specs.Cycle.{Started, joinedBy, mostNotes}
+use Rattle.players.specs.Cycle.{joinedBy, mostNotes}
 use Rattle.players.specs.Cycle as cycle
 use Rattle.players.proofs.Lists.{cond-true, cond-false}
 use Rattle.synth.specs.declared.Note.{Note}

@@ -16,7 +16,7 @@ use Rattle.synth.specs.declared.Note.{Note}
 use Rattle.waiting.specs.declared.Fields.{Fields}
 use Rattle.waiting.specs.declared.Fields.the-variants.{Count, NoSuch}
 use Rattle.players.specs.Lists.{each, fold}
-use Rattle.players.specs.Cycle.{Voices, Ran, isLabelled, labelNumber, goesOn}
+use Rattle.players.specs.Cycle.{Voices, isLabelled, labelNumber, goesOn}
 use Rattle.players.specs.Cycle as cycle
 use Rattle.sounding.specs.declared.Instrument.{Instrument}
 use Rattle.sounding.specs.declared.Found.{Found}

@@ -1,6 +1,6 @@
 -- Document 01's rate rules, on trees whose names are put by their places (16 * rate + place; i is 0, k 1 and a 2).
 use Prim.Native.Nat.{ℕ, _/_, _%_, max}
-use mathlib.Core.Bool.{Bool, true, false, _&&_}
+use mathlib.Core.Bool.{Bool, true, _&&_}
 use mathlib.Core.List.{List, [], _∷_}
 use lib.Dec.{leb}
 use Rattle.syntax.specs.Tree.{Expr, number, name, unary, binary, choose, Statements, done, assign, output, branch, Instrument}

@@ -1,18 +1,15 @@
 -- The ways through the functions that measure tokens.
-use Prim.Native.Nat.{ℕ, zero, suc, _+_, _-_, _≤_, _<_}
-use native.Mathlib.Omega.{arith}
+use Prim.Native.Nat.{ℕ, _+_, _-_, _≤_, _<_}
 use native.Mathlib.Numerals.{add-one}
 use native.Mathlib.Nat.{add-zero}
-use mathlib.Core.Path.{_≡_, refl, sym, ap, _∙_}
+use mathlib.Core.Path.{_≡_, refl, sym}
 use mathlib.Core.Bool.{Bool, true, false, _&&_, _||_, cond, and-true, and-false}
-use mathlib.Core.List.{List, []}
 use lib.Dec.{eqb, leb}
-use borrow.Author.Tests.{eq-eqb, ne-eqb, le-leb, lt-leb}
-use Rattle.answer.specs.declared.Answer.{Answer}
+use borrow.Author.Tests.{ne-eqb, le-leb, lt-leb}
 use Rattle.answer.specs.declared.Answer.the-variants.{Taken, BadToken, TooLarge}
 use Rattle.tokens.specs.Bytes.{more}
 use Rattle.tokens.specs.Measures.{opened, since, bracketsKept, stretchesKept}
-use Rattle.tokens.specs.Passes.{found, measure, next, closedOf, finished}
+use Rattle.tokens.specs.Passes.{found, measure, next, closedOf}
 use Rattle.tokens.specs.declared.Measure.{Measure}
 use Rattle.tokens.specs.declared.Found.{Found}
 

@@ -1,19 +1,19 @@
 -- The tokens of bytes and the bytes of tokens undo each other; what is stored gives the tokens back.
-use Prim.Native.Nat.{ℕ, zero, suc, _+_, _*_, _/_, _%_, _^_, _≤_, _<_}
+use Prim.Native.Nat.{ℕ, zero, suc, _+_, _*_, _/_, _%_, _^_, _<_}
 use native.Mathlib.Omega.{arith}
 use native.Mathlib.Nat.{mod-eq-of-lt}
 use mathlib.Core.Path.{_≡_, refl, sym, ap, _∙_, subst}
-use mathlib.Core.Bool.{Bool, true, false, not, _&&_, _||_, cond}
-use mathlib.Core.List.{List, [], _∷_, _++_, map, append-assoc}
-use lib.ListN.{length, getD, take, drop, replicate, length-map}
+use mathlib.Core.Bool.{Bool, true, false, not, _&&_, cond}
+use mathlib.Core.List.{List, [], _∷_, _++_, map}
+use lib.ListN.{length, take, drop, replicate, length-map}
 use lib.Seq.{take-at}
 use lib.Dec.{T, eqb, leb, ltb}
 use lib.Ieee.{Float, nan, inf, fin, binary32, ofBits, toBits, isNan, fits}
 use lib.Ieee.Bits.{ofBits-toBits, toBits-ofBits, toBits-lt}
 use lib.Ieee.Scale.{finite}
-use borrow.Author.Tests.{lt-ltb, le-leb, ltb-true, leb-true, eqb-true, eqb-false, ne-eqb}
+use borrow.Author.Tests.{ltb-true, leb-true, eqb-true, ne-eqb}
 use Rattle.tokens.specs.Token.{zeroF, tokenOf, toks}
-use Rattle.tokens.specs.Bytes.{lawful, allLawful, two, four, spelt, bytesOf, Bytes, twoOf, fourOf, more, tokenFrom, Got, none, some, with, ended, tokensAfter, tokensOf}
+use Rattle.tokens.specs.Bytes.{lawful, allLawful, two, four, spelt, bytesOf, Bytes, more, tokenFrom, Got, none, some, with, ended, tokensAfter, tokensOf}
 use Rattle.tokens.specs.Measures.{kindOf}
 use Rattle.tokens.specs.Reading.{wordOf, realOf, padded}
 use Rattle.tokens.specs.declared.Token.{Token}

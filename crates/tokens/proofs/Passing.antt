@@ -2,7 +2,6 @@
 use Prim.Native.Nat.{ℕ, zero, suc, _+_, _-_, _≤_, _<_}
 use native.Mathlib.Omega.{arith}
 use native.Mathlib.Numerals.{add-one}
-use native.Mathlib.Nat.{add-zero}
 use mathlib.Core.Path.{_≡_, refl, sym, ap, _∙_, subst}
 use mathlib.Core.Bool.{Bool, true, false, not, _&&_, _||_, cond}
 use mathlib.Core.List.{List, [], _∷_}
@@ -10,11 +9,10 @@ use lib.ListN.{length, getD, drop, length-drop, drop-of-length-le}
 use lib.Seq.{drop-cons, drop-drop}
 use lib.Dec.{eqb, leb}
 use borrow.Author.Tests.{eq-eqb, ne-eqb, not-true, not-false}
-use Rattle.answer.specs.declared.Answer.{Answer}
-use Rattle.answer.specs.declared.Answer.the-variants.{Taken, BadToken, TooLarge}
-use Rattle.tokens.specs.Bytes.{Got, none, some, with, ended, lawful, more, tokenFrom, tokensAfter, tokensOf}
+use Rattle.answer.specs.declared.Answer.the-variants.{BadToken}
+use Rattle.tokens.specs.Bytes.{Got, none, some, with, ended, lawful, more, tokensAfter}
 use Rattle.tokens.specs.Measures.{kindOf, opened, since, bracketsKept, stretchesKept}
-use Rattle.tokens.specs.Passes.{standing, found, measure, next, kept, closedOf, finished, start, scanned}
+use Rattle.tokens.specs.Passes.{standing, found, next, closedOf, finished, start, scanned}
 use Rattle.tokens.specs.declared.Token.{Token}
 use Rattle.tokens.specs.declared.Measure.{Measure}
 use Rattle.tokens.specs.declared.Found.{Found}

@@ -1,13 +1,13 @@
 -- The second pass: the tokens go into the arrays one by one.
-use Prim.Native.Nat.{ℕ, zero, suc, _+_, _-_, _≤_, _<_}
+use Prim.Native.Nat.{ℕ, suc, _+_, _-_, _≤_, _<_}
 use native.Mathlib.Omega.{arith}
 use native.Mathlib.Decide.{decLt}
 use native.Mathlib.Numerals.{add-one}
 use native.Mathlib.Nat.{zero-add}
-use mathlib.Core.Path.{_≡_, refl, sym, ap, _∙_, subst}
-use mathlib.Core.Bool.{Bool, true, false, not, _&&_, _||_, cond}
+use mathlib.Core.Path.{_≡_, refl, sym, ap, _∙_}
+use mathlib.Core.Bool.{Bool, true, false, _&&_, cond}
 use mathlib.Core.List.{List, [], _∷_, _++_, map, append-assoc}
-use lib.ListN.{length, getD, take, drop, set, replicate, length-append, length-map, length-set, length-replicate, length-drop, length-take}
+use lib.ListN.{length, getD, take, drop, set, replicate, length-append, length-map, length-replicate, length-drop}
 use lib.Seq.{drop-cons, take-suc, set-at, take-all, length-take-le}
 use lib.Dec.{eqb, leb}
 use lib.Ieee.{Float}
@@ -17,12 +17,11 @@ use Rattle.answer.specs.declared.Answer.{Answer}
 use Rattle.answer.specs.declared.Answer.the-variants.{Taken, BadToken, TooLarge}
 use Rattle.tokens.specs.Token.{zeroF}
 use Rattle.tokens.specs.Bytes.{Got, none, some, with, lawful, more, tokensAfter, tokensOf, tokensIn}
-use Rattle.tokens.specs.Measures.{kindOf, bracketsKept, stretchesKept, measured}
+use Rattle.tokens.specs.Measures.{kindOf, bracketsKept, stretchesKept}
 use Rattle.tokens.specs.Passes.{standing, found, finished, start, scanned}
 use Rattle.tokens.specs.Reading.{wordOf, realOf, padded, stored, judged}
 use Rattle.tokens.specs.declared.Token.{Token}
 use Rattle.tokens.specs.declared.Token.the-variants.{Sign}
-use Rattle.tokens.specs.declared.Tokens.{Tokens}
 use Rattle.tokens.specs.declared.Found.{Found}
 use Rattle.tokens.proofs.Standing.{kind-is}
 use Rattle.tokens.proofs.Passing.{left-next, left-bad, left-end, left-none}

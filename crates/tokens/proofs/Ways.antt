@@ -1,12 +1,11 @@
 -- The ways through token_at: which token three lists hold, by the kind that was found.
 use Prim.Native.Nat.{ℕ, _%_}
-use mathlib.Core.Path.{_≡_, refl}
+use mathlib.Core.Path.{_≡_}
 use mathlib.Core.List.{List}
 use lib.ListN.{getD}
 use lib.Ieee.{Float}
-use borrow.Author.Tests.{eq-eqb, ne-eqb}
+use borrow.Author.Tests.{ne-eqb}
 use Rattle.tokens.specs.Token.{tokenAt, zeroF}
-use Rattle.tokens.specs.declared.Token.{Token}
 use Rattle.tokens.specs.declared.Token.the-variants.{Number, Symbol, Whole, Sign}
 
 module _ (ks ws : List ℕ) (xs : List Float) (i k : ℕ) (e : k ≡ getD ks i 0) where

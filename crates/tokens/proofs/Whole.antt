@@ -5,11 +5,10 @@ use mathlib.Core.Bool.{Bool, true, false, _&&_, cond}
 use mathlib.Core.List.{List, []}
 use native.Mathlib.Nat.{zero-add}
 use lib.ListN.{length}
-use lib.Dec.{eqb, leb}
+use lib.Dec.{leb}
 use borrow.Author.Tests.{lt-ltb, le-ltb}
 use Rattle.answer.specs.Numbers.{isTaken}
-use Rattle.answer.specs.declared.Answer.{Answer}
-use Rattle.answer.specs.declared.Answer.the-variants.{Taken, BadToken, TooLarge}
+use Rattle.answer.specs.declared.Answer.the-variants.{Taken, TooLarge}
 use Rattle.tokens.specs.Bytes.{Got, none, some, tokensOf}
 use Rattle.tokens.specs.Measures.{bracketsKept, stretchesKept}
 use Rattle.tokens.specs.Passes.{found, finished, start, scanned}

@@ -1,14 +1,14 @@
 -- What an admission gives, by its answer.
-use mathlib.Core.Path.{_≡_, refl, sym, ap, _∙_}
+use mathlib.Core.Path.{_≡_, refl, ap, _∙_}
 use mathlib.Core.Bool.{Bool, true, false, cond}
-use mathlib.Core.List.{List, [], _∷_, _++_}
-use Prim.Native.Nat.{ℕ, suc, _+_, _≤_, _<_}
+use mathlib.Core.List.{[], _∷_, _++_}
+use Prim.Native.Nat.{ℕ, _+_, _≤_, _<_}
 use native.Mathlib.Omega.{arith}
 use native.Mathlib.Numerals.{add-one}
 use lib.Dec.{ltb}
-use lib.ListN.{length, take, set, length-set}
+use lib.ListN.{length, length-set}
 use lib.Seq.{take-suc-set}
-use borrow.Author.Tests.{lt-ltb, le-ltb, ltb-true, ltb-false}
+use borrow.Author.Tests.{lt-ltb, le-ltb, ltb-true}
 use Rattle.answer.specs.Numbers.{isTaken}
 use Rattle.answer.specs.declared.Answer.{Answer}
 use Rattle.answer.specs.declared.Answer.the-variants.{Taken, NoInstrument, Late, NoRoom}
@@ -18,7 +18,6 @@ use Rattle.waiting.specs.Waiting.{isLate}
 use Rattle.waiting.specs.Admission.{unfitEvent, mostLines, admission, pushed, admitted, waitingIn}
 use Rattle.waiting.specs.declared.Fields.{Fields}
 use Rattle.waiting.specs.declared.Queue.{Queue}
-use Rattle.waiting.specs.declared.Admitted.{Admitted}
 
 module _ (q : Queue) (l : Line) (f : Fields) where
   by-answer : (a : Answer) → admission q l f ≡ a → admitted q l f ≡ record { queue = cond (isTaken a) (pushed q l) q; answer = a }

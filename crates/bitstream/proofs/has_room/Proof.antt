@@ -1,5 +1,5 @@
 use borrow.Author.Needs.{needs}
-use mathlib.Core.Path.{_≡_, sym}
+use mathlib.Core.Path.{sym}
 use native.Mathlib.Omega.{arith}
 use Rattle.bitstream.proofs.Fields.{room-wide, room-far, room-bytes}
 use Rattle.bitstream.proofs.has_room.Statement.{statement}

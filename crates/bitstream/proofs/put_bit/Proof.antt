@@ -1,12 +1,10 @@
 use borrow.Author.Needs.{needs}
 use Prim.Native.Nat.{ℕ, _+_, _-_, _*_, _/_, _%_, _^_}
 use mathlib.Core.Path.{_≡_, sym, ap, _∙_}
-use mathlib.Core.List.{List}
-use mathlib.Core.Bool.{Bool}
 use native.Mathlib.Omega.{arith}
 use lib.ListN.{getD, set}
 use denote.Ref.{now}
-use Rattle.bitstream.specs.Bits.{bitsOf, bit, digit}
+use Rattle.bitstream.specs.Bits.{bitsOf, bit}
 use Rattle.bitstream.proofs.Laws.{set-bitsOf, withBit, digit-bit}
 use Rattle.bitstream.proofs.put_bit.Statement.{statement}
 use Rattle.bitstream.proofs.put_bit.Tie as tie

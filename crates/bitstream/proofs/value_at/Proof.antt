@@ -1,17 +1,14 @@
-use Prim.Native.Nat.{ℕ, suc, _+_, _-_, _*_, _/_, _%_, _^_, _<_, _≤_}
-use mathlib.Core.Path.{_≡_, refl, sym, ap, ap₂, _∙_, subst}
-use mathlib.Core.Bool.{Bool, false}
+use Prim.Native.Nat.{ℕ, _+_, _-_, _*_, _/_, _%_, _^_, _<_, _≤_}
+use mathlib.Core.Path.{_≡_, refl, sym, ap, _∙_}
 use mathlib.Core.List.{List}
 use native.Mathlib.Nat.{lt-of-lt-of-le}
 use native.Mathlib.Numerals.{add-one}
 use native.Mathlib.Omega.{arith}
-use borrow.Author.Tests.{le-leb, lt-leb}
 use lib.ListN.{length, take, drop, getD, length-drop, length-take}
 use lib.Seq.{length-take-le}
 use lib.Pow.{pow-mono}
 use denote.Ref.{now}
 use Rattle.bitstream.specs.Bits.{bitsOf, valueOf}
-use Rattle.bitstream.specs.Reads.{readAt}
 use Rattle.bitstream.proofs.Laws.{length-bitsOf, valueOf-lt}
 use Rattle.bitstream.proofs.Window.{window-more, value-part, in-window}
 use Rattle.bitstream.proofs.value_at.Statement.{statement}

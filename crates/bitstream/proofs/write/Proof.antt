@@ -1,6 +1,4 @@
 use borrow.Author.Needs.{needs}
-use mathlib.Core.Path.{_≡_, sym}
-use native.Mathlib.Omega.{arith}
 use Rattle.bitstream.proofs.Fields.{room-found, write-none, write-some}
 use Rattle.bitstream.proofs.write.Statement.{statement}
 use Rattle.bitstream.proofs.write.Tie as tie

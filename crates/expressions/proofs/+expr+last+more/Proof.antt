@@ -4,7 +4,6 @@ mod Falling
 mod OfExpr
 mod OfMore
 use Prim.Native.Nat.{ℕ, _+_}
-use borrow.Fn.PlainCycle.{is}
 use Rattle.expressions.proofs.expr.Reads as expr
 use Rattle.expressions.proofs.+expr+last+more.Lts-expr as expr-lts
 use Rattle.expressions.proofs.last.Reads as last
@@ -21,7 +20,7 @@ use Rattle.tokens.specs.Token.{toks}
 use Rattle.syntax.specs.Program.{ins}
 use Rattle.expressions.specs.Reader.{reader, seq, sign}
 use Rattle.expressions.specs.Reader as Reader
-use Rattle.expressions.specs.Areas.{left, gone}
+use Rattle.expressions.specs.Areas.{gone}
 use Rattle.expressions.proofs.Runs.{runs-seq, runs-sign, runs-emit, past-ready, past-place, past-sign, past-passed}
 use Rattle.expressions.proofs.Ways.{past-expr}
 use Rattle.expressions.proofs.+expr+last+more.Proof.Falling.{μ-expr, expr-at, expr-below, μ-last, last-at, μ-more, more-at}

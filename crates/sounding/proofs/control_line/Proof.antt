@@ -1,4 +1,4 @@
-use mathlib.Core.Path.{_≡_, refl}
+use mathlib.Core.Path.{refl}
 use borrow.Author.Needs.{needs}
 use Rattle.sounding.proofs.control_line.Statement.{statement}
 use Rattle.sounding.proofs.control_line.Tie as tie

@@ -1,13 +1,10 @@
 use mathlib.Core.Path.{sym}
 use mathlib.Core.Path.{_≡_, refl, ap, _∙_}
-use mathlib.Core.List.{List}
-use Prim.Native.Nat.{_≤_, _<_, _-_}
+use Prim.Native.Nat.{_≤_, _-_}
 use native.Mathlib.Omega.{arith}
-use borrow.Author.Needs.{needs}
 use lib.ListN.{length, take, length-set, length-map}
 use Rattle.players.specs.Lists.{each}
 use Rattle.players.proofs.Loops.{take-end}
-use Rattle.synth.specs.declared.Note.{Note}
 use Rattle.sounding.specs.Voices.{controlledIn}
 use Rattle.sounding.proofs.Band.{each-step, control-in}
 use Rattle.sounding.proofs.control_notes.Statement.{statement}

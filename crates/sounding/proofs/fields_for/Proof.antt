@@ -1,7 +1,6 @@
 use borrow.Author.Needs.{needs}
-use mathlib.Core.Path.{_≡_, sym, ap, _∙_}
+use mathlib.Core.Path.{sym, ap, _∙_}
 use Rattle.sounding.specs.Voices.{fieldsFound}
-use Rattle.sounding.specs.declared.Found.{Found}
 use Rattle.players.proofs.Lists.{cond-true, cond-false}
 use Rattle.sounding.proofs.fields_for.Statement.{statement}
 use Rattle.sounding.proofs.fields_for.Tie as tie

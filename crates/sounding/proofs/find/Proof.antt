@@ -2,14 +2,12 @@ use mathlib.Core.Bool.{true}
 use lib.Dec.{eqb}
 use Rattle.sounding.proofs.Steps.{get-take, in-take}
 use mathlib.Core.Path.{_≡_, refl, ap, sym, _∙_}
-use Prim.Native.Nat.{_≤_, _<_, _-_, min}
+use Prim.Native.Nat.{_≤_, _-_}
 use native.Mathlib.Omega.{arith}
 use lib.ListN.{length, take, drop, length-take}
-use lib.Seq.{getD-take}
 use borrow.Author.Tests.{eq-eqb, ne-eqb}
 use Rattle.sounding.specs.Voices.{foundIn, blank}
 use Rattle.sounding.specs.declared.Instrument.{Instrument}
-use Rattle.sounding.specs.declared.Found.{Found}
 use Rattle.sounding.proofs.Steps.{found-no, found-yes, found-end}
 use Rattle.sounding.proofs.find.Statement.{statement}
 use Rattle.sounding.proofs.find.Tie as tie

@@ -1,4 +1,3 @@
-use borrow.Author.Needs.{needs}
 use Rattle.players.specs.Cycle.{goesOn}
 use Rattle.sounding.proofs.goes_on.Statement.{statement}
 use Rattle.sounding.proofs.goes_on.Tie as tie

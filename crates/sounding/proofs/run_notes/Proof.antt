@@ -4,13 +4,13 @@ use Rattle.players.specs.Cycle.{Band, runFrom}
 use Rattle.sounding.specs.Voices.{Held, noteOf}
 use mathlib.Core.Path.{_≡_, ap, _∙_}
 use mathlib.Core.List.{List}
-use Prim.Native.Nat.{_≤_, _<_, _-_}
+use Prim.Native.Nat.{_≤_, _-_}
 use native.Mathlib.Omega.{arith}
 use borrow.Author.Needs.{needs}
-use lib.ListN.{length, take}
+use lib.ListN.{take}
 use Rattle.players.proofs.Loops.{take-end}
 use Rattle.synth.specs.declared.Note.{Note}
-use Rattle.sounding.specs.Voices.{voices, notesIn, bandIn}
+use Rattle.sounding.specs.Voices.{voices, notesIn}
 use Rattle.synth.specs.Room.{numbersIn, roomOf}
 use Rattle.sounding.proofs.OneNote.{ran-here, mixed-here}
 use Rattle.sounding.proofs.Band.{Running, running-none, running-step}

@@ -4,7 +4,6 @@ use Rattle.sounding.specs.Voices.{Held, noteOf}
 use mathlib.Core.Path.{_≡_, refl, ap, _∙_}
 use Prim.Native.Nat.{_≤_, _<_, _-_}
 use native.Mathlib.Omega.{arith}
-use borrow.Author.Needs.{needs}
 use lib.ListN.{length, take}
 use Rattle.score_line.specs.declared.Line.{Line}
 use Rattle.players.specs.Lists.{fold}

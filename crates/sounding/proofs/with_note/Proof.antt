@@ -1,7 +1,6 @@
-use mathlib.Core.Path.{_≡_}
 use native.Mathlib.Omega.{arith}
 use borrow.Author.Needs.{needs}
-use lib.ListN.{length, length-map}
+use lib.ListN.{length-map}
 use Rattle.sounding.proofs.Steps.{room, full}
 use Rattle.sounding.proofs.with_note.Statement.{statement}
 use Rattle.sounding.proofs.with_note.Tie as tie

@@ -1,7 +1,6 @@
-use Prim.Native.Nat.{_+_, _-_}
+use Prim.Native.Nat.{_-_}
 use native.Mathlib.Omega.{arith}
 use borrow.Author.Needs.{needs}
-use lib.ListN.{length}
 use Rattle.tokens.proofs.Storing.{Filled, starts, lawful-here, room-left, again, ends}
 use Rattle.tokens.proofs.store.Statement.{statement}
 use Rattle.tokens.proofs.store.Tie as tie

@@ -1,6 +1,5 @@
 -- What is left to show of `expr`.
 use Prim.Native.Nat.{ℕ}
-use borrow.Fn.PlainCycle.{is}
 use Rattle.expressions.proofs.expr.Reads as expr
 use Rattle.expressions.proofs.+expr+last+more.Lts-expr as expr-lts
 use Rattle.expressions.proofs.last.Reads as last
@@ -16,7 +15,7 @@ use Rattle.syntax.specs.Program.{ins}
 use Rattle.expressions.specs.declared.Head.the-variants.{Push, Unary, Open, Call, Call2}
 use Rattle.expressions.specs.Reader.{reader, seq, sign, lastly}
 use Rattle.expressions.specs.Reader as Reader
-use Rattle.expressions.specs.Areas.{left, gone}
+use Rattle.expressions.specs.Areas.{gone}
 use Rattle.expressions.proofs.Toks.{length-toks}
 use Rattle.expressions.proofs.Runs.{runs-seq, runs-sign, runs-emit, past-ready, past-place, past-sign, past-emit}
 use Rattle.expressions.proofs.Ways.{head-in, head-past, past-expr, past-last, expr-as, expr-bad}

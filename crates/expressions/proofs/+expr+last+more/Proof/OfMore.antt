@@ -1,6 +1,5 @@
 -- What is left to show of `more`.
 use Prim.Native.Nat.{ℕ, _+_}
-use borrow.Fn.PlainCycle.{is}
 use Rattle.expressions.proofs.expr.Reads as expr
 use Rattle.expressions.proofs.more.Reads as more
 use Rattle.expressions.proofs.+expr+last+more.Lts-more as more-lts
