@@ -9,14 +9,15 @@ use Rattle.syntax.specs.Tree.{Expr, number, name, unary, binary, choose, Statem
 use Rattle.syntax.specs.Program.{compile, code, instrument, program}
 use Rattle.syntax.specs.Rates.{rateOf, placeOf}
 use Rattle.syntax.specs.Names.{placed as put}
-use Rattle.lowered.specs.Lowered.{after, past, placed, parts, stored, sent, opened, lowered}
+use Rattle.lowered.specs.Lowered.{after, past, placed, partsTo, parts, stored, sent, opened, lowered}
+use Rattle.lowered.proofs.Lengths.{stored-length}
 use Rattle.bounds.specs.Sizes.{bodyAt, allLowered, LoweredFits}
 use Rattle.bounds.proofs.Exprs.{compile-some, length-unary, length-binary, length-choose, length-assign, length-output, length-branch}
 use Rattle.bounds.proofs.Whole.{program-fits, body-length}
 
 -- each operator is an instruction, and names and numbers are none
 pub parts-length : (n d : ℕ) (e : Expr) → length (parts n d e) < length (compile e)
-unfolding parts
+unfolding partsTo
 parts-length n d (number x) = compile-some (number x)
 parts-length n d (name c) = compile-some (name c)
 parts-length n d (unary o e) = simp length-append (omega (arith, parts-length n d e, length-unary o e))
@@ -35,12 +36,12 @@ pub lowered-length : (r n g : ℕ) (t : Statements) → length (lowered r n g t)
 unfolding lowered opened
 lowered-length r n g done = omega arith
 lowered-length r n g (assign c e t) =
-    let w = parts n 0 e ++ stored g (placeOf c) (placed n 0 e) ∷ [] in
+    let w = stored g n (placeOf c) e in
     omega (
       arith,
       length-append (cond (eqb (rateOf c) r) w []) (lowered r (suc (after n e)) g t),
       left-out (eqb (rateOf c) r) w,
-      length-append (parts n 0 e) (stored g (placeOf c) (placed n 0 e) ∷ []),
+      stored-length g n (placeOf c) e,
       parts-length n 0 e,
       lowered-length r (suc (after n e)) g t,
       length-assign c e t,

@@ -18,7 +18,7 @@ use Rattle.float32.specs.Builtins.{truth, flagOf, notOf, bothOf}
 use Rattle.float32.specs.Operators.{unaryOf, binaryOf, selectOf}
 use Rattle.meaning.specs.Meaning.{value, Sounding, sounding, assigned, outputs}
 use Rattle.synth.specs.Run.{kindOf, at, minusZero, State, state, worked, does, step, run}
-use Rattle.lowered.specs.Lowered.{word, guardAt, elseAt, partAt, after, placed, parts, stored, sent, around, opened, turned}
+use Rattle.lowered.specs.Lowered.{guardAt}
 use Rattle.lowered.specs.Statements.{Workable}
 use Rattle.lowered.proofs.Words.{step-word, run-append}
 use Rattle.lowered.proofs.Exprs.{Leaves, leaves, at-inside, getD-same, take-less, placed-small, placed-where}

@@ -5,3 +5,4 @@ pub mod Guards
 pub mod Steps
 pub mod Passing
 pub mod Laws
+pub mod Lengths

@@ -9,19 +9,19 @@ use lib.Seq.{take-set-lt, getD-take, set-getD}
 use lib.Dec.{T, eqb}
 use lib.Ieee.{Float, binary32, add, fits}
 use lib.Ieee.Fits.{add-fits}
-use borrow.Author.Tests.{eqb-true}
+use borrow.Author.Tests.{eqb-true, ne-eqb}
 use Rattle.syntax.specs.Tree.{Expr, Statements, done, assign, output, branch}
 use Rattle.syntax.specs.Program.{zeroF}
 use Rattle.syntax.specs.Rates.{rateOf, placeOf}
 use Rattle.float32.specs.Builtins.{truth}
 use Rattle.meaning.specs.Meaning.{value, Sounding, sounding, assigned, outputs, pass}
 use Rattle.synth.specs.Run.{State, state, step, run}
-use Rattle.lowered.specs.Lowered.{guardAt, elseAt, partAt, after, placed, parts, stored, sent, opened, turned, past, lowered}
+use Rattle.lowered.specs.Lowered.{guardAt, elseAt, partAt, after, placed, parts, selected, stored, sent, opened, turned, past, lowered}
 use Rattle.lowered.specs.Statements.{Workable, Playable}
 use Rattle.lowered.proofs.Words.{run-append}
-use Rattle.lowered.proofs.Exprs.{Leaves, leaves, getD-same, take-less, placed-small, run-last}
+use Rattle.lowered.proofs.Exprs.{Kept, Leaves, leaves, into-sets, getD-same, take-less, placed-small, run-last}
 use Rattle.lowered.proofs.Guards.{sound, holds, Did, holds-kept, nothing, then, other}
-use Rattle.lowered.proofs.Steps.{stored-does, sent-does, placed-off, Opened, opens, Turned, turns}
+use Rattle.lowered.proofs.Steps.{selected-does, sent-does, placed-off, Opened, opens, Turned, turns}
 
 -- a statement that this pass leaves out
 idle : (g : ℕ) (F : Sounding → Sounding) (s : State) → length (s .frame) ≡ 192 → T (fits binary32 (s .sample)) → F (sound s) ≡ sound s → Did g F s s
@@ -34,7 +34,11 @@ idle g F s l h e = record { size = l; fit = h; is = go (holds g (s .frame)); kep
 module _ (vals : List Float) where
   -- ---- after an expression
 
-  module _ (n g : ℕ) (e : Expr) (s s₁ : State) (lg : g ≤ 24) (i : Leaves vals n 0 e s s₁) where
+  -- an expression's parts, ready for the word after them
+  ready : (n : ℕ) (e : Expr) (s : State) → Workable vals n e → length (s .frame) ≡ 192 → Leaves vals n 0 e s (run vals (parts n 0 e) s)
+  ready n e s w l = leaves vals e n 0 s (w .proper) (w .held) (omega (arith, w .deep)) (w .short) l
+
+  module _ (g : ℕ) (s s₁ : State) (lg : g ≤ 24) (i : Kept 0 s s₁) where
     still : take 16 (s₁ .frame) ≡ take 16 (s .frame)
     still = take-less 16 64 (s .frame) (s₁ .frame) (omega arith) (i .kept)
 
@@ -49,7 +53,7 @@ module _ (vals : List Float) where
 
   -- ---- an assignment of this pass
 
-  module _ (r n g c : ℕ) (e : Expr) (s s₁ : State) (rate : eqb (rateOf c) r ≡ true) (lg : g ≤ 24) (ft : T (fits binary32 (s .sample))) (i : Leaves vals n 0 e s s₁) where
+  module _ (r g c : ℕ) (e : Expr) (s s₁ : State) (rate : eqb (rateOf c) r ≡ true) (lg : g ≤ 24) (ft : T (fits binary32 (s .sample))) (i : Kept 0 s s₁) where
     abbrev v : Float
     v = value (take 16 (s .frame)) e
 
@@ -65,27 +69,37 @@ module _ (vals : List Float) where
     assign-is : (b : Bool) → sound (set-to b) ≡ cond b (F (sound s)) (sound s)
     unfolding assigned
     assign-is true =
-        rw rate (λ k. sounding ((take-set-lt 16 (s₁ .frame) to v (omega arith) ∙ ap (λ l. set l to v) (still n g e s s₁ lg i)) k) (i .sample k))
+        rw rate (λ k. sounding ((take-set-lt 16 (s₁ .frame) to v (omega arith) ∙ ap (λ l. set l to v) (still g s s₁ lg i)) k) (i .sample k))
     assign-is false =
         let u = getD (s₁ .frame) to zeroF in
         let q : set (take 16 (s₁ .frame)) to u ≡ take 16 (s₁ .frame) =
         ap (set (take 16 (s₁ .frame)) to) (sym (getD-take 16 (s₁ .frame) to zeroF (omega arith))) ∙ set-getD (take 16 (s₁ .frame)) to zeroF in
-        λ k. sounding ((take-set-lt 16 (s₁ .frame) to u (omega arith) ∙ q ∙ still n g e s s₁ lg i) k) (i .sample k)
+        λ k. sounding ((take-set-lt 16 (s₁ .frame) to u (omega arith) ∙ q ∙ still g s s₁ lg i) k) (i .sample k)
 
     assigns-at : Did g F s (set-to (holds g (s₁ .frame)))
     assigns-at =
-        let h = holds-still n g e s s₁ lg i in
+        let h = holds-still g s s₁ lg i in
         record {
           size = length-set (s₁ .frame) to _ ∙ i .size;
           fit = subst⁻¹ (λ (x : Float). T (fits binary32 x)) (i .sample) ft;
           is = assign-is (holds g (s₁ .frame)) ∙ ap (λ (b : Bool). cond b (F (sound s)) (sound s)) h;
-          kept = λ j a b. other (s₁ .frame) to j _ (λ z. omega arith) ∙ guards-still n g e s s₁ lg i j a b;
+          kept = λ j a b. other (s₁ .frame) to j _ (λ z. omega arith) ∙ guards-still g s s₁ lg i j a b;
         }
 
-    pub assigns : (w : Workable vals n e) → Did g F s (step vals (stored g to (placed n 0 e)) s₁)
-    assigns w =
-        subst⁻¹ (λ (t : State). Did g F s t)
-        (stored-does vals g to (placed n 0 e) v s₁ lg (omega arith) (placed-small n 0 e (omega arith) (w .short)) (i .size) (i .is)) assigns-at
+  -- with no if open the name's place is set at once, with ifs open where the guard holds
+  assigns : (r n g c : ℕ) (e : Expr) (s : State) → eqb (rateOf c) r ≡ true → g ≤ 24 → T (fits binary32 (s .sample)) → Workable vals n e → length (s .frame) ≡ 192
+      → Did g (λ (x : Sounding). assigned r c (value (x .values) e) x) s (run vals (stored g n (placeOf c) e) s)
+  unfolding stored holds
+  assigns r n zero c e s q lg ft w l =
+      let i = into-sets vals e n (placeOf c) s (w .proper) (w .held) (w .deep) (omega arith) (w .short) l in
+      subst⁻¹ (λ (t : State). Did 0 (λ (x : Sounding). assigned r c (value (x .values) e) x) s t) (i .is) (assigns-at r 0 c e s (i .before) q lg ft (i .still))
+  assigns r n (suc g) c e s q lg ft w l =
+      let i = ready n e s w l in
+      rw (ne-eqb (suc g) 0 (λ z. omega arith))
+      (subst⁻¹ (λ (t : State). Did (suc g) (λ (x : Sounding). assigned r c (value (x .values) e) x) s t)
+      (run-last vals (parts n 0 e) (selected (suc g) (placeOf c) (placed n 0 e)) s _ refl
+      ∙ selected-does vals g (placeOf c) (placed n 0 e) _ _ lg (omega arith) (placed-small n 0 e (omega arith) (w .short)) (i .still .size) (i .is))
+      (assigns-at r (suc g) c e s _ q lg ft (i .still)))
 
   -- ---- an output of the a pass
 
@@ -101,25 +115,25 @@ module _ (vals : List Float) where
 
     send-is : (b : Bool) → sound (sent-to b) ≡ cond b (G (sound s)) (sound s)
     unfolding outputs
-    send-is true = λ k. sounding (still n g e s s₁ lg i k) (add binary32 (i .sample k) x₀)
-    send-is false = λ k. sounding (still n g e s s₁ lg i k) (i .sample k)
+    send-is true = λ k. sounding (still g s s₁ lg (i .still) k) (add binary32 (i .still .sample k) x₀)
+    send-is false = λ k. sounding (still g s s₁ lg (i .still) k) (i .still .sample k)
 
     send-fits : (b : Bool) → T (fits binary32 (cond b (add binary32 (s₁ .sample) x₀) (s₁ .sample)))
     send-fits true = add-fits binary32 (s₁ .sample) x₀
-    send-fits false = subst⁻¹ (λ (x : Float). T (fits binary32 x)) (i .sample) ft
+    send-fits false = subst⁻¹ (λ (x : Float). T (fits binary32 x)) (i .still .sample) ft
 
     sends-at : Did g G s (sent-to (holds g (s₁ .frame)))
     sends-at = record {
-      size = i .size;
+      size = i .still .size;
       fit = send-fits (holds g (s₁ .frame));
-      is = send-is (holds g (s₁ .frame)) ∙ ap (λ (b : Bool). cond b (G (sound s)) (sound s)) (holds-still n g e s s₁ lg i);
-      kept = guards-still n g e s s₁ lg i;
+      is = send-is (holds g (s₁ .frame)) ∙ ap (λ (b : Bool). cond b (G (sound s)) (sound s)) (holds-still g s s₁ lg (i .still));
+      kept = guards-still g s s₁ lg (i .still);
     }
 
     pub sends : (w : Workable vals n e) → Did g G s (step vals (sent g (placed n 0 e)) s₁)
     sends w =
         subst⁻¹ (λ (t : State). Did g G s t)
-        (sent-does vals g (placed n 0 e) x₀ s₁ lg (placed-small n 0 e (omega arith) (w .short)) (i .size) (i .is) (send-fits false)) sends-at
+        (sent-does vals g (placed n 0 e) x₀ s₁ lg (placed-small n 0 e (omega arith) (w .short)) (i .still .size) (i .is) (send-fits false)) sends-at
 
   -- ---- an if
 
@@ -140,11 +154,11 @@ module _ (vals : List Float) where
     h = holds g (s .frame)
 
     h₁ : holds g (s₁ .frame) ≡ h
-    h₁ = holds-still n g e s s₁ (omega arith) i
+    h₁ = holds-still g s s₁ (omega arith) (i .still)
 
     -- the guards of the ifs around are those of the start
     kept₃ : (j : ℕ) → 16 ≤ j → j < 16 + 2 * g → getD (s₃ .frame) j zeroF ≡ getD (s .frame) j zeroF
-    kept₃ j p q = a .kept j p (omega arith) ∙ o .kept j p q ∙ guards-still n g e s s₁ (omega arith) i j p q
+    kept₃ j p q = a .kept j p (omega arith) ∙ o .kept j p q ∙ guards-still g s s₁ (omega arith) (i .still) j p q
 
     first : holds (suc g) (s₂ .frame) ≡ (h && t)
     unfolding holds
@@ -160,7 +174,7 @@ module _ (vals : List Float) where
     sound₃ : sound s₃ ≡ cond (h && t) (A (sound s)) (sound s)
     sound₃ =
         a .is ∙ ap (λ (x : Bool). cond x (A (sound s₂)) (sound s₂)) first
-        ∙ ap (λ (x : Sounding). cond (h && t) (A x) x) (o .same ∙ sound-still n g e s s₁ (omega arith) i)
+        ∙ ap (λ (x : Sounding). cond (h && t) (A x) x) (o .same ∙ sound-still g s s₁ (omega arith) (i .still))
 
     pub branches : Did g (λ (x : Sounding). cond (truth (value (x .values) e)) (A x) (B x)) s s₅
     branches = record {
@@ -178,17 +192,10 @@ module _ (vals : List Float) where
   abbrev Passes : ℕ → ℕ → ℕ → Statements → State → Type 0
   Passes r n g t s = Did g (λ (x : Sounding). pass r t x) s (run vals (lowered r n g t) s)
 
-  -- an expression's parts, ready for the word after them
-  ready : (n : ℕ) (e : Expr) (s : State) → Workable vals n e → length (s .frame) ≡ 192 → Leaves vals n 0 e s (run vals (parts n 0 e) s)
-  ready n e s w l = leaves vals e n 0 s (w .proper) (w .held) (omega (arith, w .deep)) (w .short) l
-
   assign-first : (r n g c : ℕ) (e : Expr) (s : State) → Workable vals n e → g ≤ 24 → length (s .frame) ≡ 192 → T (fits binary32 (s .sample)) → (b : Bool) → eqb (rateOf c) r ≡ b
-      → Did g (λ (x : Sounding). assigned r c (value (x .values) e) x) s (run vals (cond b (parts n 0 e ++ stored g (placeOf c) (placed n 0 e) ∷ []) []) s)
+      → Did g (λ (x : Sounding). assigned r c (value (x .values) e) x) s (run vals (cond b (stored g n (placeOf c) e) []) s)
   unfolding run assigned
-  assign-first r n g c e s w lg l ft true q =
-      subst⁻¹ (λ (t : State). Did g (λ (x : Sounding). assigned r c (value (x .values) e) x) s t)
-      (run-last vals (parts n 0 e) (stored g (placeOf c) (placed n 0 e)) s _ refl)
-      (assigns r n g c e s _ q lg ft (ready n e s w l) w)
+  assign-first r n g c e s w lg l ft true q = assigns r n g c e s q lg ft w l
   assign-first r n g c e s w lg l ft false q = idle g (λ (x : Sounding). assigned r c (value (x .values) e) x) s l ft (rw q)
 
   output-first : (r n g : ℕ) (e : Expr) (s : State) → Workable vals n e → g ≤ 24 → length (s .frame) ≡ 192 → T (fits binary32 (s .sample)) → (b : Bool) → eqb r 2 ≡ b
@@ -213,7 +220,7 @@ module _ (vals : List Float) where
   unfolding lowered pass Playable run
   passes done r n g s p lg l ft = nothing g s l ft
   passes (assign c e t) r n g s p lg l ft =
-      let ws = cond (eqb (rateOf c) r) (parts n 0 e ++ stored g (placeOf c) (placed n 0 e) ∷ []) [] in
+      let ws = cond (eqb (rateOf c) r) (stored g n (placeOf c) e) [] in
       let d = assign-first r n g c e s (p .0) lg l ft (eqb (rateOf c) r) refl in
       let k = passes t r (suc (after n e)) g (run vals ws s) (p .1) lg (d .size) (d .fit) in
       subst⁻¹ (λ (u : State). Did g (λ (x : Sounding). pass r t (assigned r c (value (x .values) e) x)) s u) (run-append vals ws (lowered r (suc (after n e)) g t) s)
@@ -236,8 +243,8 @@ module _ (vals : List Float) where
       let s₄ = step vals (turned g) s₃ in
       let s₅ = run vals (lowered r k (suc g) b) s₄ in
       let i = ready n e s w l in
-      let o = opens vals g pl (value (take 16 (s .frame)) e) s₁ (p .1 .0) (placed-off n e) (placed-small n 0 e (omega arith) (w .short)) (i .size) (i .is) in
-      let ft₁ = subst⁻¹ (λ (x : Float). T (fits binary32 x)) (i .sample) ft in
+      let o = opens vals g pl (value (take 16 (s .frame)) e) s₁ (p .1 .0) (placed-off n e) (placed-small n 0 e (omega arith) (w .short)) (i .still .size) (i .is) in
+      let ft₁ = subst⁻¹ (λ (x : Float). T (fits binary32 x)) (i .still .sample) ft in
       let da = passes a r m (suc g) s₂ (p .1 .1 .0) (p .1 .0) (o .size) (subst⁻¹ (λ (x : Sounding). T (fits binary32 (x .sample))) (o .same) ft₁) in
       let u = turns vals g s₃ (p .1 .0) (da .size) in
       let db = passes b r k (suc g) s₄ (p .1 .1 .1 .0) (p .1 .0) (u .size) (subst⁻¹ (λ (x : Sounding). T (fits binary32 (x .sample))) (u .same) (da .fit)) in

@@ -1,4 +1,4 @@
--- The instructions of an assignment, an output, an if and its else, after those of their expression.
+-- The instructions of a guarded assignment, an output, an if and its else, after those of their expression.
 use Prim.Native.Nat.{ℕ, zero, suc, _+_, _-_, _*_, _%_, _≤_, _<_}
 use native.Mathlib.Omega.{arith}
 use mathlib.Core.Path.{_≡_, refl, sym, ap, _∙_, subst⁻¹}
@@ -18,18 +18,14 @@ use Rattle.float32.specs.Builtins.{truth}
 use Rattle.float32.specs.Operators.{unaryOf, binaryOf, selectOf}
 use Rattle.meaning.specs.Meaning.{value, Sounding, sounding, assigned, outputs}
 use Rattle.synth.specs.Run.{kindOf, at, minusZero, State, state, worked, does, step, run}
-use Rattle.lowered.specs.Lowered.{word, guardAt, elseAt, partAt, numberAt, after, placed, parts, stored, sent, around, opened, turned}
+use Rattle.lowered.specs.Lowered.{word, guardAt, elseAt, partAt, numberAt, after, placed, selected, sent, around, opened, turned}
 use Rattle.lowered.specs.Statements.{Workable}
 use Rattle.lowered.proofs.Words.{step-word}
-use Rattle.lowered.proofs.Exprs.{Leaves, at-inside, getD-same, take-less, placed-small, did-one, did-two, did-select}
+use Rattle.lowered.proofs.Exprs.{at-inside, did-select}
 use Rattle.lowered.proofs.MinusZero.{add-minus-zero}
 use Rattle.lowered.proofs.Guards.{sound, holds, Did, holds-kept, not-is, both-is, beside, other, at-other}
 
 -- ---- what a word does
-
-did-copy : (to : ℕ) (x y z : Float) (s : State) → does (kindOf 21) 21 to x y z s ≡ state (set (s .frame) to x) (s .sample)
-unfolding does worked kindOf
-did-copy to x y z s = refl
 
 did-send : (to : ℕ) (x y z : Float) (s : State) → does (kindOf 6) 6 to x y z s ≡ state (s .frame) (add binary32 (s .sample) x)
 unfolding does kindOf
@@ -57,18 +53,14 @@ placed-off n (binary o a b) = inr (omega arith)
 placed-off n (choose c a b) = inr (omega arith)
 
 module _ (vals : List Float) where
-  -- the word of an assignment, on a state with the expression's value x at p
-  pub stored-does : (g to p : ℕ) (x : Float) (s : State) → g ≤ 24 → to < 16 → p < 4096 → length (s .frame) ≡ 192 → at vals (s .frame) p ≡ x
-      → step vals (stored g to p) s ≡ state (set (s .frame) to (cond (holds g (s .frame)) x (getD (s .frame) to zeroF))) (s .sample)
-  unfolding stored holds selectOf
-  stored-does zero to p x s lg ht hp l h =
-      step-word 21 to p 0 0 (omega arith) (omega arith) hp (omega arith) (omega arith) vals s ∙ did-copy to _ _ _ s
-      ∙ ap (λ y. state (set (s .frame) to y) (s .sample)) h
-  stored-does (suc g) to p x s lg ht hp l h =
+  -- the word of a guarded assignment, on a state with the expression's value x at p
+  pub selected-does : (g to p : ℕ) (x : Float) (s : State) → suc g ≤ 24 → to < 16 → p < 4096 → length (s .frame) ≡ 192 → at vals (s .frame) p ≡ x
+      → step vals (selected (suc g) to p) s ≡ state (set (s .frame) to (cond (holds (suc g) (s .frame)) x (getD (s .frame) to zeroF))) (s .sample)
+  unfolding holds selectOf
+  selected-does g to p x s lg ht hp l h =
       let m = guardAt (suc g) in
-      rw (ne-eqb (suc g) 0 (λ z. omega arith))
-      (step-word 22 to m p to (omega arith) (omega arith) (omega arith) hp (omega arith) vals s ∙ did-select to _ _ _ s
-      ∙ rw (h, at-inside vals (s .frame) m (omega arith), at-inside vals (s .frame) to (omega arith)))
+      step-word 22 to m p to (omega arith) (omega arith) (omega arith) hp (omega arith) vals s ∙ did-select to _ _ _ s
+      ∙ rw (h, at-inside vals (s .frame) m (omega arith), at-inside vals (s .frame) to (omega arith))
 
   pub sent-does : (g p : ℕ) (x : Float) (s : State) → g ≤ 24 → p < 4096 → length (s .frame) ≡ 192 → at vals (s .frame) p ≡ x → T (fits binary32 (s .sample))
       → step vals (sent g p) s ≡ state (s .frame) (cond (holds g (s .frame)) (add binary32 (s .sample) x) (s .sample))
