@@ -3,20 +3,17 @@ use Prim.Native.Nat.{ℕ, suc, _+_, _≤_}
 use native.Mathlib.Omega.{arith}
 use mathlib.Core.Path.{_≡_, refl, subst}
 use mathlib.Core.List.{List, [], _∷_, _++_, append-assoc}
-use mathlib.Core.Bool.{Bool, true, false, _&&_, _||_}
+use mathlib.Core.Bool.{true, false, _||_}
 use lib.ListN.{length, length-append}
 use lib.Dec.{eqb, leb}
 use lib.Ieee.{Float}
 use borrow.Author.Tests.{leb-true}
+use Rattle.laws.proofs.Choice.{both-true}
 use Rattle.tokens.specs.declared.Token.{Token}
 use Rattle.tokens.specs.declared.Token.the-variants.{Number, Symbol, Whole, Sign}
 use Rattle.tokens.specs.Measures.{kindOf, opened, bracketsKept, since, stretchesKept}
 use Rattle.syntax.specs.Tree.{Expr}
 use Rattle.expressions.specs.Grammar.{Derives, real, whole, named, prefixed, bracketed, called, called2, sides, chosen, Operator, or, and, equal, unequal, less, greater, atMost, atLeast, plus, minus, times, over, Prefix, negative, not, Call, abs, sgn, int, frac, Call2, min, max}
-
-pub and-true : (a b : Bool) → (a && b) ≡ true → (a ≡ true) × (b ≡ true)
-and-true true b h = (refl, h)
-and-true false b h = absurd (let z : _≡_ {A = ℕ} 0 1 = cc in omega arith)
 
 -- the measures of tokens that follow n open brackets, and k tokens since the last of ; { }
 pub record Kept (n k : ℕ) (ts : List Token) : Type 0 where
@@ -32,8 +29,8 @@ pub record Past (n k : ℕ) (ts : List Token) : Type 0 where
 pub pass : (n k m j : ℕ) (t : Token) (ts : List Token) → opened n (kindOf t) ≡ m → since k (kindOf t) ≡ j → Kept n k (t ∷ ts) → Past m j ts
 unfolding bracketsKept stretchesKept
 pass n k m j t ts p q h =
-    let (a, b) = and-true (leb (opened n (kindOf t)) 24) (bracketsKept (opened n (kindOf t)) ts) (h .brackets) in
-    let (c, d) = and-true (leb (since k (kindOf t)) 128) (stretchesKept (since k (kindOf t)) ts) (h .stretches) in
+    let (a, b) = both-true (leb (opened n (kindOf t)) 24) (bracketsKept (opened n (kindOf t)) ts) (h .brackets) in
+    let (c, d) = both-true (leb (since k (kindOf t)) 128) (stretchesKept (since k (kindOf t)) ts) (h .stretches) in
     let x = leb-true (opened n (kindOf t)) 24 a in
     let y = leb-true (since k (kindOf t)) 128 c in
     record { low = omega arith; short = omega arith; kept = record { brackets = rw p at b; stretches = rw q at d } }

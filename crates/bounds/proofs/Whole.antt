@@ -8,6 +8,8 @@ use lib.ListN.{length, length-append}
 use lib.Dec.{leb}
 use lib.Ieee.{Float}
 use borrow.Author.Tests.{leb-true}
+use Rattle.laws.proofs.Choice.{both-true}
+use Rattle.laws.proofs.Lists.{map-append}
 use Rattle.tokens.specs.declared.Token.{Token}
 use Rattle.tokens.specs.declared.Token.the-variants.{Symbol, Sign}
 use Rattle.tokens.specs.Measures.{bracketsKept, stretchesKept}
@@ -18,7 +20,7 @@ use Rattle.grammar.specs.Grammar.{Names, one, more, Fields, none as no·fields,
 use Rattle.lowered.specs.Statements.{Playable}
 use Rattle.bounds.specs.Sizes.{Small, numbers, bodyAt, AllPlayable, ProgramFits, OrchestraPlayable, InstrumentPlayable}
 use Rattle.bounds.proofs.Placing.{small-put, program-put}
-use Rattle.bounds.proofs.Measures.{Kept, Within, and-true, within-nil, within-one, within-cons, pass-plain, pass-round, pass-round-end, pass-block, pass-block-end, pass-semicolon, plain-symbol, plain-sign}
+use Rattle.bounds.proofs.Measures.{Kept, Within, within-nil, within-one, within-cons, pass-plain, pass-round, pass-round-end, pass-block, pass-block-end, pass-semicolon, plain-symbol, plain-sign}
 use Rattle.bounds.proofs.Statements.{Goes, Fits, statements-fit, code-tokens}
 use Rattle.bounds.proofs.Stands.{Stands, first, second, playable}
 
@@ -56,7 +58,7 @@ program-tokens (next {i = i} {ts = ts} {is = is} {us = us} d s) =
 
 pub program-fits : ProgramFits
 program-fits is ts d m =
-    omega (arith, program-put is, program-tokens d, leb-true (length ts) 2048 (and-true (leb (length ts) 2048) _ m .0))
+    omega (arith, program-put is, program-tokens d, leb-true (length ts) 2048 (both-true (leb (length ts) 2048) _ m .0))
 
 -- ---- the measures, up to an instrument's statements
 
@@ -154,19 +156,15 @@ module _ (vals : List Float) where
 pub orchestra-playable : OrchestraPlayable
 orchestra-playable is ts pad d m =
     let p = program (map placed is) in
-    let (b, c) = and-true (bracketsKept 0 ts) (stretchesKept 0 ts) (and-true (leb (length ts) 2048) (bracketsKept 0 ts && stretchesKept 0 ts) m .1) in
+    let (b, c) = both-true (bracketsKept 0 ts) (stretchesKept 0 ts) (both-true (leb (length ts) 2048) (bracketsKept 0 ts && stretchesKept 0 ts) m .1) in
     let f = program-fits is ts d m in
     all-playable (numbers p ++ pad) 0 is
     (orchestra-small d (record { count = 0; short = omega arith; kept = record { brackets = b; stretches = c } }))
     (record { behind = pad; here = refl }) (omega arith)
-
-map-append : (before behind : List Instrument) → map placed (before ++ behind) ≡ map placed before ++ map placed behind
-map-append [] behind = refl
-map-append (i ∷ before) behind = ap (λ (l : List Instrument). placed i ∷ l) (map-append before behind)
 
 pub instrument-playable : InstrumentPlayable
 instrument-playable before i behind ts pad d m =
     let vals = numbers (program (map placed (before ++ i ∷ behind))) ++ pad in
     let h = orchestra-playable (before ++ i ∷ behind) ts pad d m in
     let e : 0 + length (program (map placed before)) ≡ length (program (map placed before)) = omega arith in
-    rw e at (playable-at vals 0 (map placed before) (placed i) (map placed behind) (subst (AllPlayable vals 0) (map-append before (i ∷ behind)) h))
+    rw e at (playable-at vals 0 (map placed before) (placed i) (map placed behind) (subst (AllPlayable vals 0) (map-append placed before (i ∷ behind)) h))

@@ -1,7 +1,7 @@
 -- The straight-line code of an orchestra within the sizes means its trees.
 use Prim.Native.Nat.{ℕ}
 use mathlib.Core.Path.{_≡_}
-use mathlib.Core.List.{List, [], _∷_, _++_, map}
+use mathlib.Core.List.{List, _∷_, _++_, map}
 use mathlib.Core.Bool.{true}
 use lib.ListN.{length}
 use lib.Ieee.{Float}

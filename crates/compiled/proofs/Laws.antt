@@ -3,16 +3,15 @@ use Prim.Native.Nat.{ℕ, zero, suc, _+_, _-_, _*_, _≤_, _<_}
 use native.Mathlib.Omega.{arith}
 use mathlib.Core.Path.{_≡_, refl, sym, ap, _∙_}
 use mathlib.Core.List.{List, [], _∷_, _++_, append-assoc, append-nil}
-use lib.ListN.{length, getD, take, drop, replicate, length-append, List·getD-append}
-use lib.Seq.{take-at, drop-at, take-append-le, getD-append-add}
+use lib.ListN.{length, getD, drop, replicate, length-append, List·getD-append}
+use lib.Seq.{take-at, drop-at, getD-append-add}
 use lib.Ieee.{Float}
 use Rattle.syntax.specs.Tree.{Instrument}
 use Rattle.syntax.specs.Program.{instrument, program}
 use Rattle.rules.specs.Formed.{opsOf, argsOf}
 use Rattle.synth.specs.Passes.{stretch}
 use Rattle.lowered.specs.Lowered.{lowered}
-use Rattle.lowering.specs.Fold.{rest}
-use Rattle.lowering.specs.Orchestra.{Code, code, walkFrom, rateOfProgram, codeOf, filled}
+use Rattle.lowering.specs.Orchestra.{Code, code, rateOfProgram, codeOf, filled}
 use Rattle.bounds.specs.Sizes.{bodyAt, AllPlayable, allLowered}
 use Rattle.bounds.proofs.Lengths.{all-lowered-length}
 use Rattle.compiled.specs.Compiled.{KindsAll, startsFrom, wordsOf, startsOf, ProgramCode, InstrumentCode}

@@ -1,30 +1,27 @@
 -- The walk over a whole program.
-use Prim.Native.Nat.{ℕ, zero, suc, _+_, _-_, _*_, _≤_, _<_}
+use Prim.Native.Nat.{ℕ, suc, _+_, _-_, _≤_, _<_}
 use native.Mathlib.Omega.{arith}
 use mathlib.Core.Path.{_≡_, refl, sym, ap, _∙_}
 use mathlib.Core.List.{List, [], _∷_, _++_, append-assoc, append-nil}
-use mathlib.Core.Bool.{Bool, true, false, cond}
 use lib.ListN.{length, length-append}
-use lib.Dec.{eqb}
 use lib.Ieee.{Float}
 use borrow.Author.Tests.{ne-eqb}
 use Rattle.syntax.specs.Tree.{Expr, number, name, unary, binary, choose, Statements, done, assign, output, branch, Declaration, Instrument, fieldKind}
-use Rattle.syntax.specs.Program.{Ins, ins, insArg, actOf, compile, code as codeOfTree, declare, declared, instrument, program, numberOp, nameOp, storeOp, outputOp, ifOp, elseOp, endOp, chooseOp, instrOp}
-use Rattle.syntax.specs.declared.Act.{Act}
+use Rattle.syntax.specs.Program.{Ins, ins, insArg, actOf, compile, code as codeOfTree, declare, declared, instrument, program, storeOp, outputOp, ifOp, elseOp, endOp, chooseOp}
 use Rattle.syntax.specs.declared.Act.the-variants.{Declare, Instr}
 use Rattle.rules.specs.Formed.{FormedKinds, opsOf, argsOf}
 use Rattle.synth.specs.Run.{kindOf}
 use Rattle.lowered.specs.Lowered.{after, past, lowered}
-use Rattle.lowered.specs.Statements.{Proper, Workable, Playable}
-use Rattle.lowering.specs.Fold.{Low, low, rest, emit, lowerOne, lowerAll}
-use Rattle.lowering.specs.Orchestra.{Code, code, noted, walkFrom, rateOfProgram, codeOf}
+use Rattle.lowered.specs.Statements.{Proper, Playable}
+use Rattle.lowering.specs.Fold.{Low, low, rest, lowerOne, lowerAll}
+use Rattle.lowering.specs.Orchestra.{Code, code, noted, walkFrom}
 use Rattle.lowering.proofs.Steps.{emit-room}
-use Rattle.lowering.proofs.Laws.{walk-lowers, lowered-short, past-more}
+use Rattle.lowering.proofs.Laws.{walk-lowers}
 use Rattle.bounds.specs.Sizes.{bodyAt, AllPlayable, allLowered}
 use Rattle.bounds.proofs.Exprs.{past-length}
 use Rattle.bounds.proofs.Whole.{body-length}
-use Rattle.bounds.proofs.Lengths.{lowered-length, all-lowered-length}
-use Rattle.compiled.specs.Compiled.{KindsAll, startsFrom, wordsOf, startsOf, ProgramCode}
+use Rattle.bounds.proofs.Lengths.{lowered-length}
+use Rattle.compiled.specs.Compiled.{KindsAll, startsFrom}
 
 -- ---- instructions that begin no instrument
 

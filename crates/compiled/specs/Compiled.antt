@@ -9,7 +9,7 @@ use Rattle.syntax.specs.Program.{instrument, program}
 use Rattle.rules.specs.Formed.{FormedKinds, opsOf, argsOf}
 use Rattle.synth.specs.Passes.{stretch}
 use Rattle.lowered.specs.Lowered.{lowered}
-use Rattle.lowering.specs.Orchestra.{Code, code, codeOf, filled}
+use Rattle.lowering.specs.Orchestra.{code, codeOf, filled}
 use Rattle.bounds.specs.Sizes.{bodyAt, AllPlayable, allLowered}
 
 -- the kinds of all declarations are kinds

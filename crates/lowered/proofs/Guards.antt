@@ -1,28 +1,19 @@
 -- What one statement's instructions do under the guards around it.
-use Prim.Native.Nat.{ℕ, zero, suc, _+_, _-_, _*_, _%_, _≤_, _<_}
+use Prim.Native.Nat.{ℕ, zero, suc, _+_, _-_, _*_, _≤_, _<_}
 use native.Mathlib.Omega.{arith}
-use mathlib.Core.Path.{_≡_, refl, sym, ap, _∙_, subst⁻¹}
-use mathlib.Core.List.{List, [], _∷_, _++_}
+use mathlib.Core.Path.{_≡_, refl, sym, ap, _∙_}
+use mathlib.Core.List.{List}
 use mathlib.Core.Bool.{Bool, true, false, not, _&&_, cond}
-use mathlib.Core.Logic.{_⊎_, inl, inr, ⊎-elim}
 use lib.ListN.{length, getD, set, take, length-set}
-use lib.Seq.{take-set-le, take-set-lt, getD-take, getD-set-same, getD-set-other, set-getD}
-use lib.Dec.{T, eqb, ltb}
-use lib.Ieee.{Float, binary32, add, fits, eq, ne}
-use lib.Ieee.Fits.{add-fits}
-use borrow.Author.Tests.{lt-ltb, le-ltb, ne-eqb}
-use Rattle.syntax.specs.Tree.{Expr, number, name, unary, binary, choose}
+use lib.Seq.{take-set-le, getD-set-other}
+use lib.Dec.{T}
+use lib.Ieee.{Float, binary32, fits, eq, ne}
 use Rattle.syntax.specs.Program.{zeroF}
-use Rattle.syntax.specs.Rates.{rateOf, placeOf}
 use Rattle.float32.specs.Builtins.{truth, flagOf, notOf, bothOf}
-use Rattle.float32.specs.Operators.{unaryOf, binaryOf, selectOf}
-use Rattle.meaning.specs.Meaning.{value, Sounding, sounding, assigned, outputs}
-use Rattle.synth.specs.Run.{kindOf, at, minusZero, State, state, worked, does, step, run}
+use Rattle.float32.specs.Operators.{unaryOf, binaryOf}
+use Rattle.meaning.specs.Meaning.{Sounding, sounding}
+use Rattle.synth.specs.Run.{at, State, state}
 use Rattle.lowered.specs.Lowered.{guardAt}
-use Rattle.lowered.specs.Statements.{Workable}
-use Rattle.lowered.proofs.Words.{step-word, run-append}
-use Rattle.lowered.proofs.Exprs.{Leaves, leaves, at-inside, getD-same, take-less, placed-small, placed-where}
-use Rattle.lowered.proofs.MinusZero.{add-minus-zero}
 
 -- a state's values and sample
 abbrev pub sound : State → Sounding

@@ -1,22 +1,20 @@
 -- Straight-line code means its tree: one pass, and the a passes of a cycle.
-use Prim.Native.Nat.{ℕ, zero, suc, _+_, _-_, _≤_, _<_}
+use Prim.Native.Nat.{ℕ, zero, suc, _+_, _-_, _≤_}
 use native.Mathlib.Omega.{arith}
-use mathlib.Core.Path.{_≡_, refl, sym, ap, _∙_, subst⁻¹}
+use mathlib.Core.Path.{_≡_, refl, sym, ap, _∙_}
 use mathlib.Core.List.{List, [], _∷_, _++_, append-nil}
-use mathlib.Core.Bool.{Bool, true, false, cond}
 use lib.ListN.{length, take, drop, replicate, length-append, length-take, length-drop, drop-of-length-le}
 use lib.Seq.{take-all, take-at, take-nil}
-use lib.Dec.{T}
-use lib.Ieee.{Float, binary32, fits}
+use lib.Ieee.{Float, binary32}
 use lib.Ieee.Bits.{ofBits-fits}
 use Rattle.syntax.specs.Tree.{Statements}
 use Rattle.syntax.specs.Program.{zeroF}
 use Rattle.meaning.specs.Meaning.{Sounding, sounding, pass, birth, kPass, aPasses, fresh}
-use Rattle.synth.specs.Run.{State, state, run}
+use Rattle.synth.specs.Run.{state, run}
 use Rattle.synth.specs.Passes.{laid, frameOf, framePlaces, freshOf, once, Sums, sums, played}
 use Rattle.lowered.specs.Lowered.{lowered}
 use Rattle.lowered.specs.Statements.{Playable, AllFit, OnceMeans, BirthMeans, KMeans, PlayedMeans}
-use Rattle.lowered.proofs.Guards.{sound, holds, Did}
+use Rattle.lowered.proofs.Guards.{holds}
 use Rattle.lowered.proofs.Passing.{passes}
 
 -- a note's 16 values in a frame, and taken out of it

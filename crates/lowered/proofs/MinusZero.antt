@@ -1,7 +1,7 @@
 -- Adding -0 changes no float of the format; adding +0 would make +0 of -0.
 use Prim.Native.Nat.{ℕ, zero, suc, _+_, _-_, _*_, _/_, _%_, _^_, _≤_, _<_}
 use native.Mathlib.Omega.{arith}
-use native.Mathlib.Nat.{mul-div-mul-right, mul-comm, mul-assoc, mul-right-comm, mul-one, one-mul, zero-mul, add-zero, lt-irrefl, lt-of-lt-of-le, lt-of-le-of-lt, le-trans, lt-of-not-le, le-of-lt, mul-lt-mul-of-pos-right, zero-lt-suc, sub-zero, pow-succ'}
+use native.Mathlib.Nat.{mul-div-mul-right, mul-comm, mul-assoc, mul-right-comm, mul-one, one-mul, zero-mul, add-zero, lt-irrefl, lt-of-lt-of-le, le-trans, mul-lt-mul-of-pos-right, zero-lt-suc, sub-zero, pow-succ'}
 use mathlib.Core.Path.{_≡_, refl, sym, ap, _∙_, subst}
 use mathlib.Core.Bool.{Bool, true, false, cond, _&&_, false≢true}
 use lib.IntN.{ℤ, pos, negsuc}

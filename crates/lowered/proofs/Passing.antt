@@ -1,5 +1,5 @@
 -- A pass over the code of statements does what the statements do, under the guards around them.
-use Prim.Native.Nat.{ℕ, zero, suc, _+_, _-_, _*_, _%_, _≤_, _<_}
+use Prim.Native.Nat.{ℕ, zero, suc, _+_, _-_, _*_, _≤_, _<_}
 use native.Mathlib.Omega.{arith}
 use mathlib.Core.Path.{_≡_, refl, sym, ap, _∙_, subst, subst⁻¹}
 use mathlib.Core.List.{List, [], _∷_, _++_}
@@ -16,7 +16,7 @@ use Rattle.syntax.specs.Rates.{rateOf, placeOf}
 use Rattle.float32.specs.Builtins.{truth}
 use Rattle.meaning.specs.Meaning.{value, Sounding, sounding, assigned, outputs, pass}
 use Rattle.synth.specs.Run.{State, state, step, run}
-use Rattle.lowered.specs.Lowered.{guardAt, elseAt, partAt, after, placed, parts, selected, stored, sent, opened, turned, past, lowered}
+use Rattle.lowered.specs.Lowered.{elseAt, after, placed, parts, selected, stored, sent, opened, turned, past, lowered}
 use Rattle.lowered.specs.Statements.{Workable, Playable}
 use Rattle.lowered.proofs.Words.{run-append}
 use Rattle.lowered.proofs.Exprs.{Kept, Leaves, leaves, into-sets, getD-same, take-less, placed-small, run-last}

@@ -1,29 +1,25 @@
 -- The instructions of a guarded assignment, an output, an if and its else, after those of their expression.
-use Prim.Native.Nat.{ℕ, zero, suc, _+_, _-_, _*_, _%_, _≤_, _<_}
+use Prim.Native.Nat.{ℕ, zero, suc, _+_, _-_, _*_, _≤_, _<_}
 use native.Mathlib.Omega.{arith}
-use mathlib.Core.Path.{_≡_, refl, sym, ap, _∙_, subst⁻¹}
-use mathlib.Core.List.{List, [], _∷_, _++_}
+use mathlib.Core.Path.{_≡_, refl, ap, _∙_, subst⁻¹}
+use mathlib.Core.List.{List}
 use mathlib.Core.Bool.{Bool, true, false, not, _&&_, cond}
 use mathlib.Core.Logic.{_⊎_, inl, inr, ⊎-elim}
-use lib.ListN.{length, getD, set, take, length-set}
-use lib.Seq.{take-set-le, take-set-lt, getD-take, getD-set-same, getD-set-other, set-getD}
-use lib.Dec.{T, eqb, ltb}
+use lib.ListN.{length, getD, set, length-set}
+use lib.Seq.{getD-set-same}
+use lib.Dec.{T}
 use lib.Ieee.{Float, binary32, add, fits}
-use lib.Ieee.Fits.{add-fits}
 use borrow.Author.Tests.{ne-eqb}
 use Rattle.syntax.specs.Tree.{Expr, number, name, unary, binary, choose}
 use Rattle.syntax.specs.Program.{zeroF}
-use Rattle.syntax.specs.Rates.{rateOf, placeOf}
 use Rattle.float32.specs.Builtins.{truth}
 use Rattle.float32.specs.Operators.{unaryOf, binaryOf, selectOf}
-use Rattle.meaning.specs.Meaning.{value, Sounding, sounding, assigned, outputs}
 use Rattle.synth.specs.Run.{kindOf, at, minusZero, State, state, worked, does, step, run}
-use Rattle.lowered.specs.Lowered.{word, guardAt, elseAt, partAt, numberAt, after, placed, selected, sent, around, opened, turned}
-use Rattle.lowered.specs.Statements.{Workable}
+use Rattle.lowered.specs.Lowered.{word, guardAt, elseAt, placed, selected, sent, around, opened, turned}
 use Rattle.lowered.proofs.Words.{step-word}
 use Rattle.lowered.proofs.Exprs.{at-inside, did-select}
 use Rattle.lowered.proofs.MinusZero.{add-minus-zero}
-use Rattle.lowered.proofs.Guards.{sound, holds, Did, holds-kept, not-is, both-is, beside, other, at-other}
+use Rattle.lowered.proofs.Guards.{sound, holds, holds-kept, not-is, both-is, beside, other, at-other}
 
 -- ---- what a word does
 
