@@ -18,9 +18,12 @@ use Rattle.players.specs.Cycle as cycle
 use Rattle.players.proofs.Lists.{cond-true, cond-false, length-keep}
 use Rattle.players.proofs.Loops.{length-over}
 use Rattle.players.proofs.Works.{Turned, off, over as ended-before, finished, played}
+use Rattle.waiting.specs.Admission.{waitingIn}
 use Rattle.sounding.specs.Voices.{Held, noteOf, structOf, notesIn}
 use Rattle.sounding.proofs.Steps.{length-each}
-use Rattle.panel.specs.State.{voicesOf, coreOf, withCore, endedOf}
+use Rattle.turning.specs.Turn as turn
+use Rattle.turning.specs.declared.State.{State}
+use Rattle.panel.specs.State.{voicesOf, coreOf, endedOf}
 use Rattle.panel.specs.Calls.{playedOf, cycleOf, blockAfter}
 use Rattle.panel.specs.declared.Panel.{Panel}
 use Rattle.loader.specs.declared.Program.{Program}
@@ -38,12 +41,12 @@ notes-back ns old =
     ∙ ap (each noteOf) (take-append-seam (each structOf ns) (drop (length (each structOf ns)) old))
     ∙ note-struct ns
 
-core-with : (p : Panel) (c : Core Held) → coreOf (withCore p c) ≡ c
-unfolding coreOf withCore
-core-with p c =
+core-with : (s : State) (c : Core Held) → turn.coreOf (turn.withCore s c) ≡ c
+unfolding turn.coreOf turn.withCore
+core-with s c =
     λ i. record {
-      lines = take-append-seam (c .lines) (drop (length (c .lines)) (p .lines)) i;
-      notes = notes-back (c .notes) (p .notes) i;
+      lines = take-append-seam (c .lines) (drop (length (c .lines)) (s .queue .lines)) i;
+      notes = notes-back (c .notes) (s .notes .notes) i;
       position = c .position;
       tempo = c .tempo;
       missed = c .missed;
@@ -51,33 +54,33 @@ core-with p c =
     }
 
 core-stopped : (p : Panel) → coreOf (endedOf p) ≡ stopped (coreOf p)
-unfolding coreOf endedOf stopped
+unfolding turn.coreOf endedOf turn.stopped stopped
 core-stopped p = refl
 
-core-end : (p : Panel) (b : Bool) → p .ended ≡ b → coreOf p .ended ≡ b
-unfolding coreOf
+core-end : (p : Panel) (b : Bool) → p .state .ended ≡ b → coreOf p .ended ≡ b
+unfolding turn.coreOf
 core-end p b h = h
 
 played-core : (p : Panel) → coreOf (playedOf p) ≡ capped (stepped (voicesOf (p .program)) (coreOf p))
-unfolding playedOf
-played-core p = core-with p (capped (stepped (voicesOf (p .program)) (coreOf p)))
+unfolding playedOf turn.played
+played-core p = core-with (p .state) (capped (stepped (voicesOf (p .program)) (coreOf p)))
 
 -- a played panel still has its 64 places
-played-long : (p : Panel) → length (p .lines) ≡ 64 → length (playedOf p .lines) ≡ 64
-unfolding playedOf withCore capped stepped coreOf
-played-long p h =
-    let k : Line → Bool = λ (l : Line). not (isDue (p .position) l) in
-    let a = length-keep k (take (p .waiting) (p .lines)) in
-    let b = length-take (p .waiting) (p .lines) in
-    let c : length (keep k (take (p .waiting) (p .lines))) ≤ length (p .lines) = omega (arith, a, b) in
-    length-over (keep k (take (p .waiting) (p .lines))) (p .lines) c ∙ h
+played-long : (v : Voices Held) (s : State) → length (s .queue .lines) ≡ 64 → length (turn.played v s .queue .lines) ≡ 64
+unfolding turn.played turn.withCore capped stepped turn.coreOf
+played-long v s h =
+    let k : Line → Bool = λ (l : Line). not (isDue (s .position) l) in
+    let a = length-keep k (waitingIn (s .queue)) in
+    let b = length-take (s .queue .count) (s .queue .lines) in
+    let c : length (keep k (waitingIn (s .queue))) ≤ length (s .queue .lines) = omega (arith, a, b) in
+    length-over (keep k (waitingIn (s .queue))) (s .queue .lines) c ∙ h
 
 played-keeps : (program : Program) (ceiling : ℕ) (p : Panel) → Fine program ceiling p → Fine program ceiling (playedOf p)
-unfolding playedOf withCore
-played-keeps program ceiling p f = record { long = played-long p (f .long); has = f .has; locked = f .locked }
+unfolding playedOf
+played-keeps program ceiling p f = record { long = played-long (voicesOf (p .program)) (p .state) (f .long); has = f .has; locked = f .locked }
 
 ended-keeps : (program : Program) (ceiling : ℕ) (p : Panel) → Fine program ceiling p → Fine program ceiling (endedOf p)
-unfolding endedOf
+unfolding endedOf turn.stopped
 ended-keeps program ceiling p f = record { long = f .long; has = f .has; locked = f .locked }
 
 -- what a cycle call leaves
@@ -92,9 +95,9 @@ module _ (program : Program) (ceiling : ℕ) (p : Panel) (f : Fine program ceili
   whole : (w : Bool) → eqb (length b) samples ≡ w → T (cycleOf p (length b))
   unfolding T cycleOf
   whole false w = subst⁻¹ T (cond-false _ _ w) (record { turns = off w refl refl refl; fine = f })
-  whole true w = go (p .ended) refl (ends (coreOf p)) refl
+  whole true w = go (p .state .ended) refl (ends (coreOf p)) refl
     where
-      go : (e : Bool) → p .ended ≡ e → (d : Bool) → ends (coreOf p) ≡ d → T (cycleOf p (length b))
+      go : (e : Bool) → p .state .ended ≡ e → (d : Bool) → ends (coreOf p) ≡ d → T (cycleOf p (length b))
       go true h d g = subst⁻¹ T (cond-true _ _ w ∙ cond-true _ _ h) (record { turns = ended-before w (core-end p true h) refl refl refl; fine = f })
       go false h true g =
           subst⁻¹ T (cond-true _ _ w ∙ cond-false _ _ h ∙ cond-true _ _ g)

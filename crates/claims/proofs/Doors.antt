@@ -17,7 +17,7 @@ use Rattle.bitstream.specs.Bits.{bitsOf}
 use Rattle.score_line.specs.Reading.{keypadLine}
 use Rattle.score_line.specs.declared.Line.{Line}
 use Rattle.score_line.specs.declared.LineRead.{LineRead}
-use Rattle.score.specs.Score.{scoreOf, heard, unitOf}
+use Rattle.score.specs.Score.{scoreOf, unitOf}
 use Rattle.synth.specs.declared.Note.{Note}
 use Rattle.waiting.specs.Admission.{hasTime, admitted, pushed, waitingIn}
 use Rattle.waiting.specs.declared.Fields.{Fields}
@@ -35,13 +35,15 @@ use Rattle.players.proofs.Works.{Entered, took, refused, Turned, off, over as o
 use Rattle.sounding.specs.Voices.{Held, noteOf, structOf, notesIn, fieldsIn}
 use Rattle.sounding.specs.declared.Instrument.{Instrument}
 use Rattle.sounding.proofs.Steps.{length-each}
-use Rattle.panel.specs.Entrances.{lineIn, stickLine, pushedAll}
-use Rattle.panel.specs.State.{tableOf, voicesOf, queueIn, withQueue, coreOf, withCore, endedOf, startOf}
+use Rattle.entrances.specs.Entrances.{lineIn, stickLine, pushedAll}
+use Rattle.turning.specs.Steps.{soundingIn}
+use Rattle.turning.specs.Turn as turn
+use Rattle.panel.specs.State.{tableOf, voicesOf, withQueue, coreOf, endedOf, startOf}
 use Rattle.panel.specs.Calls.{freshOf, loadOf, loadedOf, enteredOf, receiveOf, enterOf, playedOf, cycleOf, blockAfter}
 use Rattle.panel.specs.declared.Panel.{Panel}
 use Rattle.loader.specs.declared.Program.{Program}
 use Rattle.panel.specs.declared.Fresh.{Fresh}
-use Rattle.panel.specs.declared.Pushed.{Pushed}
+use Rattle.entrances.specs.declared.Pushed.{Pushed}
 use Rattle.panel.specs.declared.Loaded.{Loaded}
 use Rattle.panel.specs.declared.Entered as entered
 use Rattle.panel.specs.declared.Cycled.{Cycled}
@@ -101,28 +103,28 @@ module _ (table : List Instrument) where
 -- ---- what the panel keeps true of itself
 
 pub record Fine (program : Program) (ceiling : ℕ) (p : Panel) : Type 0 where
-  pub long : length (p .lines) ≡ 64
+  pub long : length (p .state .queue .lines) ≡ 64
   pub has : p .program ≡ program
   pub locked : p .ceiling ≡ ceiling
 
-with-own : (p : Panel) → withQueue p (queueIn p) ≡ p
+with-own : (p : Panel) → withQueue p (p .state .queue) ≡ p
 unfolding withQueue
 with-own p = refl
 
-core-queue : (p : Panel) (q : Queue) (ls : List Line) → waitingIn q ≡ waitingIn (queueIn p) ++ ls → coreOf (withQueue p q) ≡ withLines (coreOf p) ls
-unfolding coreOf withQueue withLines
+core-queue : (p : Panel) (q : Queue) (ls : List Line) → waitingIn q ≡ waitingIn (p .state .queue) ++ ls → coreOf (withQueue p q) ≡ withLines (coreOf p) ls
+unfolding turn.coreOf withQueue withLines
 core-queue p q ls e =
     λ i. record {
       lines = e i;
-      notes = notesIn (p .notes) (p .sounding);
-      position = p .position;
-      tempo = p .tempo;
-      missed = p .missed;
-      ended = p .ended;
+      notes = soundingIn (p .state .notes);
+      position = p .state .position;
+      tempo = p .state .tempo;
+      missed = p .state .missed;
+      ended = p .state .ended;
     }
 
-core-ended : (p : Panel) → p .ended ≡ false → coreOf p .ended ≡ false
-unfolding coreOf
+core-ended : (p : Panel) → p .state .ended ≡ false → coreOf p .ended ≡ false
+unfolding turn.coreOf
 core-ended p h = h
 
 -- what a line call leaves
@@ -136,7 +138,7 @@ module _ (program : Program) (ceiling : ℕ) (p : Panel) (f : Fine program ceili
   shut ls a t = record { enters = refused t refl; fine = f; same = λ _. refl }
 
   -- queues that went
-  open-door : (ls : List Line) → AllSteady ls → p .ended ≡ false → (q : Queue) (a : Answer) → Went (queueIn p) (queueIn p) ls q a
+  open-door : (ls : List Line) → AllSteady ls → p .state .ended ≡ false → (q : Queue) (a : Answer) → Went (p .state .queue) (p .state .queue) ls q a
       → Door program ceiling ls p (numberOf a) (withQueue p q)
   unfolding withQueue
   open-door ls s h q a (in-all t w len) =
@@ -152,23 +154,23 @@ module _ (program : Program) (ceiling : ℕ) (p : Panel) (f : Fine program ceili
 
   pub sticks : (b : List ℕ) → AllSteady (scoreOf (bitsOf b) .lines)
       → Door program ceiling (scoreOf (bitsOf b) .lines) p (numberOf (loadOf p b .answer)) (loadOf p b .panel)
-  sticks b s = go (p .ended) refl
+  sticks b s = go (p .state .ended) refl
     where
       D : Loaded → Type 0
       D x = Door program ceiling (scoreOf (bitsOf b) .lines) p (numberOf (x .answer)) (x .panel)
 
-      read : p .ended ≡ false → (t : Bool) → isTaken (scoreOf (bitsOf b) .answer) ≡ t → D (loadOf p b)
+      read : p .state .ended ≡ false → (t : Bool) → isTaken (scoreOf (bitsOf b) .answer) ≡ t → D (loadOf p b)
       read h true t =
-          subst D (stick-pushed p b h (heard (scoreOf (bitsOf b))) refl t (queueIn p) refl _ refl _ refl)
-          (open-door (scoreOf (bitsOf b) .lines) s h _ _ (all-lines (tableOf (p .program)) (queueIn p) (queueIn p) 0 (scoreOf (bitsOf b) .lines) (f .long)))
-      read h false t = subst D (stick-refused p b h (heard (scoreOf (bitsOf b))) refl t) (shut _ (scoreOf (bitsOf b) .answer) t)
+          subst D (stick-pushed p b h t)
+          (open-door (scoreOf (bitsOf b) .lines) s h _ _ (all-lines (tableOf (p .program)) (p .state .queue) (p .state .queue) 0 (scoreOf (bitsOf b) .lines) (f .long)))
+      read h false t = subst D (stick-refused p b h t) (shut _ (scoreOf (bitsOf b) .answer) t)
 
-      go : (e : Bool) → p .ended ≡ e → D (loadOf p b)
+      go : (e : Bool) → p .state .ended ≡ e → D (loadOf p b)
       go true h = subst D (stick-ended p b h) (shut _ answer.Ended refl)
       go false h = read h (isTaken (scoreOf (bitsOf b) .answer)) refl
 
   -- a line that was read
-  reads : (r : LineRead) → steady (r .line .event) → p .ended ≡ false
+  reads : (r : LineRead) → steady (r .line .event) → p .state .ended ≡ false
       → Door program ceiling (r .line ∷ []) p (numberOf (enteredOf p r .answer)) (enteredOf p r .panel)
   reads r s h = go (isTaken (r .answer)) refl
     where
@@ -177,28 +179,28 @@ module _ (program : Program) (ceiling : ℕ) (p : Panel) (f : Fine program ceili
 
       go : (t : Bool) → isTaken (r .answer) ≡ t → D (enteredOf p r)
       go true t =
-          subst D (read-taken p r t (queueIn p) refl _ refl _ refl)
-          (open-door (r .line ∷ []) (s, tt) h _ _ (one-line (tableOf (p .program)) (queueIn p) (r .line) (f .long)))
+          subst D (read-taken p r t _ refl)
+          (open-door (r .line ∷ []) (s, tt) h _ _ (one-line (tableOf (p .program)) (p .state .queue) (r .line) (f .long)))
       go false t = subst D (read-refused p r t) (shut _ (r .answer) t)
 
   pub units : (b : List ℕ) → steady (unitOf (bitsOf b) .line .event)
       → Door program ceiling (unitOf (bitsOf b) .line ∷ []) p (numberOf (receiveOf p b .answer)) (receiveOf p b .panel)
-  units b s = go (p .ended) refl
+  units b s = go (p .state .ended) refl
     where
       D : entered.Entered → Type 0
       D x = Door program ceiling (unitOf (bitsOf b) .line ∷ []) p (numberOf (x .answer)) (x .panel)
 
-      go : (e : Bool) → p .ended ≡ e → D (receiveOf p b)
+      go : (e : Bool) → p .state .ended ≡ e → D (receiveOf p b)
       go true h = subst D (unit-ended p b h) (shut _ answer.Ended refl)
       go false h = subst D (unit-read p b h (unitOf (bitsOf b)) refl _ refl) (reads (unitOf (bitsOf b)) s h)
 
   pub keypads : (w : List ℕ) → steady (keypadLine w .line .event)
       → Door program ceiling (keypadLine w .line ∷ []) p (numberOf (enterOf p w .answer)) (enterOf p w .panel)
-  keypads w s = go (p .ended) refl
+  keypads w s = go (p .state .ended) refl
     where
       D : entered.Entered → Type 0
       D x = Door program ceiling (keypadLine w .line ∷ []) p (numberOf (x .answer)) (x .panel)
 
-      go : (e : Bool) → p .ended ≡ e → D (enterOf p w)
+      go : (e : Bool) → p .state .ended ≡ e → D (enterOf p w)
       go true h = subst D (keypad-ended p w h) (shut _ answer.Ended refl)
       go false h = subst D (keypad-read p w h (keypadLine w) refl _ refl) (reads (keypadLine w) s h)

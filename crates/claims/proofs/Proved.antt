@@ -29,8 +29,9 @@ use Rattle.players.proofs.Works.{Turned, Works}
 use Rattle.players.proofs.Alike.{plain-alike}
 use Rattle.players.proofs.Ceiling.{ceiling-holds}
 use Rattle.sounding.specs.Voices.{Held}
-use Rattle.panel.specs.Entrances.{lineIn, stickLine, pushedAll}
-use Rattle.panel.specs.State.{tableOf, voicesOf, queueIn, withQueue, coreOf, endedOf, startOf, emptyLine}
+use Rattle.entrances.specs.Entrances.{lineIn, stickLine, pushedAll}
+use Rattle.turning.specs.Turn as turn
+use Rattle.panel.specs.State.{tableOf, voicesOf, withQueue, coreOf, endedOf, startOf, emptyLine}
 use Rattle.panel.specs.Calls.{freshOf, loadOf, receiveOf, enterOf, cycleOf, blockAfter}
 use Rattle.panel.specs.declared.Panel.{Panel}
 use Rattle.loader.specs.declared.Program.{Program}
@@ -44,11 +45,11 @@ use Rattle.claims.proofs.Cycles.{Turn, cycles}
 
 module _ (program : Program) (ceiling : ℕ) where
   few : (p : Panel) → Fine program ceiling p → length (coreOf p .lines) ≤ 64
-  unfolding coreOf
-  few p f = omega (arith, length-take (p .waiting) (p .lines), f .long)
+  unfolding turn.coreOf
+  few p f = omega (arith, length-take (p .state .queue .count) (p .state .queue .lines), f .long)
 
-  counts : (p : Panel) → p .missed ≡ coreOf p .missed
-  unfolding coreOf
+  counts : (p : Panel) → p .state .missed ≡ coreOf p .missed
+  unfolding turn.coreOf
   counts p = refl
 
   keeps : (p : Panel) (c : Call) → Fine program ceiling p → Fine program ceiling (afterCall p c .player)
@@ -92,7 +93,7 @@ module _ (orchestra : List ℕ) (ceiling : ℕ) (l : Lawful orchestra ceiling) w
   start-fine = record { long = length-replicate 64 emptyLine; has = refl; locked = refl }
 
   start-core : coreOf (startOf (programOf orchestra) ceiling false) ≡ plainStart []
-  unfolding startOf coreOf plainStart each
+  unfolding startOf turn.coreOf plainStart each
   start-core = refl
 
   fresh-fine : Fine (programOf orchestra) ceiling (freshPanel orchestra ceiling)

@@ -25,15 +25,15 @@ use Rattle.sounding.specs.declared.Instrument.{Instrument}
 use Rattle.players.specs.Cycle.{samples, ends}
 use Rattle.players.specs.History.{Call, stick, unit, keypad, cycle, After}
 use Rattle.players.proofs.Lists.{cond-true, cond-false}
-use Rattle.panel.specs.Entrances.{lineIn, stickLine, pushedAll}
-use Rattle.panel.specs.State.{tableOf, queueIn, withQueue, coreOf, endedOf}
+use Rattle.entrances.specs.Entrances.{lineIn, stickLine, pushedAll}
+use Rattle.panel.specs.State.{tableOf, withQueue, coreOf, endedOf}
 use Rattle.panel.specs.Calls.{loadOf, loadedOf, enteredOf, receiveOf, enterOf, cycleOf, playedOf, blockAfter}
 use Rattle.panel.specs.declared.Panel.{Panel}
-use Rattle.panel.specs.declared.Pushed.{Pushed}
+use Rattle.entrances.specs.declared.Pushed.{Pushed}
 use Rattle.panel.specs.declared.Loaded.{Loaded}
 use Rattle.panel.specs.declared.Entered.{Entered}
 use Rattle.panel.specs.declared.Cycled.{Cycled}
-use Rattle.panel.proofs.Pushing.{taken-is}
+use Rattle.entrances.proofs.Pushing.{taken-is}
 use Rattle.claims.specs.Claims.{afterCall, Unchanged, RefusalsChangeNothing, EntrancesAlike}
 
 differ : true ≡ false → ⊥
@@ -58,16 +58,16 @@ lines-refused table old q i (l ∷ ls) t = go (isTaken (stickLine table q l .ans
     go true u r = r u
     go false u r = refl
 
-own : (p : Panel) (q : Queue) → q ≡ queueIn p → withQueue p q ≡ p
+own : (p : Panel) (q : Queue) → q ≡ p .state .queue → withQueue p q ≡ p
 unfolding withQueue
 own p q e = ap (withQueue p) e
 
 stick-same : (p : Panel) (b : List ℕ) → isTaken (loadOf p b .answer) ≡ false → loadOf p b .panel ≡ p
 unfolding loadOf loadedOf
-stick-same p b = go (p .ended) (isTaken (scoreOf (bitsOf b) .answer))
+stick-same p b = go (p .state .ended) (isTaken (scoreOf (bitsOf b) .answer))
   where
     r : Pushed
-    r = pushedAll (tableOf (p .program)) (queueIn p) (queueIn p) 0 (scoreOf (bitsOf b) .lines)
+    r = pushedAll (tableOf (p .program)) (p .state .queue) (p .state .queue) 0 (scoreOf (bitsOf b) .lines)
 
     out : Bool → Bool → Loaded
     out e t =
@@ -77,7 +77,7 @@ stick-same p b = go (p .ended) (isTaken (scoreOf (bitsOf b) .answer))
 
     go : (e t : Bool) → isTaken (out e t .answer) ≡ false → out e t .panel ≡ p
     go true t u = refl
-    go false true u = own p (r .queue) (lines-refused (tableOf (p .program)) (queueIn p) (queueIn p) 0 (scoreOf (bitsOf b) .lines) u)
+    go false true u = own p (r .queue) (lines-refused (tableOf (p .program)) (p .state .queue) (p .state .queue) 0 (scoreOf (bitsOf b) .lines) u)
     go false false u = refl
 
 -- a line that was read, on a panel that may have ended
@@ -85,26 +85,26 @@ entry : Panel → LineRead → Bool → Bool → Entered
 entry p r e t =
     cond e (record { panel = p; answer = answer.Ended })
     (cond t
-    (record { panel = withQueue p (lineIn (tableOf (p .program)) (queueIn p) (r .line) .queue); answer = lineIn (tableOf (p .program)) (queueIn p) (r .line) .answer })
+    (record { panel = withQueue p (lineIn (tableOf (p .program)) (p .state .queue) (r .line) .queue); answer = lineIn (tableOf (p .program)) (p .state .queue) (r .line) .answer })
     (record { panel = p; answer = r .answer }))
 
 entry-same : (p : Panel) (r : LineRead) (e t : Bool) → isTaken (entry p r e t .answer) ≡ false → entry p r e t .panel ≡ p
 unfolding entry
 entry-same p r true t u = refl
-entry-same p r false true u = own p _ (line-refused (tableOf (p .program)) (queueIn p) (r .line) u)
+entry-same p r false true u = own p _ (line-refused (tableOf (p .program)) (p .state .queue) (r .line) u)
 entry-same p r false false u = refl
 
 unit-same : (p : Panel) (b : List ℕ) → isTaken (receiveOf p b .answer) ≡ false → receiveOf p b .panel ≡ p
 unfolding receiveOf enteredOf entry
-unit-same p b = entry-same p (unitOf (bitsOf b)) (p .ended) (isTaken (unitOf (bitsOf b) .answer))
+unit-same p b = entry-same p (unitOf (bitsOf b)) (p .state .ended) (isTaken (unitOf (bitsOf b) .answer))
 
 keypad-same : (p : Panel) (w : List ℕ) → isTaken (enterOf p w .answer) ≡ false → enterOf p w .panel ≡ p
 unfolding enterOf enteredOf entry
-keypad-same p w = entry-same p (keypadLine w) (p .ended) (isTaken (keypadLine w .answer))
+keypad-same p w = entry-same p (keypadLine w) (p .state .ended) (isTaken (keypadLine w .answer))
 
 cycle-same : (p : Panel) (n : ℕ) → isTaken (cycleOf p n .answer) ≡ false → (cycleOf p n .panel ≡ p) ⊎ (cycleOf p n .panel ≡ endedOf p)
 unfolding cycleOf
-cycle-same p n = go (eqb n samples) (p .ended) (ends (coreOf p))
+cycle-same p n = go (eqb n samples) (p .state .ended) (ends (coreOf p))
   where
     out : Bool → Bool → Bool → Cycled
     out w e d =
@@ -160,7 +160,7 @@ after-of p a = record { player = p; answer = numberOf a; block = [] }
 line-after : Panel → Line → Bool → After Panel
 line-after p l ended =
     cond ended (after-of p answer.Ended)
-    (after-of (withQueue p (lineIn (tableOf (p .program)) (queueIn p) l .queue)) (lineIn (tableOf (p .program)) (queueIn p) l .answer))
+    (after-of (withQueue p (lineIn (tableOf (p .program)) (p .state .queue) l .queue)) (lineIn (tableOf (p .program)) (p .state .queue) l .answer))
 
 by-line : (p : Panel) (l : Line) (r : LineRead) → isTaken (r .answer) ≡ true → r .line ≡ l → (e : Bool)
     → after-of (cond e (record { panel = p; answer = answer.Ended }) (enteredOf p r) .panel) (cond e (record { panel = p; answer = answer.Ended }) (enteredOf p r) .answer)
@@ -169,7 +169,7 @@ unfolding line-after after-of enteredOf
 by-line p l r t e true = refl
 by-line p l r t e false =
     ap (λ (x : Entered). record { player = x .panel; answer = numberOf (x .answer); block = [] }) (cond-true _ _ t)
-    ∙ ap (λ (x : Line). record { player = withQueue p (lineIn (tableOf (p .program)) (queueIn p) x .queue); answer = numberOf (lineIn (tableOf (p .program)) (queueIn p) x .answer); block = [] }) e
+    ∙ ap (λ (x : Line). record { player = withQueue p (lineIn (tableOf (p .program)) (p .state .queue) x .queue); answer = numberOf (lineIn (tableOf (p .program)) (p .state .queue) x .answer); block = [] }) e
 
 by-stick : (p : Panel) (l : Line) (s : Score) → hasTime (l .when) ≡ true → isTaken (s .answer) ≡ true → s .lines ≡ l ∷ [] → (e : Bool)
     → after-of (cond e (record { panel = p; answer = answer.Ended; line = 0 }) (loadedOf p s) .panel) (cond e (record { panel = p; answer = answer.Ended; line = 0 }) (loadedOf p s) .answer)
@@ -177,7 +177,7 @@ by-stick : (p : Panel) (l : Line) (s : Score) → hasTime (l .when) ≡ true →
 unfolding line-after after-of loadedOf
 by-stick p l s h t e true = refl
 by-stick p l s h t e false =
-    let q = queueIn p in
+    let q = p .state .queue in
     let g = tableOf (p .program) in
     let o = lone g q l h in
     ap (λ (x : Loaded). record { player = x .panel; answer = numberOf (x .answer); block = [] }) (cond-true _ _ t)
@@ -187,7 +187,7 @@ by-stick p l s h t e false =
 pub entrances-alike : EntrancesAlike
 unfolding EntrancesAlike afterCall loadOf receiveOf enterOf after-of
 entrances-alike p l score bytes words h st sl ut ul kt kl =
-    let a = by-stick p l (scoreOf (bitsOf score)) h st sl (p .ended) in
-    let b = by-line p l (unitOf (bitsOf bytes)) ut ul (p .ended) in
-    let c = by-line p l (keypadLine words) kt kl (p .ended) in
+    let a = by-stick p l (scoreOf (bitsOf score)) h st sl (p .state .ended) in
+    let b = by-line p l (unitOf (bitsOf bytes)) ut ul (p .state .ended) in
+    let c = by-line p l (keypadLine words) kt kl (p .state .ended) in
     (a ∙ sym b, b ∙ sym c)

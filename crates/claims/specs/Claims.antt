@@ -36,7 +36,7 @@ afterCall p (cycle block) =
     }
 
 abbrev pub missedOf : Panel → ℕ
-missedOf p = p .missed
+missedOf p = p .state .missed
 
 -- the panel's entrances, and the lines that bytes and numbers hold
 abbrev pub entrances : Entrances Panel

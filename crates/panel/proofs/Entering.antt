@@ -1,30 +1,27 @@
 -- One law for each way through the fresh start and the entrances.
 use mathlib.Core.Path.{_≡_, refl, sym, ap, _∙_}
-use mathlib.Core.Bool.{Bool, true, false, cond, _&&_}
+use mathlib.Core.Bool.{Bool, true, false, _&&_}
 use mathlib.Core.List.{List, []}
 use Prim.Native.Nat.{ℕ, _≤_, _<_}
-use native.Mathlib.Omega.{arith}
 use lib.Dec.{leb}
 use borrow.Author.Tests.{le-leb, lt-leb}
 use Rattle.answer.specs.Numbers.{isTaken}
-use Rattle.answer.specs.declared.Answer.the-variants.{Taken, OutOfRange, Ended}
+use Rattle.answer.specs.declared.Answer.the-variants.{OutOfRange, Ended}
 use Rattle.bitstream.specs.Bits.{bitsOf}
 use Rattle.score_line.specs.Reading.{keypadLine}
 use Rattle.score_line.specs.declared.LineRead.{LineRead}
-use Rattle.score.specs.Score.{Score, scoreOf, heard, unitOf}
-use Rattle.score.specs.declared.ScoreRead.{ScoreRead}
+use Rattle.score.specs.Score.{scoreOf, unitOf}
 use Rattle.players.proofs.Lists.{cond-true, cond-false}
-use Rattle.waiting.specs.declared.Queue.{Queue}
 use Rattle.waiting.specs.declared.Admitted.{Admitted}
-use Rattle.panel.specs.Entrances.{lineIn, pushedAll}
-use Rattle.panel.specs.State.{tableOf, queueIn, withQueue, startOf}
+use Rattle.entrances.specs.Entrances.{lineIn, pushedAll, stickIn}
+use Rattle.panel.specs.State.{tableOf, withQueue, startOf}
 use Rattle.panel.specs.Calls.{noPanel, freshOf, loadedOf, loadOf, enteredOf, receiveOf, enterOf}
 use Rattle.panel.specs.declared.Panel.{Panel}
 use Rattle.loader.specs.declared.Ready.{Ready}
 use Rattle.loader.specs.declared.Program.{Program}
 use Rattle.loader.specs.Loading.{loadOf as loadedFrom}
 use Rattle.panel.specs.declared.Fresh.{Fresh}
-use Rattle.panel.specs.declared.Pushed.{Pushed}
+use Rattle.entrances.specs.declared.Pushed.{Pushed}
 use Rattle.panel.specs.declared.Loaded.{Loaded}
 use Rattle.panel.specs.declared.Entered.{Entered}
 
@@ -65,56 +62,52 @@ module _ (p : Panel) (r : LineRead) where
   unfolding enteredOf
   read-refused h = sym (cond-false _ _ h)
 
-  pub read-taken : isTaken (r .answer) ≡ true → (q : Queue) → q ≡ queueIn p → (a : Admitted) → a ≡ lineIn (tableOf (p .program)) q (r .line)
-      → (p′ : Panel) → p′ ≡ withQueue p (a .queue) → record { panel = p′; answer = a .answer } ≡ enteredOf p r
+  pub read-taken : isTaken (r .answer) ≡ true → (a : Admitted) → a ≡ lineIn (tableOf (p .program)) (p .state .queue) (r .line)
+      → record { panel = withQueue p (a .queue); answer = a .answer } ≡ enteredOf p r
   unfolding enteredOf
-  read-taken h q eq a ea p′ ep =
-      let e : a ≡ lineIn (tableOf (p .program)) (queueIn p) (r .line) = ea ∙ ap (λ (x : Queue). lineIn (tableOf (p .program)) x (r .line)) eq in
-      ap (λ (x : Panel). record { panel = x; answer = a .answer }) ep
-      ∙ ap (λ (x : Admitted). record { panel = withQueue p (x .queue); answer = x .answer }) e
-      ∙ sym (cond-true _ _ h)
+  read-taken h a e = ap (λ (x : Admitted). record { panel = withQueue p (x .queue); answer = x .answer }) e ∙ sym (cond-true _ _ h)
 
-pub score-answer : (bytes : List ℕ) (r : ScoreRead) → r ≡ heard (scoreOf (bitsOf bytes)) → isTaken (r .answer) ≡ true
-    → isTaken (scoreOf (bitsOf bytes) .answer) ≡ true
-score-answer bytes r er t = ap (λ (x : ScoreRead). isTaken (x .answer)) (sym er) ∙ t
+-- the panel after a stick
+abbrev pub withPushed : Panel → Pushed → Loaded
+withPushed p r = record { panel = withQueue p (r .queue); answer = r .answer; line = r .line }
 
 module _ (p : Panel) (bytes : List ℕ) where
-  pub unit-ended : p .ended ≡ true → record { panel = p; answer = Ended } ≡ receiveOf p bytes
+  pub unit-ended : p .state .ended ≡ true → record { panel = p; answer = Ended } ≡ receiveOf p bytes
   unfolding receiveOf
   unit-ended h = sym (cond-true _ _ h)
 
-  pub unit-read : p .ended ≡ false → (r : LineRead) → r ≡ unitOf (bitsOf bytes) → (x : Entered) → x ≡ enteredOf p r → x ≡ receiveOf p bytes
+  pub unit-read : p .state .ended ≡ false → (r : LineRead) → r ≡ unitOf (bitsOf bytes) → (x : Entered) → x ≡ enteredOf p r → x ≡ receiveOf p bytes
   unfolding receiveOf
   unit-read h r er x e = e ∙ ap (enteredOf p) er ∙ sym (cond-false _ _ h)
 
-  pub keypad-ended : p .ended ≡ true → record { panel = p; answer = Ended } ≡ enterOf p bytes
+  pub keypad-ended : p .state .ended ≡ true → record { panel = p; answer = Ended } ≡ enterOf p bytes
   unfolding enterOf
   keypad-ended h = sym (cond-true _ _ h)
 
-  pub keypad-read : p .ended ≡ false → (r : LineRead) → r ≡ keypadLine bytes → (x : Entered) → x ≡ enteredOf p r → x ≡ enterOf p bytes
+  pub keypad-read : p .state .ended ≡ false → (r : LineRead) → r ≡ keypadLine bytes → (x : Entered) → x ≡ enteredOf p r → x ≡ enterOf p bytes
   unfolding enterOf
   keypad-read h r er x e = e ∙ ap (enteredOf p) er ∙ sym (cond-false _ _ h)
 
-  pub stick-ended : p .ended ≡ true → record { panel = p; answer = Ended; line = 0 } ≡ loadOf p bytes
+  pub stick-ended : p .state .ended ≡ true → record { panel = p; answer = Ended; line = 0 } ≡ loadOf p bytes
   unfolding loadOf
   stick-ended h = sym (cond-true _ _ h)
 
-  module _ (h : p .ended ≡ false) (r : ScoreRead) (er : r ≡ heard (scoreOf (bitsOf bytes))) where
-    pub stick-refused : isTaken (r .answer) ≡ false → record { panel = p; answer = r .answer; line = r .line } ≡ loadOf p bytes
+  module _ (h : p .state .ended ≡ false) where
+    pub stick-refused : isTaken (scoreOf (bitsOf bytes) .answer) ≡ false
+        → record { panel = p; answer = scoreOf (bitsOf bytes) .answer; line = scoreOf (bitsOf bytes) .line } ≡ loadOf p bytes
     unfolding loadOf loadedOf
-    stick-refused t =
-        ap (λ (x : ScoreRead). record { panel = p; answer = x .answer; line = x .line }) er
-        ∙ sym (cond-false _ _ (ap (λ (x : ScoreRead). isTaken (x .answer)) (sym er) ∙ t))
-        ∙ sym (cond-false _ _ h)
+    stick-refused t = sym (cond-false _ _ h ∙ cond-false _ _ t)
 
-    pub stick-pushed : isTaken (r .answer) ≡ true → (q : Queue) → q ≡ queueIn p
-        → (a : Pushed) → a ≡ pushedAll (tableOf (p .program)) q q 0 (scoreOf (bitsOf bytes) .lines)
-        → (p′ : Panel) → p′ ≡ withQueue p (a .queue) → record { panel = p′; answer = a .answer; line = a .line } ≡ loadOf p bytes
+    pub stick-pushed : isTaken (scoreOf (bitsOf bytes) .answer) ≡ true
+        → withPushed p (pushedAll (tableOf (p .program)) (p .state .queue) (p .state .queue) 0 (scoreOf (bitsOf bytes) .lines)) ≡ loadOf p bytes
     unfolding loadOf loadedOf
-    stick-pushed t q eq a ea p′ ep =
-        let e : a ≡ pushedAll (tableOf (p .program)) (queueIn p) (queueIn p) 0 (scoreOf (bitsOf bytes) .lines) =
-        ea ∙ ap (λ (x : Queue). pushedAll (tableOf (p .program)) x x 0 (scoreOf (bitsOf bytes) .lines)) eq in
-        ap (λ (x : Panel). record { panel = x; answer = a .answer; line = a .line }) ep
-        ∙ ap (λ (x : Pushed). record { panel = withQueue p (x .queue); answer = x .answer; line = x .line }) e
-        ∙ sym (cond-true _ _ (score-answer bytes r er t))
-        ∙ sym (cond-false _ _ h)
+    stick-pushed t = sym (cond-false _ _ h ∙ cond-true _ _ t)
+
+    -- either way the waiting lines are what the stick makes of them
+    pub stick-read : (a : Pushed) → a ≡ stickIn (tableOf (p .program)) (p .state .queue) (scoreOf (bitsOf bytes)) → withPushed p a ≡ loadOf p bytes
+    unfolding stickIn withQueue
+    stick-read a e = ap (withPushed p) e ∙ go (isTaken (scoreOf (bitsOf bytes) .answer)) refl
+      where
+        go : (b : Bool) → isTaken (scoreOf (bitsOf bytes) .answer) ≡ b → withPushed p (stickIn (tableOf (p .program)) (p .state .queue) (scoreOf (bitsOf bytes))) ≡ loadOf p bytes
+        go true t = ap (withPushed p) (cond-true _ _ t) ∙ stick-pushed t
+        go false t = ap (withPushed p) (cond-false _ _ t) ∙ stick-refused t

@@ -1,3 +1,2 @@
-pub mod Pushing
 pub mod Entering
 pub mod Turning

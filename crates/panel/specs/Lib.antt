@@ -1,4 +1,2 @@
-pub mod Entrances
-pub mod Turn
 pub mod State
 pub mod Calls

@@ -1,21 +1,22 @@
--- The panel's value: its waiting lines, its core, its program's voices.
-use mathlib.Core.Bool.{Bool, true, false}
-use mathlib.Core.List.{List, [], _∷_}
+-- The panel's value: its state, and its program's voices.
+use mathlib.Core.Bool.{Bool, false}
+use mathlib.Core.List.{List}
 use Prim.Native.Nat.{ℕ}
-use lib.ListN.{length, take, replicate}
-use lib.Ieee.{Float, binary32, ofBits}
+use lib.ListN.{take, replicate}
+use lib.Ieee.{binary32, ofBits}
 use Rattle.score_line.specs.declared.When.the-variants.{Untimed}
 use Rattle.score_line.specs.declared.Event.the-variants.{End}
 use Rattle.score_line.specs.declared.Line.{Line}
 use Rattle.synth.specs.declared.Note.{Note}
 use Rattle.waiting.specs.declared.Queue.{Queue}
-use Rattle.players.specs.Lists.{each, over}
 use Rattle.players.specs.Cycle.{Voices, Core}
 use Rattle.players.specs.Plain.{startingTempo}
-use Rattle.sounding.specs.Voices.{Held, voices, notesIn, structOf}
+use Rattle.sounding.specs.Voices.{Held, voices}
 use Rattle.sounding.specs.declared.Instrument.{Instrument}
-use Rattle.panel.specs.declared.Panel.{Panel}
+use Rattle.turning.specs.Turn as turn
+use Rattle.turning.specs.declared.State.{State}
 use Rattle.loader.specs.declared.Program.{Program}
+use Rattle.panel.specs.declared.Panel.{Panel}
 
 -- the instruments of the accepted orchestra
 abbrev pub tableOf : Program → List Instrument
@@ -25,74 +26,30 @@ tableOf g = take (g .count) (g .table)
 abbrev pub voicesOf : Program → Voices Held
 voicesOf g = voices (tableOf g) (g .code) (g .vals)
 
--- the waiting lines and what lateness needs
-abbrev pub queueIn : Panel → Queue
-queueIn p = record { lines = p .lines; count = p .waiting; ran = p .ran; last = p .last }
+-- what a cycle works on
+abbrev pub coreOf : Panel → Core Held
+coreOf p = turn.coreOf (p .state)
 
+-- the panel in another state: its ceiling and its program stay
+abbrev pub withState : Panel → State → Panel
+withState p s = record { state = s; ceiling = p .ceiling; program = p .program }
+
+-- the panel with other waiting lines
 unfoldable pub withQueue : Panel → Queue → Panel
 withQueue p q =
-    record {
-      lines = q .lines;
-      waiting = q .count;
-      ran = q .ran;
-      last = q .last;
-      notes = p .notes;
-      sounding = p .sounding;
-      position = p .position;
-      tempo = p .tempo;
-      ceiling = p .ceiling;
-      missed = p .missed;
-      ended = p .ended;
-      program = p .program;
-    }
-
--- what a cycle works on: the waiting lines and the sounding notes as lists
-unfoldable pub coreOf : Panel → Core Held
-coreOf p =
-    record {
-      lines = take (p .waiting) (p .lines);
-      notes = notesIn (p .notes) (p .sounding);
-      position = p .position;
-      tempo = p .tempo;
-      missed = p .missed;
-      ended = p .ended;
-    }
-
--- the panel with another core, after a cycle at its position; its arrays keep what the core does not reach
-unfoldable pub withCore : Panel → Core Held → Panel
-withCore p c =
-    record {
-      lines = over (c .lines) (p .lines);
-      waiting = length (c .lines);
-      ran = true;
-      last = p .position;
-      notes = over (each structOf (c .notes)) (p .notes);
-      sounding = length (c .notes);
-      position = c .position;
-      tempo = c .tempo;
-      ceiling = p .ceiling;
-      missed = c .missed;
-      ended = c .ended;
-      program = p .program;
-    }
+    withState p
+    (record {
+      queue = q;
+      notes = p .state .notes;
+      position = p .state .position;
+      tempo = p .state .tempo;
+      missed = p .state .missed;
+      ended = p .state .ended;
+    })
 
 -- the panel marked as ended
 unfoldable pub endedOf : Panel → Panel
-endedOf p =
-    record {
-      lines = p .lines;
-      waiting = p .waiting;
-      ran = p .ran;
-      last = p .last;
-      notes = p .notes;
-      sounding = p .sounding;
-      position = p .position;
-      tempo = p .tempo;
-      ceiling = p .ceiling;
-      missed = p .missed;
-      ended = true;
-      program = p .program;
-    }
+endedOf p = withState p (turn.stopped (p .state))
 
 -- ---- a fresh start
 
@@ -107,16 +64,14 @@ emptyNote =
 unfoldable pub startOf : Program → ℕ → Bool → Panel
 startOf program ceiling ended =
     record {
-      lines = replicate 64 emptyLine;
-      waiting = 0;
-      ran = false;
-      last = 0;
-      notes = replicate 16 emptyNote;
-      sounding = 0;
-      position = 0;
-      tempo = startingTempo;
+      state = record {
+        queue = record { lines = replicate 64 emptyLine; count = 0; ran = false; last = 0 };
+        notes = record { notes = replicate 16 emptyNote; count = 0 };
+        position = 0;
+        tempo = startingTempo;
+        missed = 0;
+        ended = ended;
+      };
       ceiling = ceiling;
-      missed = 0;
-      ended = ended;
       program = program;
     }

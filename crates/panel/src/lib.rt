@@ -5,41 +5,21 @@ use score_line::Event;
 use score_line::Line;
 use score_line::LineRead;
 use score_line::When;
-use sounding::Instrument;
 use sounding::Notes;
 use synth::Note;
-use waiting::Admitted;
-use waiting::Lines;
+use turning::State;
 use waiting::Queue;
 ghost use mathlib.Core.Path.{_≡_};
-ghost use mathlib.Core.Bool.{true, false};
 ghost use mathlib.Core.List.{[]};
-ghost use Prim.Native.Nat.{_≤_, _<_, _+_, min};
-ghost use lib.ListN.{length, take};
-ghost use Rattle.answer.specs.Numbers.{isTaken};
-ghost use Rattle.bitstream.specs.Bits.{bitsOf};
-ghost use Rattle.limiter.specs.Block.{limited};
-ghost use Rattle.score.specs.Score.{scoreOf};
-ghost use Rattle.players.specs.Cycle.{runAll, bandOf, dueOf};
-ghost use Rattle.sounding.specs.Voices.{voices, notesIn};
-ghost use Rattle.panel.specs.Entrances.{lineIn, stickLine, pushedAll};
-ghost use Rattle.panel.specs.Turn.{bandFrom, TurnedBy};
-ghost use Rattle.panel.specs.State.{tableOf, voicesOf, queueIn, withQueue, coreOf, endedOf, startOf};
+ghost use lib.ListN.{length};
+ghost use Rattle.panel.specs.State.{startOf};
 ghost use Rattle.loader.specs.Loading.{loadOf as loadedFrom};
-ghost use Rattle.panel.specs.Calls.{noPanel, freshOf, loadOf, enteredOf, receiveOf, enterOf, playedOf, cycleOf, blockAfter};
+ghost use Rattle.panel.specs.Calls.{noPanel, freshOf, loadOf, enteredOf, receiveOf, enterOf, cycleOf, blockAfter};
 
+// What the calls change, beside what a fresh start fixes.
 pub struct Panel {
-    lines: [Line; 64],
-    waiting: usize,
-    ran: bool,
-    last: u64,
-    notes: [Note; 16],
-    sounding: usize,
-    position: u64,
-    tempo: f32,
+    state: State,
     ceiling: u16,
-    missed: u64,
-    ended: bool,
     program: Program,
 }
 
@@ -65,90 +45,8 @@ pub struct Cycled {
     pub answer: Answer,
 }
 
-// What the lines of a stick make of the waiting lines.
-pub struct Pushed {
-    pub queue: Queue,
-    pub answer: Answer,
-    pub line: usize,
-}
-
-// The one admission, with the fields of the line's instrument.
-fn line_in(table: [Instrument; 8], n: usize, q: Queue, l: Line) -> Admitted
-    ensures { λ r. ⌜ r ≡ lineIn (take n table) q l ⌝ }
-{
-    waiting::admit(q, l, sounding::fields_for(table, n, l))
-}
-
-// A line of a stick has to have a time.
-fn stick_line(table: [Instrument; 8], n: usize, q: Queue, l: Line) -> Admitted
-    ensures { λ r. ⌜ r ≡ stickLine (take n table) q l ⌝ }
-{
-    if waiting::is_timed(l) {
-        return line_in(table, n, q, l);
-    }
-    Admitted {
-        queue: q,
-        answer: Answer::NoTime,
-    }
-}
-
-// The lines of a score that was read whole, into a copy of the waiting lines.
-fn push_lines(table: [Instrument; 8], n: usize, old: Queue, s: &[u8]) -> Pushed
-    requires { ⌜ isTaken (scoreOf (bitsOf (now s)) .answer) ≡ true ⌝ }
-    ensures { λ r. ⌜ r ≡ pushedAll (take n table) old old 0 (scoreOf (bitsOf (now (s .entry))) .lines) ⌝ }
-{
-    let mut q = old;
-    let mut c = score::first(s);
-    let total = c.left;
-    while 0 < c.left {
-        let step = score::next(s, c);
-        let l = step.line;
-        let a = stick_line(table, n, q, l);
-        let answer = a.answer;
-        if !answer::is_taken(answer) {
-            return Pushed {
-                queue: old,
-                answer: answer,
-                line: total - c.left,
-            };
-        }
-        q = a.queue;
-        c = step.rest;
-    }
-    Pushed {
-        queue: q,
-        answer: Answer::Taken,
-        line: 0,
-    }
-}
-
-// ---- the panel's own functions
-
-fn queue_of(p: Panel) -> Queue
-    ensures { λ r. ⌜ r ≡ queueIn p ⌝ }
-{
-    let lines = p.lines;
-    Queue {
-        lines: lines,
-        count: p.waiting,
-        ran: p.ran,
-        last: p.last,
-    }
-}
-
-fn with_queue(mut p: Panel, q: Queue) -> Panel
-    ensures { λ r. ⌜ r ≡ withQueue p q ⌝ }
-{
-    let lines = q.lines;
-    p.lines = lines;
-    p.waiting = q.count;
-    p.ran = q.ran;
-    p.last = q.last;
-    p
-}
-
 // A line that was read goes to the one admission, whichever entrance it came by.
-fn take_in(p: Panel, read: LineRead) -> Entered
+fn take_in(mut p: Panel, read: LineRead) -> Entered
     ensures { λ r. ⌜ r ≡ enteredOf p read ⌝ }
 {
     let answer = read.answer;
@@ -160,12 +58,16 @@ fn take_in(p: Panel, read: LineRead) -> Entered
     }
     let program = p.program;
     let table = program.table;
+    let mut state = p.state;
+    let q = state.queue;
     let l = read.line;
-    let a = line_in(table, program.count, queue_of(p), l);
-    let q = a.queue;
+    let a = entrances::line_in(table, program.count, q, l);
+    let left = a.queue;
     let given = a.answer;
+    state.queue = left;
+    p.state = state;
     Entered {
-        panel: with_queue(p, q),
+        panel: p,
         answer: given,
     }
 }
@@ -192,17 +94,23 @@ fn start(program: Program, ceiling: u16, ended: bool) -> Panel
     let lines = [line; 64];
     let notes = [note; 16];
     Panel {
-        lines: lines,
-        waiting: 0,
-        ran: false,
-        last: 0,
-        notes: notes,
-        sounding: 0,
-        position: 0,
-        tempo: Panel::STARTING_TEMPO,
+        state: State {
+            queue: Queue {
+                lines: lines,
+                count: 0,
+                ran: false,
+                last: 0,
+            },
+            notes: Notes {
+                notes: notes,
+                count: 0,
+            },
+            position: 0,
+            tempo: Panel::STARTING_TEMPO,
+            missed: 0,
+            ended: ended,
+        },
         ceiling: ceiling,
-        missed: 0,
-        ended: ended,
         program: program,
     }
 }
@@ -223,149 +131,6 @@ fn no_panel(program: Program, answer: Answer) -> Fresh
     Fresh {
         panel: start(program, 1, true),
         answer: answer,
-    }
-}
-
-// The count of missed notes stops at the largest number.
-fn counted(missed: u64, more: usize) -> u64
-    requires { ⌜ more ≤ 64 ⌝ }
-    ensures { λ r. ⌜ r ≡ min (missed + more) 18446744073709551615 ⌝ }
-{
-    let m = more as u64;
-    if missed <= 18446744073709551615 - m {
-        missed + m
-    } else {
-        18446744073709551615
-    }
-}
-
-// Steps 5 and 6: the notes run into one mix, which is limited into the block.
-fn sound<'a>(
-    table: [Instrument; 8],
-    n: usize,
-    code: &'a [u64],
-    vals: &'a [f32],
-    v: Notes,
-    ceiling: u16,
-    block: &mut [i16],
-) -> Notes
-    ensures notes { λ r. ⌜ (r .count ≡ v .count) × (notesIn (r .notes) (r .count) ≡ runAll (voices (take n table) (now (code .entry)) (now (vals .entry))) (notesIn (v .notes) (v .count)) .notes) ⌝ }
-    ensures block { λ r. ⌜ now (block .exit) ≡ limited ceiling (runAll (voices (take n table) (now (code .entry)) (now (vals .entry))) (notesIn (v .notes) (v .count)) .mix) (now (block .entry)) ⌝ }
-{
-    let mut mix = [0.0f32; 320];
-    let notes = v.notes;
-    let held = sounding::run_notes(table, n, code, vals, notes, v.count, &mut mix);
-    limiter::limit(&mix, ceiling, block);
-    Notes {
-        notes: held,
-        count: v.count,
-    }
-}
-
-// Steps 3 to 7: the notes that sound afterwards, laid over the array, and how many were missed.
-struct Turned {
-    notes: [Note; 16],
-    count: usize,
-    missed: usize,
-}
-
-fn turn<'a>(
-    table: [Instrument; 8],
-    n: usize,
-    code: &'a [u64],
-    vals: &'a [f32],
-    old: Notes,
-    due: Lines,
-    position: u64,
-    ceiling: u16,
-    block: &mut [i16],
-) -> Turned
-    requires { ⌜ position ≤ 1000000000000 ⌝ }
-    ensures notes { λ r. ⌜ TurnedBy (voices (take n table) (now (code .entry)) (now (vals .entry))) position (old .notes) (old .count) (take (due .count) (due .lines)) (r .notes) (r .count) (r .missed) ⌝ }
-    ensures block { λ r. ⌜ now (block .exit) ≡ limited ceiling (bandFrom (voices (take n table) (now (code .entry)) (now (vals .entry))) position (notesIn (old .notes) (old .count)) (take (due .count) (due .lines)) .mix) (now (block .entry)) ⌝ }
-{
-    let notes = old.notes;
-    let lines = due.lines;
-    let v = sounding::start_notes(
-        table,
-        n,
-        code,
-        vals,
-        notes,
-        old.count,
-        lines,
-        due.count,
-        position,
-    );
-    let born = v.notes;
-    let c = sounding::control_lines(
-        table,
-        n,
-        Notes {
-            notes: born,
-            count: v.count,
-        },
-        lines,
-        due.count,
-    );
-    let h = sound(table, n, code, vals, c, ceiling, block);
-    let heard = h.notes;
-    let g = sounding::remaining(heard, h.count, position);
-    let left = g.notes;
-    let out = sounding::laid(left, g.count, notes);
-    Turned {
-        notes: out,
-        count: g.count,
-        missed: v.missed,
-    }
-}
-
-// Steps 2 to 8, for the due lines in order.
-fn played(p: Panel, due: Lines, block: &mut [i16]) -> Panel
-    requires { ⌜ (p .position ≤ 1000000000000) × (take (due .count) (due .lines) ≡ dueOf (coreOf p)) ⌝ }
-    ensures panel { λ r. ⌜ r ≡ playedOf p ⌝ }
-    ensures block { λ r. ⌜ now (block .exit) ≡ limited (p .ceiling) (bandOf (voicesOf (p .program)) (coreOf p) .mix) (now (block .entry)) ⌝ }
-{
-    let position = p.position;
-    let lines = p.lines;
-    let notes = p.notes;
-    let program = p.program;
-    let table = program.table;
-    let code = program.code;
-    let vals = program.vals;
-    let now = due.lines;
-    let tempo = waiting::tempo_after(now, due.count, p.tempo);
-    let t = turn(
-        table,
-        program.count,
-        &code,
-        &vals,
-        Notes {
-            notes: notes,
-            count: p.sounding,
-        },
-        due,
-        position,
-        p.ceiling,
-        block,
-    );
-    let heard = t.notes;
-    let k = waiting::kept(lines, p.waiting, position);
-    let rest = k.lines;
-    let step = timebase::ticks_per_cycle(tempo);
-    Panel {
-        lines: rest,
-        waiting: k.count,
-        ran: true,
-        last: position,
-        notes: heard,
-        sounding: t.count,
-        position: position + step,
-        tempo: tempo,
-        ceiling: p.ceiling,
-        missed: counted(p.missed, t.missed),
-        ended: false,
-        program: program,
     }
 }
 
@@ -395,32 +160,27 @@ impl Panel {
     }
 
     // A stick: the whole score, or nothing of it.
-    pub fn load_score(self, s: &[u8]) -> Loaded
+    pub fn load_score(mut self, s: &[u8]) -> Loaded
         ensures { λ r. ⌜ r ≡ loadOf self (now (s .entry)) ⌝ }
     {
-        if self.ended {
+        if self.state.ended {
             return Loaded {
                 panel: self,
                 answer: Answer::Ended,
                 line: 0,
             };
         }
-        let read = score::read_score(s);
-        let answer = read.answer;
-        if !answer::is_taken(answer) {
-            return Loaded {
-                panel: self,
-                answer: answer,
-                line: read.line,
-            };
-        }
         let program = self.program;
         let table = program.table;
-        let r = push_lines(table, program.count, queue_of(self), s);
-        let q = r.queue;
+        let mut state = self.state;
+        let q = state.queue;
+        let r = entrances::stick_in(table, program.count, q, s);
+        let left = r.queue;
         let given = r.answer;
+        state.queue = left;
+        self.state = state;
         Loaded {
-            panel: with_queue(self, q),
+            panel: self,
             answer: given,
             line: r.line,
         }
@@ -430,7 +190,7 @@ impl Panel {
     pub fn receive_unit(self, s: &[u8]) -> Entered
         ensures { λ r. ⌜ r ≡ receiveOf self (now (s .entry)) ⌝ }
     {
-        if self.ended {
+        if self.state.ended {
             return Entered {
                 panel: self,
                 answer: Answer::Ended,
@@ -443,7 +203,7 @@ impl Panel {
     pub fn enter_line(self, words: &[u32]) -> Entered
         ensures { λ r. ⌜ r ≡ enterOf self (now (words .entry)) ⌝ }
     {
-        if self.ended {
+        if self.state.ended {
             return Entered {
                 panel: self,
                 answer: Answer::Ended,
@@ -463,62 +223,66 @@ impl Panel {
                 answer: Answer::BlockLength,
             };
         }
-        if self.ended {
+        if self.state.ended {
             return Cycled {
                 panel: self,
                 answer: Answer::Ended,
             };
         }
-        if 1000000000000 < self.position {
-            self.ended = true;
-            return Cycled {
-                panel: self,
-                answer: Answer::Ended,
-            };
-        }
-        let lines = self.lines;
-        let due = waiting::due_lines(lines, self.waiting, self.position);
-        let now = due.lines;
-        if waiting::has_end(now, due.count) {
-            self.ended = true;
+        let program = self.program;
+        let table = program.table;
+        let code = program.code;
+        let vals = program.vals;
+        let state = self.state;
+        let next = turning::turn(
+            table,
+            program.count,
+            &code,
+            &vals,
+            state,
+            self.ceiling,
+            block,
+        );
+        self.state = next;
+        if next.ended {
             return Cycled {
                 panel: self,
                 answer: Answer::Ended,
             };
         }
         Cycled {
-            panel: played(self, due, block),
+            panel: self,
             answer: Answer::Taken,
         }
     }
 
     pub fn missed_notes(self) -> u64
-        ensures { λ r. ⌜ r ≡ self .missed ⌝ }
+        ensures { λ r. ⌜ r ≡ self .state .missed ⌝ }
     {
-        self.missed
+        self.state.missed
     }
 
     pub fn waiting_lines(self) -> usize
-        ensures { λ r. ⌜ r ≡ self .waiting ⌝ }
+        ensures { λ r. ⌜ r ≡ self .state .queue .count ⌝ }
     {
-        self.waiting
+        self.state.queue.count
     }
 
     pub fn sounding_notes(self) -> usize
-        ensures { λ r. ⌜ r ≡ self .sounding ⌝ }
+        ensures { λ r. ⌜ r ≡ self .state .notes .count ⌝ }
     {
-        self.sounding
+        self.state.notes.count
     }
 
     pub fn has_ended(self) -> bool
-        ensures { λ r. ⌜ r ≡ self .ended ⌝ }
+        ensures { λ r. ⌜ r ≡ self .state .ended ⌝ }
     {
-        self.ended
+        self.state.ended
     }
 
     pub fn position_in_ticks(self) -> u64
-        ensures { λ r. ⌜ r ≡ self .position ⌝ }
+        ensures { λ r. ⌜ r ≡ self .state .position ⌝ }
     {
-        self.position
+        self.state.position
     }
 }

@@ -38,8 +38,8 @@ use Rattle.loader_claims.proofs.Loaded as loader
 use Rattle.panel.specs.declared.Panel.{Panel}
 use Rattle.panel.specs.declared.Fresh.{Fresh}
 use Rattle.panel.specs.declared.Loaded.{Loaded}
-use Rattle.panel.specs.State.{tableOf, queueIn, startOf}
-use Rattle.panel.specs.Entrances.{lineIn, stickLine, pushedAll}
+use Rattle.panel.specs.State.{tableOf, startOf}
+use Rattle.entrances.specs.Entrances.{lineIn, stickLine, pushedAll}
 use Rattle.panel.specs.Calls.{freshOf, loadOf, loadedOf}
 use Rattle.claims.specs.Claims.{afterCall, entrances, programOf, Condition3}
 use Rattle.claims.proofs.Proved.{condition-3}
@@ -66,7 +66,7 @@ read-as = scoreOf (bitsOf score)
 
 -- the one admission takes it: the instrument is there, it is not late, and there is room
 abbrev empty : Queue
-empty = queueIn (startOf (programOf bytes) 32767 false)
+empty = startOf (programOf bytes) 32767 false .state .queue
 
 admitted-so : (f : Fields) → f ≡ Count 0 → admission empty line f ≡ Taken
 unfolding admission startOf

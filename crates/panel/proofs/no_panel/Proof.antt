@@ -1,4 +1,4 @@
-use mathlib.Core.Path.{_≡_, refl, ap, sym, _∙_}
+use mathlib.Core.Path.{ap}
 use borrow.Author.Needs.{needs}
 use Rattle.panel.specs.Calls.{noPanel}
 use Rattle.panel.specs.declared.Panel.{Panel}

@@ -1,5 +1,4 @@
-use mathlib.Core.Path.{_≡_, refl, ap, sym, _∙_}
-use borrow.Author.Needs.{needs}
+use mathlib.Core.Path.{refl}
 use Rattle.players.specs.Plain.{startingTempo}
 use Rattle.panel.specs.State.{startOf, emptyLine, emptyNote}
 use Rattle.panel.proofs.start.Statement.{statement}

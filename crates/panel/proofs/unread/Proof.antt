@@ -3,23 +3,16 @@ use Rattle.loader.specs.declared.Ready.{Ready}
 use borrow.Author.Needs.{needs}
 use Rattle.panel.proofs.unread.Statement.{statement}
 use Rattle.panel.proofs.unread.Tie as tie
-use Rattle.panel.proofs.unread.Reads as reads
-use Rattle.panel.proofs.unread.Lts as lts
-use Rattle.loader.proofs.load.Reads as load-reads
 
--- src/lib.rt:215:29
 array-share-prefix-none : tie.Need-array-share-prefix-none
 array-share-prefix-none c = search needs
 
--- src/lib.rt:215:29
 slice-aggregate-load : tie.Need-slice-aggregate-load
 slice-aggregate-load c = search needs
 
--- src/lib.rt:215:9
 load-requires : tie.Need-load-requires
 load-requires c κs = search needs
 
--- src/lib.rt:211:1
 returns : tie.Need-returns
 returns c = ap (λ (r : Ready). r .program) (c .before .load .ensures)
 

@@ -1,0 +1,4 @@
+pub mod Steps
+pub mod Advancing
+pub mod Turning
+pub mod Samples

@@ -1,0 +1,208 @@
+// One cycle, steps 1 to 8, on the state that it changes (document 01, "One cycle, in order").
+use sounding::Instrument;
+use sounding::Notes;
+use waiting::Lines;
+use waiting::Queue;
+ghost use mathlib.Core.Path.{_≡_};
+ghost use mathlib.Core.Bool.{_||_};
+ghost use Prim.Native.Nat.{_≤_, _+_, min};
+ghost use lib.Dec.{ltb};
+ghost use lib.ListN.{take};
+ghost use Rattle.limiter.specs.Block.{limited};
+ghost use Rattle.players.specs.Cycle.{farthest, anyEnd, dueOf, bandOf, runAll};
+ghost use Rattle.sounding.specs.Voices.{voices};
+ghost use Rattle.turning.specs.Steps.{soundingIn, bandFrom, performedOf};
+ghost use Rattle.turning.specs.Turn.{coreOf, played, turned, blockAfter};
+
+// What the calls change: the waiting lines, the sounding notes, position, tempo, missed notes and the mark of the end.
+pub struct State {
+    pub queue: Queue,
+    pub notes: Notes,
+    pub position: u64,
+    pub tempo: f32,
+    pub missed: u64,
+    pub ended: bool,
+}
+
+// Step 1: an end line is due, or the position is past the limit.
+fn is_over(position: u64, due: Lines) -> bool
+    ensures { λ r. ⌜ r ≡ (ltb farthest position || anyEnd (take (due .count) (due .lines))) ⌝ }
+{
+    if 1000000000000 < position {
+        return true;
+    }
+    let lines = due.lines;
+    waiting::has_end(lines, due.count)
+}
+
+// Steps 5 and 6: the notes run into one mix, which is limited into the block.
+fn sound<'a>(
+    table: [Instrument; 8],
+    n: usize,
+    code: &'a [u64],
+    vals: &'a [f32],
+    v: Notes,
+    ceiling: u16,
+    block: &mut [i16],
+) -> Notes
+    ensures notes { λ r. ⌜ (r .count ≡ v .count) × (soundingIn r ≡ runAll (voices (take n table) (now (code .entry)) (now (vals .entry))) (soundingIn v) .notes) ⌝ }
+    ensures block { λ r. ⌜ now (block .exit) ≡ limited ceiling (runAll (voices (take n table) (now (code .entry)) (now (vals .entry))) (soundingIn v) .mix) (now (block .entry)) ⌝ }
+{
+    let mut mix = [0.0f32; 320];
+    let notes = v.notes;
+    let held = sounding::run_notes(table, n, code, vals, notes, v.count, &mut mix);
+    limiter::limit(&mix, ceiling, block);
+    Notes {
+        notes: held,
+        count: v.count,
+    }
+}
+
+// The count of missed notes stops at the largest number.
+fn counted(missed: u64, more: usize) -> u64
+    requires { ⌜ more ≤ 64 ⌝ }
+    ensures { λ r. ⌜ r ≡ min (missed + more) 18446744073709551615 ⌝ }
+{
+    let m = more as u64;
+    if missed <= 18446744073709551615 - m {
+        missed + m
+    } else {
+        18446744073709551615
+    }
+}
+
+// The notes that sound afterwards, and how many were missed so far.
+struct Performed {
+    notes: Notes,
+    missed: u64,
+}
+
+// Steps 3 to 7, for the due lines in order.
+fn perform<'a>(
+    table: [Instrument; 8],
+    n: usize,
+    code: &'a [u64],
+    vals: &'a [f32],
+    old: Notes,
+    due: Lines,
+    position: u64,
+    missed: u64,
+    ceiling: u16,
+    block: &mut [i16],
+) -> Performed
+    requires { ⌜ position ≤ 1000000000000 ⌝ }
+    ensures notes { λ r. ⌜ r ≡ performedOf (voices (take n table) (now (code .entry)) (now (vals .entry))) position old (take (due .count) (due .lines)) missed ⌝ }
+    ensures block { λ r. ⌜ now (block .exit) ≡ limited ceiling (bandFrom (voices (take n table) (now (code .entry)) (now (vals .entry))) position (soundingIn old) (take (due .count) (due .lines)) .mix) (now (block .entry)) ⌝ }
+{
+    let notes = old.notes;
+    let lines = due.lines;
+    let v = sounding::start_notes(
+        table,
+        n,
+        code,
+        vals,
+        notes,
+        old.count,
+        lines,
+        due.count,
+        position,
+    );
+    let born = v.notes;
+    let c = sounding::control_lines(
+        table,
+        n,
+        Notes {
+            notes: born,
+            count: v.count,
+        },
+        lines,
+        due.count,
+    );
+    let h = sound(table, n, code, vals, c, ceiling, block);
+    let heard = h.notes;
+    let g = sounding::remaining(heard, h.count, position);
+    let left = g.notes;
+    let out = sounding::laid(left, g.count, notes);
+    Performed {
+        notes: Notes {
+            notes: out,
+            count: g.count,
+        },
+        missed: counted(missed, v.missed),
+    }
+}
+
+// Steps 2 to 8, for the due lines in order.
+fn advance<'a>(
+    table: [Instrument; 8],
+    n: usize,
+    code: &'a [u64],
+    vals: &'a [f32],
+    s: State,
+    due: Lines,
+    ceiling: u16,
+    block: &mut [i16],
+) -> State
+    requires { ⌜ (s .position ≤ 1000000000000) × (take (due .count) (due .lines) ≡ dueOf (coreOf s)) ⌝ }
+    ensures state { λ r. ⌜ r ≡ played (voices (take n table) (now (code .entry)) (now (vals .entry))) s ⌝ }
+    ensures block { λ r. ⌜ now (block .exit) ≡ limited ceiling (bandOf (voices (take n table) (now (code .entry)) (now (vals .entry))) (coreOf s) .mix) (now (block .entry)) ⌝ }
+{
+    let position = s.position;
+    let q = s.queue;
+    let lines = q.lines;
+    let notes = s.notes;
+    let now = due.lines;
+    let tempo = waiting::tempo_after(now, due.count, s.tempo);
+    let t = perform(
+        table,
+        n,
+        code,
+        vals,
+        notes,
+        due,
+        position,
+        s.missed,
+        ceiling,
+        block,
+    );
+    let heard = t.notes;
+    let k = waiting::kept(lines, q.count, position);
+    let rest = k.lines;
+    let step = timebase::ticks_per_cycle(tempo);
+    State {
+        queue: Queue {
+            lines: rest,
+            count: k.count,
+            ran: true,
+            last: position,
+        },
+        notes: heard,
+        position: position + step,
+        tempo: tempo,
+        missed: t.missed,
+        ended: false,
+    }
+}
+
+// One cycle: the state afterwards, marked as ended where step 1 ends the piece.
+pub fn turn<'a>(
+    table: [Instrument; 8],
+    n: usize,
+    code: &'a [u64],
+    vals: &'a [f32],
+    mut s: State,
+    ceiling: u16,
+    block: &mut [i16],
+) -> State
+    ensures state { λ r. ⌜ r ≡ turned (voices (take n table) (now (code .entry)) (now (vals .entry))) s ⌝ }
+    ensures block { λ r. ⌜ now (block .exit) ≡ blockAfter (voices (take n table) (now (code .entry)) (now (vals .entry))) ceiling s (now (block .entry)) ⌝ }
+{
+    let q = s.queue;
+    let lines = q.lines;
+    let due = waiting::due_lines(lines, q.count, s.position);
+    if is_over(s.position, due) {
+        s.ended = true;
+        return s;
+    }
+    advance(table, n, code, vals, s, due, ceiling, block)
+}
