@@ -1,14 +1,11 @@
 -- The panel's calls on its core.
 use mathlib.Core.Path.{_≡_, refl, sym, ap, _∙_, subst, subst⁻¹}
-use mathlib.Core.Logic.{_⊎_, inl, inr, ⊎-elim}
-use mathlib.Core.Bool.{Bool, true, false, cond, not}
+use mathlib.Core.Bool.{Bool, true, false, cond}
 use mathlib.Core.List.{List, [], _∷_, _++_, append-assoc, append-nil}
-use Prim.Native.Nat.{ℕ, suc, _+_, _≤_, _<_}
+use Prim.Native.Nat.{ℕ, _+_}
 use native.Mathlib.Omega.{arith}
-use lib.IntN.{ℤ}
-use lib.ListN.{length, take, drop, length-take, length-replicate}
-use lib.Seq.{take-append-seam}
-use lib.Dec.{eqb, leb}
+use lib.ListN.{length}
+use lib.Dec.{eqb}
 use borrow.Author.Tests.{eqb-true}
 use Rattle.answer.specs.Numbers.{numberOf, isTaken}
 use Rattle.answer.specs.declared.Answer.{Answer}
@@ -18,35 +15,29 @@ use Rattle.score_line.specs.Reading.{keypadLine}
 use Rattle.score_line.specs.declared.Line.{Line}
 use Rattle.score_line.specs.declared.LineRead.{LineRead}
 use Rattle.score.specs.Score.{scoreOf, unitOf}
-use Rattle.synth.specs.declared.Note.{Note}
-use Rattle.waiting.specs.Admission.{hasTime, admitted, pushed, waitingIn}
+use Rattle.waiting.specs.Admission.{hasTime, admitted, waitingIn}
 use Rattle.waiting.specs.declared.Fields.{Fields}
 use Rattle.waiting.specs.declared.Queue.{Queue}
 use Rattle.waiting.specs.declared.Admitted.{Admitted}
 use Rattle.waiting.proofs.Admission.{refused-same, taken-pushed, taken-room, waiting-pushed, length-pushed}
-use Rattle.players.specs.Lists.{each, keep, over, All}
-use Rattle.players.specs.Cycle.{Voices, Core, isDue, samples, ends, stepped, stopped, blockOf, withLines, capped}
+use Rattle.players.specs.Cycle.{withLines}
 use Rattle.players.specs.Cycle as cycle
 use Rattle.players.specs.History as history
-use Rattle.players.proofs.Lists.{cond-true, cond-false, length-keep}
-use Rattle.players.proofs.Loops.{length-over}
+use Rattle.players.proofs.Lists.{cond-true, cond-false}
 use Rattle.players.proofs.Count.{steady, AllSteady}
-use Rattle.players.proofs.Works.{Entered, took, refused, Turned, off, over as over-now, finished, played, Works}
-use Rattle.sounding.specs.Voices.{Held, noteOf, structOf, notesIn, fieldsIn}
+use Rattle.players.proofs.Works.{Entered, took, refused}
+use Rattle.sounding.specs.Voices.{fieldsIn}
 use Rattle.sounding.specs.declared.Instrument.{Instrument}
-use Rattle.sounding.proofs.Steps.{length-each}
 use Rattle.entrances.specs.Entrances.{lineIn, stickLine, pushedAll}
 use Rattle.turning.specs.Steps.{soundingIn}
 use Rattle.turning.specs.Turn as turn
-use Rattle.panel.specs.State.{tableOf, voicesOf, withQueue, coreOf, endedOf, startOf}
-use Rattle.panel.specs.Calls.{freshOf, loadOf, loadedOf, enteredOf, receiveOf, enterOf, playedOf, cycleOf, blockAfter}
+use Rattle.panel.specs.State.{tableOf, withQueue, coreOf}
+use Rattle.panel.specs.Calls.{loadOf, enteredOf, receiveOf, enterOf}
 use Rattle.panel.specs.declared.Panel.{Panel}
 use Rattle.loader.specs.declared.Program.{Program}
-use Rattle.panel.specs.declared.Fresh.{Fresh}
 use Rattle.entrances.specs.declared.Pushed.{Pushed}
 use Rattle.panel.specs.declared.Loaded.{Loaded}
 use Rattle.panel.specs.declared.Entered as entered
-use Rattle.panel.specs.declared.Cycled.{Cycled}
 use Rattle.panel.proofs.Entering.{read-refused, read-taken, unit-ended, unit-read, keypad-ended, keypad-read, stick-ended, stick-refused, stick-pushed}
 
 -- ---- waiting lines

@@ -1,46 +1,36 @@
 -- The claims, proved.
-use mathlib.Core.Path.{_≡_, refl, sym, ap, _∙_, subst, subst⁻¹}
-use mathlib.Core.Logic.{_⊎_, inl, inr}
-use mathlib.Core.Bool.{Bool, true, false, cond, _&&_}
-use mathlib.Core.List.{List, [], _∷_}
-use Prim.Native.Nat.{ℕ, _+_, _≤_}
+use mathlib.Core.Path.{_≡_, refl, ap, _∙_, subst, subst⁻¹}
+use mathlib.Core.Bool.{Bool, false, _&&_}
+use mathlib.Core.List.{List, []}
+use Prim.Native.Nat.{ℕ, _≤_}
 use native.Mathlib.Omega.{arith}
 use lib.IntN.{ℤ}
-use lib.ListN.{length, take, length-take, length-replicate}
+use lib.ListN.{length, length-take, length-replicate}
 use lib.Dec.{eqb, leb}
 use borrow.Author.Tests.{le-leb}
 use Rattle.answer.specs.Numbers.{numberOf, isTaken}
 use Rattle.answer.specs.declared.Answer.{Answer}
 use Rattle.answer.specs.declared.Answer.the-variants as answer
 use Rattle.bitstream.specs.Bits.{bitsOf}
-use Rattle.score_line.specs.Reading.{keypadLine}
-use Rattle.score_line.specs.declared.Line.{Line}
-use Rattle.score_line.specs.declared.LineRead.{LineRead}
-use Rattle.score.specs.Score.{scoreOf, heard, unitOf}
-use Rattle.waiting.specs.Admission.{hasTime}
-use Rattle.waiting.specs.declared.Queue.{Queue}
-use Rattle.waiting.specs.declared.Admitted.{Admitted}
-use Rattle.players.specs.Cycle.{Voices, Core, samples, ends}
+use Rattle.players.specs.Cycle.{samples}
 use Rattle.players.specs.Plain.{plainStart}
 use Rattle.players.specs.Lists.{each}
-use Rattle.players.specs.History.{Call, stick, unit, keypad, cycle, After, Entrances, PlainAlike, CeilingHolds}
-use Rattle.players.proofs.Lists.{cond-true, cond-false}
+use Rattle.players.specs.History.{Call, stick, unit, keypad, cycle, PlainAlike, CeilingHolds}
+use Rattle.players.proofs.Lists.{cond-true}
 use Rattle.players.proofs.Works.{Turned, Works}
 use Rattle.players.proofs.Alike.{plain-alike}
 use Rattle.players.proofs.Ceiling.{ceiling-holds}
-use Rattle.sounding.specs.Voices.{Held}
-use Rattle.entrances.specs.Entrances.{lineIn, stickLine, pushedAll}
 use Rattle.turning.specs.Turn as turn
-use Rattle.panel.specs.State.{tableOf, voicesOf, withQueue, coreOf, endedOf, startOf, emptyLine}
-use Rattle.panel.specs.Calls.{freshOf, loadOf, receiveOf, enterOf, cycleOf, blockAfter}
+use Rattle.panel.specs.State.{tableOf, voicesOf, coreOf, startOf, emptyLine}
+use Rattle.panel.specs.Calls.{freshOf, cycleOf, blockAfter}
 use Rattle.panel.specs.declared.Panel.{Panel}
 use Rattle.loader.specs.declared.Program.{Program}
 use Rattle.panel.specs.declared.Fresh.{Fresh}
 use Rattle.voices.proofs.Laws.{plain-alike-tree}
 use Rattle.loader_claims.proofs.Loaded.{loaded}
-use Rattle.claims.specs.Claims.{afterCall, missedOf, entrances, programOf, freshPanel, Lawful, ProgramAlike, Condition3, CeilingBinds, Unchanged, RefusalsChangeNothing, EntrancesAlike}
+use Rattle.claims.specs.Claims.{afterCall, entrances, programOf, freshPanel, Lawful, ProgramAlike, Condition3, CeilingBinds}
 use Rattle.claims.proofs.Steady.{score-steady, unit-steady, keypad-steady}
-use Rattle.claims.proofs.Doors.{Fine, Door, sticks, units, keypads}
+use Rattle.claims.proofs.Doors.{Fine, sticks, units, keypads}
 use Rattle.claims.proofs.Cycles.{Turn, cycles}
 
 module _ (program : Program) (ceiling : ℕ) where

@@ -1,5 +1,5 @@
 -- Condition 1: a refusal changes nothing. And one line by each entrance.
-use mathlib.Core.Path.{_≡_, refl, sym, ap, _∙_, subst, subst⁻¹}
+use mathlib.Core.Path.{_≡_, refl, sym, ap, _∙_}
 use mathlib.Core.Logic.{_⊎_, inl, inr}
 use mathlib.Core.Bool.{Bool, true, false, cond}
 use mathlib.Core.List.{List, [], _∷_}
@@ -15,7 +15,7 @@ use Rattle.bitstream.specs.Bits.{bitsOf}
 use Rattle.score_line.specs.Reading.{keypadLine}
 use Rattle.score_line.specs.declared.Line.{Line}
 use Rattle.score_line.specs.declared.LineRead.{LineRead}
-use Rattle.score.specs.Score.{Score, scoreOf, heard, unitOf}
+use Rattle.score.specs.Score.{Score, scoreOf, unitOf}
 use Rattle.waiting.specs.Admission.{hasTime}
 use Rattle.waiting.specs.declared.Queue.{Queue}
 use Rattle.waiting.specs.declared.Admitted.{Admitted}
@@ -23,7 +23,7 @@ use Rattle.waiting.proofs.Admission.{refused-same}
 use Rattle.sounding.specs.Voices.{fieldsIn}
 use Rattle.sounding.specs.declared.Instrument.{Instrument}
 use Rattle.players.specs.Cycle.{samples, ends}
-use Rattle.players.specs.History.{Call, stick, unit, keypad, cycle, After}
+use Rattle.players.specs.History.{stick, unit, keypad, cycle, After}
 use Rattle.players.proofs.Lists.{cond-true, cond-false}
 use Rattle.entrances.specs.Entrances.{lineIn, stickLine, pushedAll}
 use Rattle.panel.specs.State.{tableOf, withQueue, coreOf, endedOf}
@@ -34,7 +34,7 @@ use Rattle.panel.specs.declared.Loaded.{Loaded}
 use Rattle.panel.specs.declared.Entered.{Entered}
 use Rattle.panel.specs.declared.Cycled.{Cycled}
 use Rattle.entrances.proofs.Pushing.{taken-is}
-use Rattle.claims.specs.Claims.{afterCall, Unchanged, RefusalsChangeNothing, EntrancesAlike}
+use Rattle.claims.specs.Claims.{afterCall, RefusalsChangeNothing, EntrancesAlike}
 
 differ : true ≡ false → ⊥
 differ q = let z : _≡_ {A = ℕ} 0 1 = cc in omega arith

@@ -1,15 +1,14 @@
 -- Every line that can be read has a tempo of at least 1, if it is a tempo line.
 use mathlib.Core.Path.{_≡_, refl}
-use mathlib.Core.Bool.{Bool, true, false, cond, _&&_}
-use mathlib.Core.List.{List, [], _∷_}
+use mathlib.Core.Bool.{Bool, true, false, cond}
+use mathlib.Core.List.{List}
 use Prim.Native.Nat.{ℕ, zero, suc, _≤_}
-use lib.Dec.{eqb, leb, ltb}
+use lib.Dec.{eqb}
 use lib.Ieee.{Float, binary32, ofBits}
 use lib.ListN.{length}
 use Rattle.answer.specs.Numbers.{isTaken}
 use Rattle.answer.specs.declared.Answer.{Answer}
 use Rattle.answer.specs.declared.Answer.the-variants as answer
-use Rattle.bitstream.specs.Bits.{bitsOf}
 use Rattle.bitstream.specs.Filling.{filled}
 use Rattle.bitstream.specs.Reads.{readAt}
 use Rattle.bitstream.specs.declared.Got.{Got}
@@ -21,13 +20,10 @@ use Rattle.score_line.specs.Reading.{Read, got, refused, andThen, numberFrom, i
 use Rattle.score_line.specs.declared.Range.the-variants as range
 use Rattle.score_line.specs.declared.Fault.{Fault}
 use Rattle.score_line.specs.declared.Fault.the-variants as fault
-use Rattle.score_line.specs.declared.When.{When}
-use Rattle.score_line.specs.declared.Event.{Event}
-use Rattle.score_line.specs.declared.Event.the-variants.{Instr, Control, End, Tempo}
+use Rattle.score_line.specs.declared.Event.the-variants.{End, Tempo}
 use Rattle.score_line.specs.declared.Line.{Line}
 use Rattle.score_line.specs.declared.LineRead.{LineRead}
 use Rattle.score.specs.Score.{Lines, all, faulty, before, lineThen, linesFrom, Score, taken, refusedScore, ended, counted, scoreOf, wholeLine, opened, unitOf}
-use Rattle.players.specs.Lists.{All}
 use Rattle.players.proofs.Count.{steady, AllSteady}
 
 -- of what was read, if anything was

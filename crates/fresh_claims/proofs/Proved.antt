@@ -1,21 +1,18 @@
 -- A fresh panel is given exactly for an accepted orchestra and a lawful ceiling.
-use Prim.Native.Nat.{ℕ, _≤_}
+use Prim.Native.Nat.{ℕ}
 use native.Mathlib.Omega.{arith}
-use mathlib.Core.Path.{_≡_, refl, sym, ap, _∙_}
+use mathlib.Core.Path.{_≡_, refl}
 use mathlib.Core.Bool.{Bool, true, false, cond, _&&_}
 use mathlib.Core.List.{List, []}
 use lib.Dec.{leb}
 use borrow.Author.Tests.{le-leb, leb-true}
 use Rattle.answer.specs.Numbers.{isTaken}
-use Rattle.answer.specs.declared.Answer.{Answer}
 use Rattle.answer.specs.declared.Answer.the-variants.{Taken, OutOfRange}
 use Rattle.syntax.specs.Tree.{Instrument}
-use Rattle.orchestra.specs.Verdict.{Accepted}
 use Rattle.loader.specs.Loading.{loadOf}
 use Rattle.loader_claims.proofs.Loaded.{loaded, taken-only}
 use Rattle.panel.specs.Calls.{freshOf, noPanel}
 use Rattle.panel.specs.State.{startOf}
-use Rattle.panel.specs.declared.Fresh.{Fresh}
 use Rattle.fresh_claims.specs.Claims.{Given, FreshExactly}
 
 module _ (bs : List ℕ) (is : List Instrument) (ceiling : ℕ) (g : Given bs is ceiling) where

@@ -1,19 +1,16 @@
 -- The piece's tokens, its tree and its blocks, computed.
-use mathlib.Core.Path.{_≡_, refl}
-use mathlib.Core.Bool.{Bool, true, false}
+use mathlib.Core.Path.{refl}
 use mathlib.Core.List.{List, [], _∷_}
 use native.Mathlib.Omega.{arith}
-use lib.IntN.{ℤ, pos}
-use lib.ListN.{replicate}
-use lib.Ieee.{Float, binary32, ofBits, fits, size, add, mul, round, lt, le, eq}
+use lib.Ieee.{binary32, ofBits, fits, size, add, mul, round, lt, le, eq}
 use Rattle.tokens.specs.declared.Token.{Token}
 use Rattle.tokens.specs.declared.Token.the-variants.{Number, Symbol, Sign}
 use Rattle.tokens.specs.Bytes.{tokensAfter, tokenFrom}
 use Rattle.tokens.specs.Measures.{opened, since, bracketsKept, stretchesKept}
 use Rattle.syntax.specs.Names.{named, namedBy, has, apart, knownIn, known, eachKept, placeFrom, putIn, put}
 use Rattle.syntax.specs.Rates.{rate, ratesKept, rateRules}
-use Rattle.expressions.specs.Grammar.{Derives, real, named as a·name, sides, plus}
-use Rattle.grammar.specs.Grammar.{Stmts, none, set, out, Names, one, Fields, none as no·fields, Kinds, ksig, Decls, none as no·decls, some as some·decls, Instr, is, Orchestra, last}
+use Rattle.expressions.specs.Grammar.{real, named as a·name, sides, plus}
+use Rattle.grammar.specs.Grammar.{none, set, out, one, none as no·fields, ksig, none as no·decls, some as some·decls, is, Orchestra, last}
 use Rattle.orchestra.specs.Verdict.{Sized, Accepted}
 use Rattle.meaning.specs.Meaning.{value, assigned, outputs, pass, fresh, birth, kPass, aPasses, cycle}
 use Rattle.players.specs.Lists.{keep, fold, each}
@@ -23,7 +20,7 @@ use Rattle.float32.specs.Limit.{held, sampleOf}
 use Rattle.float32.specs.Operators.{binaryOf}
 use Rattle.timebase.specs.Time.{upTo, ticksOf, ticksIn, cycleOf, cycleIn}
 use Rattle.voices.specs.Tree.{silent, instrumentOf, importsOf, treeVoices}
-use Rattle.witness.specs.Growing.{bytes, tree, line, Sounds}
+use Rattle.witness.specs.Growing.{bytes, tree, Sounds}
 
 -- instr s1 ( ) { ksig s2 ; s2 = s2 + 0.25 ; output ( s2 ) ; }
 abbrev tokens : List Token

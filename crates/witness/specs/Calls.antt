@@ -5,7 +5,7 @@ use Prim.Native.Nat.{ℕ}
 use lib.IntN.{ℤ, pos}
 use lib.ListN.{replicate}
 use Rattle.players.specs.Cycle.{samples}
-use Rattle.players.specs.History.{Call, stick, cycle, After, Last, none, taken, InTime}
+use Rattle.players.specs.History.{Call, stick, cycle, none, taken, InTime}
 use Rattle.voices.specs.Tree.{treeVoices}
 use Rattle.panel.specs.declared.Panel.{Panel}
 use Rattle.claims.specs.Claims.{afterCall, entrances, freshPanel}

@@ -3,7 +3,7 @@ use mathlib.Core.Path.{_≡_}
 use mathlib.Core.Bool.{false}
 use mathlib.Core.List.{List, [], _∷_}
 use Prim.Native.Nat.{ℕ}
-use lib.IntN.{ℤ, pos}
+use lib.IntN.{pos}
 use lib.ListN.{replicate}
 use lib.Ieee.{binary32, ofBits}
 use Rattle.syntax.specs.Tree.{number, name, binary, done, assign, output, Instrument, ksigKind}
