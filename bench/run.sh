@@ -1,7 +1,8 @@
 #!/bin/sh
 # Machine instructions per note and sample, and how many times faster than real time: the panel's bench (16 notes,
-# 1,000 cycles), and the same instrument through Debian's sfront (SAOL to C, gcc -O2). Needs valgrind, sfront and gcc.
-#   bench/run.sh        after 'rt check bench'
+# 1,000 cycles); a tone of 10 operators (16 notes, 1,000 cycles) by the play program, into a file; and bench's instrument
+# through Debian's sfront (SAOL to C, gcc -O2). Needs python3, valgrind, sfront and gcc.
+#   bench/run.sh        after 'rt check bench play'
 set -eu
 here=$(cd "$(dirname "$0")" && pwd)
 work=$(mktemp -d)
@@ -24,6 +25,10 @@ counted() {
 }
 
 counted panel "$here/../target/bin/bench"
+
+cp "$here/saw.orc" "$here/saw.sco" "$work"
+python3 "$here/../demo/assemble.py" "$work/saw.orc" "$work/saw.sco" >/dev/null
+counted saw "$here/../target/bin/play" "$work/saw.orc.bin" "$work/saw.sco.bin" "$work/saw.wav"
 
 cat >"$work/tone.saol" <<'SAOL'
 global { srate 32000; krate 100; outchannels 1; }

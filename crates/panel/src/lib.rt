@@ -56,12 +56,11 @@ fn take_in(mut p: Panel, read: LineRead) -> Entered
             answer: answer,
         };
     }
-    let program = p.program;
-    let table = program.table;
+    let table = p.program.table;
     let mut state = p.state;
     let q = state.queue;
     let l = read.line;
-    let a = entrances::line_in(table, program.count, q, l);
+    let a = entrances::line_in(table, p.program.count, q, l);
     let left = a.queue;
     let given = a.answer;
     state.queue = left;
@@ -170,11 +169,10 @@ impl Panel {
                 line: 0,
             };
         }
-        let program = self.program;
-        let table = program.table;
+        let table = self.program.table;
         let mut state = self.state;
         let q = state.queue;
-        let r = entrances::stick_in(table, program.count, q, s);
+        let r = entrances::stick_in(table, self.program.count, q, s);
         let left = r.queue;
         let given = r.answer;
         state.queue = left;
@@ -229,16 +227,13 @@ impl Panel {
                 answer: Answer::Ended,
             };
         }
-        let program = self.program;
-        let table = program.table;
-        let code = program.code;
-        let vals = program.vals;
+        let table = self.program.table;
         let state = self.state;
         let next = turning::turn(
             table,
-            program.count,
-            &code,
-            &vals,
+            self.program.count,
+            &self.program.code,
+            &self.program.vals,
             state,
             self.ceiling,
             block,

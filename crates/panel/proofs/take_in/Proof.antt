@@ -17,7 +17,7 @@ line-in-requires c κs = search needs
 
 returns-2 : tie.Need-returns-2
 unfolding withQueue
-returns-2 c = let at = c .before .before .before .before .before .before .before in
+returns-2 c = let at = c .before .before .before .before .before .before in
     read-taken _ _ (sym (at .before .is-taken .ensures) ∙ not-false _ (at .if1 .left)) _ (c .before .line-in .ensures)
 
 pub take-in-spec : {M : Type 1} → statement M

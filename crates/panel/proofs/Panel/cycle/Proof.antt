@@ -10,12 +10,6 @@ returns c = let e = cycle-off _ _ (c .if1 .taken) in (e, block-stays _ _ _ e ref
 returns-2 : tie.Need-returns-2
 returns-2 c = let e = cycle-ended _ _ (c .before .if1 .left) (c .if2 .taken) in (e, block-stays _ _ _ e refl)
 
-slice-aggregate-turn : tie.Need-slice-aggregate-turn
-slice-aggregate-turn c = search needs
-
-slice-aggregate-turn-2 : tie.Need-slice-aggregate-turn-2
-slice-aggregate-turn-2 c = search needs
-
 turn-requires : tie.Need-turn-requires
 turn-requires c κs = search needs
 
@@ -43,8 +37,6 @@ cycle-spec =
     (tie.spec
     returns
     returns-2
-    slice-aggregate-turn
-    slice-aggregate-turn-2
     turn-requires
     same-length
     returns-3

@@ -12,7 +12,7 @@ stick-in-requires c κs = search needs
 
 returns-2 : tie.Need-returns-2
 unfolding withQueue
-returns-2 c = stick-read _ _ (c .before .before .before .before .before .before .if1 .left) _ (c .before .stick-in .ensures)
+returns-2 c = stick-read _ _ (c .before .before .before .before .before .if1 .left) _ (c .before .stick-in .ensures)
 
 pub load-score-spec : {M : Type 1} → statement M
 load-score-spec = tie.close (tie.spec returns stick-in-requires returns-2)
