@@ -59,350 +59,130 @@ fn short_of_bytes(title: &[u8], other: &[u8], slot: &[u32]) {
 
 pub fn decode_score_cases() {
     decoded_score(b"decode a score, no bytes", 1, b"");
-    let a = [0u8, 0, 24, 254, 0, 0, 1, 0];
-    decoded_score(b"decode a score, end at beat 1", 0, &a);
-    let b = [0u8, 0, 24, 254, 0, 0, 0, 128];
-    decoded_score(b"decode a score, type 2", 2, &b);
-    let c = [0u8, 0, 26, 0, 0, 0, 1, 0];
-    decoded_score(b"decode a score, -0 as a time", 3, &c);
-    let d = [
-        0u8,
+    decoded_score(
+        b"decode a score, end at beat 1",
         0,
-        24,
-        0,
-        0,
-        0,
-        0,
-        0,
-        0,
-        0,
-        0,
-        0,
-        0,
-        1,
-        32,
-        0,
-        0,
-        0,
-        0,
-        0,
-        0,
-        0,
-        0,
-        0,
-        0,
-        0,
-        0,
-        0,
-        0,
-        0,
-        0,
-        0,
-        0,
-        0,
-        0,
-        0,
-        0,
-        0,
-        0,
-        0,
-        0,
-        0,
-        0,
-        0,
-        0,
-        0,
-        0,
-        0,
-        0,
-        0,
-        0,
-    ];
-    decoded_score(b"decode a score, 9 values", 5, &d);
-    let e = [0u8, 0, 24, 254, 0, 0, 1, 0, 0];
-    decoded_score(b"decode a score, a byte left over", 11, &e);
+        b"\x00\x00\x18\xfe\x00\x00\x01\x00",
+    );
+    decoded_score(
+        b"decode a score, type 2",
+        2,
+        b"\x00\x00\x18\xfe\x00\x00\x00\x80",
+    );
+    decoded_score(
+        b"decode a score, -0 as a time",
+        3,
+        b"\x00\x00\x1a\x00\x00\x00\x01\x00",
+    );
+    decoded_score(
+        b"decode a score, 9 values",
+        5,
+        b"\x00\x00\x18\x00\x00\x00\x00\x00\x00\x00\x00\x00\x00\x01\x20\x00\x00\x00\x00\x00\x00\x00\x00\x00\x00\x00\x00\x00\x00\x00\x00\x00\x00\x00\x00\x00\x00\x00\x00\x00\x00\x00\x00\x00\x00\x00\x00\x00\x00\x00\x00",
+    );
+    decoded_score(
+        b"decode a score, a byte left over",
+        11,
+        b"\x00\x00\x18\xfe\x00\x00\x01\x00\x00",
+    );
 }
 
 pub fn decode_unit_cases() {
     decoded_unit(b"decode a unit, no bytes", 1, b"");
-    let a = [35u8, 248, 0, 0, 4];
-    decoded_unit(b"decode a unit, end at beat 1", 0, &a);
-    let b = [35u8, 248, 0, 0, 2];
-    decoded_unit(b"decode a unit, type 2", 2, &b);
-    let c = [40u8, 0, 0, 0, 4];
-    decoded_unit(b"decode a unit, -0 as a time", 3, &c);
-    let d = [
-        32u8,
-        0,
-        0,
-        0,
-        0,
-        0,
-        0,
-        0,
-        0,
-        0,
-        0,
-        4,
-        128,
-        0,
-        0,
-        0,
-        0,
-        0,
-        0,
-        0,
-        0,
-        0,
-        0,
-        0,
-        0,
-        0,
-        0,
-        0,
-        0,
-        0,
-        0,
-        0,
-        0,
-        0,
-        0,
-        0,
-        0,
-        0,
-        0,
-        0,
-        0,
-        0,
-        0,
-        0,
-        0,
-        0,
-        0,
-        0,
-        0,
-    ];
-    decoded_unit(b"decode a unit, 9 values", 5, &d);
-    let e = [35u8, 248, 0, 0, 4, 0];
-    decoded_unit(b"decode a unit, a byte left over", 11, &e);
+    decoded_unit(b"decode a unit, end at beat 1", 0, b"\x23\xf8\x00\x00\x04");
+    decoded_unit(b"decode a unit, type 2", 2, b"\x23\xf8\x00\x00\x02");
+    decoded_unit(b"decode a unit, -0 as a time", 3, b"\x28\x00\x00\x00\x04");
+    decoded_unit(
+        b"decode a unit, 9 values",
+        5,
+        b"\x20\x00\x00\x00\x00\x00\x00\x00\x00\x00\x00\x04\x80\x00\x00\x00\x00\x00\x00\x00\x00\x00\x00\x00\x00\x00\x00\x00\x00\x00\x00\x00\x00\x00\x00\x00\x00\x00\x00\x00\x00\x00\x00\x00\x00\x00\x00\x00\x00",
+    );
+    decoded_unit(
+        b"decode a unit, a byte left over",
+        11,
+        b"\x23\xf8\x00\x00\x04\x00",
+    );
     decoded_unit(b"decode a unit, first bits not 00", 2, b"\xff");
 }
 
 pub fn cramped_cases() {
-    let score = [0u8, 0, 24, 254, 0, 0, 1, 0];
-    let unit = [35u8, 248, 0, 0, 4];
     cramped(
         b"decode a score, an area of 17 words",
         b"decode a unit, an area of 17 words",
-        &score,
-        &unit,
+        b"\x00\x00\x18\xfe\x00\x00\x01\x00",
+        b"\x23\xf8\x00\x00\x04",
     );
 }
 
+// A slot of a line that has no more than nine numbers other than zero.
+fn slot(first: [u32; 9]) -> [u32; 18] {
+    let mut out = [0u32; 18];
+    out[0] = first[0];
+    out[1] = first[1];
+    out[2] = first[2];
+    out[3] = first[3];
+    out[4] = first[4];
+    out[5] = first[5];
+    out[6] = first[6];
+    out[7] = first[7];
+    out[8] = first[8];
+    out
+}
+
+// The lines that are written: end at beat 1, type 2, -0 as a time, 9 values, and a number behind an end line.
+fn end_slot() -> [u32; 18] {
+    slot([1, 0, 1065353216, 0, 4, 0, 0, 0, 0])
+}
+
+fn type_2_slot() -> [u32; 18] {
+    slot([1, 0, 1065353216, 0, 2, 0, 0, 0, 0])
+}
+
+fn minus_zero_slot() -> [u32; 18] {
+    slot([1, 0, 2147483648, 0, 4, 0, 0, 0, 0])
+}
+
+fn nine_values_slot() -> [u32; 18] {
+    slot([1, 0, 0, 0, 0, 0, 0, 0, 9])
+}
+
+fn behind_slot() -> [u32; 18] {
+    slot([1, 0, 1065353216, 0, 4, 7, 0, 0, 0])
+}
+
 pub fn write_score_cases() {
-    let a = [
-        1u32,
-        0,
-        1065353216,
-        0,
-        4,
-        0,
-        0,
-        0,
-        0,
-        0,
-        0,
-        0,
-        0,
-        0,
-        0,
-        0,
-        0,
-        0,
-    ];
-    written_score(b"write a score, end at beat 1", 0, &a);
-    let b = [
-        1u32,
-        0,
-        1065353216,
-        0,
-        2,
-        0,
-        0,
-        0,
-        0,
-        0,
-        0,
-        0,
-        0,
-        0,
-        0,
-        0,
-        0,
-        0,
-    ];
-    written_score(b"write a score, type 2", 2, &b);
-    let c = [
-        1u32,
-        0,
-        2147483648,
-        0,
-        4,
-        0,
-        0,
-        0,
-        0,
-        0,
-        0,
-        0,
-        0,
-        0,
-        0,
-        0,
-        0,
-        0,
-    ];
-    written_score(b"write a score, -0 as a time", 3, &c);
-    let d = [1u32, 0, 0, 0, 0, 0, 0, 0, 9, 0, 0, 0, 0, 0, 0, 0, 0, 0];
-    written_score(b"write a score, 9 values", 5, &d);
-    let e = [
-        1u32,
-        0,
-        1065353216,
-        0,
-        4,
-        7,
-        0,
-        0,
-        0,
-        0,
-        0,
-        0,
-        0,
-        0,
-        0,
-        0,
-        0,
-        0,
-    ];
-    written_score(b"write a score, a number behind the line", 11, &e);
-    let f = [1u32, 0];
-    written_score(b"write a score, a slot of 2 numbers", 1, &f);
+    let few = [1u32, 0];
+    written_score(b"write a score, end at beat 1", 0, &end_slot());
+    written_score(b"write a score, type 2", 2, &type_2_slot());
+    written_score(b"write a score, -0 as a time", 3, &minus_zero_slot());
+    written_score(b"write a score, 9 values", 5, &nine_values_slot());
+    written_score(
+        b"write a score, a number behind the line",
+        11,
+        &behind_slot(),
+    );
+    written_score(b"write a score, a slot of 2 numbers", 1, &few);
 }
 
 pub fn write_unit_cases() {
-    let a = [
-        1u32,
-        0,
-        1065353216,
-        0,
-        4,
-        0,
-        0,
-        0,
-        0,
-        0,
-        0,
-        0,
-        0,
-        0,
-        0,
-        0,
-        0,
-        0,
-    ];
-    written_unit(b"write a unit, end at beat 1", 0, &a);
-    let b = [
-        1u32,
-        0,
-        1065353216,
-        0,
-        2,
-        0,
-        0,
-        0,
-        0,
-        0,
-        0,
-        0,
-        0,
-        0,
-        0,
-        0,
-        0,
-        0,
-    ];
-    written_unit(b"write a unit, type 2", 2, &b);
-    let c = [
-        1u32,
-        0,
-        2147483648,
-        0,
-        4,
-        0,
-        0,
-        0,
-        0,
-        0,
-        0,
-        0,
-        0,
-        0,
-        0,
-        0,
-        0,
-        0,
-    ];
-    written_unit(b"write a unit, -0 as a time", 3, &c);
-    let d = [1u32, 0, 0, 0, 0, 0, 0, 0, 9, 0, 0, 0, 0, 0, 0, 0, 0, 0];
-    written_unit(b"write a unit, 9 values", 5, &d);
-    let e = [
-        1u32,
-        0,
-        1065353216,
-        0,
-        4,
-        7,
-        0,
-        0,
-        0,
-        0,
-        0,
-        0,
-        0,
-        0,
-        0,
-        0,
-        0,
-        0,
-    ];
-    written_unit(b"write a unit, a number behind the line", 11, &e);
-    let f = [1u32, 0];
-    written_unit(b"write a unit, a slot of 2 numbers", 1, &f);
+    let few = [1u32, 0];
+    written_unit(b"write a unit, end at beat 1", 0, &end_slot());
+    written_unit(b"write a unit, type 2", 2, &type_2_slot());
+    written_unit(b"write a unit, -0 as a time", 3, &minus_zero_slot());
+    written_unit(b"write a unit, 9 values", 5, &nine_values_slot());
+    written_unit(
+        b"write a unit, a number behind the line",
+        11,
+        &behind_slot(),
+    );
+    written_unit(b"write a unit, a slot of 2 numbers", 1, &few);
 }
 
 pub fn short_cases() {
-    let a = [
-        1u32,
-        0,
-        1065353216,
-        0,
-        4,
-        0,
-        0,
-        0,
-        0,
-        0,
-        0,
-        0,
-        0,
-        0,
-        0,
-        0,
-        0,
-        0,
-    ];
-    short_of_bytes(b"write a score, 7 bytes", b"write a unit, 4 bytes", &a);
+    short_of_bytes(
+        b"write a score, 7 bytes",
+        b"write a unit, 4 bytes",
+        &end_slot(),
+    );
 }
 
 // An end line with a time, for a host that holds lines by value.

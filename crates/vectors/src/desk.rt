@@ -3,51 +3,10 @@ use panel::Panel;
 
 // instr 0 gives 0.5 in every sample; instr 1 has a field and an imported signal.
 pub fn fresh_panel() -> Panel {
-    let orchestra = [
-        1u8,
-        240,
-        0,
-        0,
-        15,
-        16,
-        17,
-        6,
-        15,
-        241,
-        63,
-        0,
-        0,
-        0,
-        16,
-        20,
-        18,
-        1,
-        240,
-        0,
-        1,
-        15,
-        240,
-        0,
-        2,
-        16,
-        17,
-        5,
-        3,
-        240,
-        0,
-        3,
-        20,
-        6,
-        15,
-        240,
-        0,
-        3,
-        16,
-        20,
-        18,
-        255,
-    ];
-    let r = Panel::fresh(&orchestra, 32767);
+    let r = Panel::fresh(
+        b"\x01\xf0\x00\x00\x0f\x10\x11\x06\x0f\xf1\x3f\x00\x00\x00\x10\x14\x12\x01\xf0\x00\x01\x0f\xf0\x00\x02\x10\x11\x05\x03\xf0\x00\x03\x14\x06\x0f\xf0\x00\x03\x10\x14\x12\xff",
+        32767,
+    );
     r.panel
 }
 

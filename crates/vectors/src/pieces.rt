@@ -1,6 +1,7 @@
 // Cases that take several calls: notes that sound, notes that are missed, lines that wait, late lines, the end.
 use crate::desk::fresh_panel;
 use crate::desk::told;
+use crate::refusals::number;
 use answer::Answer;
 use panel::Panel;
 
@@ -121,19 +122,19 @@ pub fn sixteen() {
 fn keypad_told(title: &[u8], expected: u64, panel: Panel, line: &[u32]) {
     let r = Panel::enter_line(panel, line);
     let a = r.answer;
-    told(title, expected, answer::number(a) as u64);
+    told(title, expected, number(a));
 }
 
 fn unit_told(title: &[u8], expected: u64, panel: Panel, bytes: &[u8]) {
     let r = Panel::receive_unit(panel, bytes);
     let a = r.answer;
-    told(title, expected, answer::number(a) as u64);
+    told(title, expected, number(a));
 }
 
 fn stick_told(title: &[u8], expected: u64, panel: Panel, bytes: &[u8]) {
     let r = Panel::load_score(panel, bytes);
     let a = r.answer;
-    told(title, expected, answer::number(a) as u64);
+    told(title, expected, number(a));
 }
 
 fn with_waiting(times: u32) -> Panel {
@@ -143,22 +144,38 @@ fn with_waiting(times: u32) -> Panel {
 
 pub fn waiting() {
     let line = [1u32, 0, 1120403456, 0, 0, 0, 0, 0, 0];
-    let unit = [36u8, 44, 128, 0, 0, 0, 0, 0, 0, 0, 0, 0, 0];
-    let stick = [0u8, 0, 25, 11, 32, 0, 0, 0, 0, 0, 0, 0, 0, 0, 0];
     keypad_told(b"keypad, the 64th line", 0, with_waiting(63), &line);
     keypad_told(b"keypad, the 65th line", 8, with_waiting(64), &line);
-    unit_told(b"unit, the 65th line", 8, with_waiting(64), &unit);
-    stick_told(b"stick, the 65th line", 8, with_waiting(64), &stick);
+    unit_told(
+        b"unit, the 65th line",
+        8,
+        with_waiting(64),
+        b"\x24\x2c\x80\x00\x00\x00\x00\x00\x00\x00\x00\x00\x00",
+    );
+    stick_told(
+        b"stick, the 65th line",
+        8,
+        with_waiting(64),
+        b"\x00\x00\x19\x0b\x20\x00\x00\x00\x00\x00\x00\x00\x00\x00\x00",
+    );
 }
 
 pub fn late() {
     let line = [1u32, 0, 0, 0, 0, 0, 0, 0, 0];
-    let unit = [32u8, 0, 0, 0, 0, 0, 0, 0, 0, 0, 0, 0, 0];
-    let stick = [0u8, 0, 24, 0, 0, 0, 0, 0, 0, 0, 0, 0, 0, 0, 0];
     let panel = after_cycle(fresh_panel());
     keypad_told(b"keypad, a late line", 7, panel, &line);
-    unit_told(b"unit, a late line", 7, panel, &unit);
-    stick_told(b"stick, a late line", 7, panel, &stick);
+    unit_told(
+        b"unit, a late line",
+        7,
+        panel,
+        b"\x20\x00\x00\x00\x00\x00\x00\x00\x00\x00\x00\x00\x00",
+    );
+    stick_told(
+        b"stick, a late line",
+        7,
+        panel,
+        b"\x00\x00\x18\x00\x00\x00\x00\x00\x00\x00\x00\x00\x00\x00\x00",
+    );
 }
 
 fn at_end() -> Panel {
@@ -169,7 +186,7 @@ fn at_end() -> Panel {
 fn cycle_told(title: &[u8], expected: u64, panel: Panel, block: &mut [i16]) {
     let r = Panel::cycle(panel, block);
     let a = r.answer;
-    told(title, expected, answer::number(a) as u64);
+    told(title, expected, number(a));
 }
 
 fn cycles_told() {
@@ -182,10 +199,18 @@ fn cycles_told() {
 
 pub fn ended() {
     let line = [1u32, 0, 0, 0, 0, 0, 0, 0, 0];
-    let unit = [32u8, 0, 0, 0, 0, 0, 0, 0, 0, 0, 0, 0, 0];
-    let stick = [0u8, 0, 24, 0, 0, 0, 0, 0, 0, 0, 0, 0, 0, 0, 0];
     keypad_told(b"keypad, after the end", 9, at_end(), &line);
-    unit_told(b"unit, after the end", 9, at_end(), &unit);
-    stick_told(b"stick, after the end", 9, at_end(), &stick);
+    unit_told(
+        b"unit, after the end",
+        9,
+        at_end(),
+        b"\x20\x00\x00\x00\x00\x00\x00\x00\x00\x00\x00\x00\x00",
+    );
+    stick_told(
+        b"stick, after the end",
+        9,
+        at_end(),
+        b"\x00\x00\x18\x00\x00\x00\x00\x00\x00\x00\x00\x00\x00\x00\x00",
+    );
     cycles_told();
 }

@@ -43,204 +43,29 @@ pub fn ceiling_cases() {
     ceiling_case(b"fresh, ceiling 32,768", 3, 32768);
 }
 
-fn fresh_1() {
-    let a = [
-        1u8,
-        240,
-        0,
-        0,
-        15,
-        16,
-        17,
-        6,
-        15,
-        15,
-        15,
-        15,
-        15,
-        15,
-        15,
-        15,
-        15,
-        15,
-        15,
-        15,
-        15,
-        15,
-        15,
-        15,
-        15,
-        15,
-        15,
-        15,
-        15,
-        15,
-        15,
-        242,
-        0,
-        0,
-        0,
-        1,
-        16,
-        16,
-        16,
-        16,
-        16,
-        16,
-        16,
-        16,
-        16,
-        16,
-        16,
-        16,
-        16,
-        16,
-        16,
-        16,
-        16,
-        16,
-        16,
-        16,
-        16,
-        16,
-        16,
-        20,
-        18,
-        255,
-    ];
-    fresh_case(b"fresh, 24 brackets", 0, &a);
-    let b = [
-        1u8,
-        240,
-        0,
-        0,
-        15,
-        16,
-        17,
-        6,
-        15,
-        15,
-        15,
-        15,
-        15,
-        15,
-        15,
-        15,
-        15,
-        15,
-        15,
-        15,
-        15,
-        15,
-        15,
-        15,
-        15,
-        15,
-        15,
-        15,
-        15,
-        15,
-        15,
-        15,
-        242,
-        0,
-        0,
-        0,
-        1,
-        16,
-        16,
-        16,
-        16,
-        16,
-        16,
-        16,
-        16,
-        16,
-        16,
-        16,
-        16,
-        16,
-        16,
-        16,
-        16,
-        16,
-        16,
-        16,
-        16,
-        16,
-        16,
-        16,
-        16,
-        20,
-        18,
-        255,
-    ];
-    fresh_case(b"fresh, 25 brackets", 16, &b);
-}
-
-fn fresh_2() {
-    let a = [1u8];
-    fresh_case(b"fresh, no end token", 12, &a);
-    let b = [255u8];
-    fresh_case(b"fresh, an empty list", 13, &b);
-}
-
-fn fresh_3() {
-    let a = [
-        1u8,
-        240,
-        0,
-        0,
-        15,
-        240,
-        0,
-        1,
-        19,
-        240,
-        0,
-        1,
-        16,
-        17,
-        18,
-        255,
-    ];
-    fresh_case(b"fresh, a name twice", 14, &a);
-    let b = [
-        1u8,
-        240,
-        0,
-        0,
-        15,
-        16,
-        17,
-        2,
-        240,
-        0,
-        1,
-        20,
-        3,
-        240,
-        0,
-        2,
-        20,
-        240,
-        0,
-        1,
-        21,
-        240,
-        0,
-        2,
-        20,
-        18,
-        255,
-    ];
-    fresh_case(b"fresh, ivar from ksig", 15, &b);
-}
-
 pub fn fresh_cases() {
-    fresh_1();
-    fresh_2();
-    fresh_3();
+    fresh_case(
+        b"fresh, 24 brackets",
+        0,
+        b"\x01\xf0\x00\x00\x0f\x10\x11\x06\x0f\x0f\x0f\x0f\x0f\x0f\x0f\x0f\x0f\x0f\x0f\x0f\x0f\x0f\x0f\x0f\x0f\x0f\x0f\x0f\x0f\x0f\x0f\xf2\x00\x00\x00\x01\x10\x10\x10\x10\x10\x10\x10\x10\x10\x10\x10\x10\x10\x10\x10\x10\x10\x10\x10\x10\x10\x10\x10\x14\x12\xff",
+    );
+    fresh_case(
+        b"fresh, 25 brackets",
+        16,
+        b"\x01\xf0\x00\x00\x0f\x10\x11\x06\x0f\x0f\x0f\x0f\x0f\x0f\x0f\x0f\x0f\x0f\x0f\x0f\x0f\x0f\x0f\x0f\x0f\x0f\x0f\x0f\x0f\x0f\x0f\x0f\xf2\x00\x00\x00\x01\x10\x10\x10\x10\x10\x10\x10\x10\x10\x10\x10\x10\x10\x10\x10\x10\x10\x10\x10\x10\x10\x10\x10\x10\x14\x12\xff",
+    );
+    fresh_case(b"fresh, no end token", 12, b"\x01");
+    fresh_case(b"fresh, an empty list", 13, b"\xff");
+    fresh_case(
+        b"fresh, a name twice",
+        14,
+        b"\x01\xf0\x00\x00\x0f\xf0\x00\x01\x13\xf0\x00\x01\x10\x11\x12\xff",
+    );
+    fresh_case(
+        b"fresh, ivar from ksig",
+        15,
+        b"\x01\xf0\x00\x00\x0f\x10\x11\x02\xf0\x00\x01\x14\x03\xf0\x00\x02\x14\xf0\x00\x01\x15\xf0\x00\x02\x14\x12\xff",
+    );
 }
 
 fn keypad_1() {
@@ -276,176 +101,68 @@ pub fn keypad_cases() {
     keypad_4();
 }
 
-fn unit_1() {
-    unit_case(b"unit, no bytes", 1, b"");
-    let b = [96u8, 0, 0, 0, 0, 0, 0, 0, 0, 0, 0, 0, 0];
-    unit_case(b"unit, first bits not 00", 2, &b);
-}
-
-fn unit_2() {
-    let a = [36u8, 104, 0, 0, 20];
-    unit_case(b"unit, the float next above 16,384 as a time", 3, &a);
-    let b = [40u8, 0, 0, 0, 4];
-    unit_case(b"unit, -0 as a time", 3, &b);
-}
-
-fn unit_3() {
-    let a = [
-        32u8,
-        0,
-        0,
-        0,
-        0,
-        0,
-        0,
-        0,
-        0,
-        0,
-        0,
-        4,
-        128,
-        0,
-        0,
-        0,
-        0,
-        0,
-        0,
-        0,
-        0,
-        0,
-        0,
-        0,
-        0,
-        0,
-        0,
-        0,
-        0,
-        0,
-        0,
-        0,
-        0,
-        0,
-        0,
-        0,
-        0,
-        0,
-        0,
-        0,
-        0,
-        0,
-        0,
-        0,
-        0,
-        0,
-        0,
-        0,
-        0,
-    ];
-    unit_case(b"unit, 9 values", 5, &a);
-    let b = [32u8, 0, 0, 0, 0, 0, 0, 0, 0, 0, 0, 0, 0, 0];
-    unit_case(b"unit, a byte left over", 11, &b);
-}
-
-fn unit_4() {
-    let a = [32u8, 0, 0, 0, 0, 0, 3, 128, 0, 0, 0, 0, 0];
-    unit_case(b"unit, no such instrument", 4, &a);
-}
-
 pub fn unit_cases() {
-    unit_1();
-    unit_2();
-    unit_3();
-    unit_4();
-}
-
-fn stick_1() {
-    stick_case(b"stick, no bytes", 1, b"");
-    let b = [0u8, 0, 17, 0];
-    stick_case(b"stick, type 2", 2, &b);
-}
-
-fn stick_2() {
-    let a = [0u8, 0, 25, 26, 0, 0, 5, 0];
-    stick_case(b"stick, the float next above 16,384 as a time", 3, &a);
-    let b = [0u8, 0, 26, 0, 0, 0, 1, 0];
-    stick_case(b"stick, -0 as a time", 3, &b);
-}
-
-fn stick_3() {
-    let a = [
-        0u8,
-        0,
-        24,
-        0,
-        0,
-        0,
-        0,
-        0,
-        0,
-        0,
-        0,
-        0,
-        0,
-        1,
-        32,
-        0,
-        0,
-        0,
-        0,
-        0,
-        0,
-        0,
-        0,
-        0,
-        0,
-        0,
-        0,
-        0,
-        0,
-        0,
-        0,
-        0,
-        0,
-        0,
-        0,
-        0,
-        0,
-        0,
-        0,
-        0,
-        0,
-        0,
-        0,
-        0,
-        0,
-        0,
-        0,
-        0,
-        0,
-        0,
-        0,
-    ];
-    stick_case(b"stick, 9 values", 5, &a);
-    let b = [0u8, 0, 24, 0, 0, 0, 0, 0, 0, 0, 0, 0, 0, 0, 0, 0];
-    stick_case(b"stick, a byte left over", 11, &b);
-}
-
-fn stick_4() {
-    let a = [0u8, 0, 18, 0];
-    stick_case(b"stick, a line without a time", 6, &a);
-    let b = [0u8, 0, 24, 0, 0, 0, 0, 0, 0, 224, 0, 0, 0, 0, 0];
-    stick_case(b"stick, no such instrument", 4, &b);
-}
-
-fn stick_5() {
-    let a = [0u8, 0, 24, 254, 0, 0, 1, 0];
-    stick_case(b"stick, end at beat 1", 0, &a);
+    unit_case(b"unit, no bytes", 1, b"");
+    unit_case(
+        b"unit, first bits not 00",
+        2,
+        b"\x60\x00\x00\x00\x00\x00\x00\x00\x00\x00\x00\x00\x00",
+    );
+    unit_case(
+        b"unit, the float next above 16,384 as a time",
+        3,
+        b"\x24\x68\x00\x00\x14",
+    );
+    unit_case(b"unit, -0 as a time", 3, b"\x28\x00\x00\x00\x04");
+    unit_case(
+        b"unit, 9 values",
+        5,
+        b"\x20\x00\x00\x00\x00\x00\x00\x00\x00\x00\x00\x04\x80\x00\x00\x00\x00\x00\x00\x00\x00\x00\x00\x00\x00\x00\x00\x00\x00\x00\x00\x00\x00\x00\x00\x00\x00\x00\x00\x00\x00\x00\x00\x00\x00\x00\x00\x00\x00",
+    );
+    unit_case(
+        b"unit, a byte left over",
+        11,
+        b"\x20\x00\x00\x00\x00\x00\x00\x00\x00\x00\x00\x00\x00\x00",
+    );
+    unit_case(
+        b"unit, no such instrument",
+        4,
+        b"\x20\x00\x00\x00\x00\x00\x03\x80\x00\x00\x00\x00\x00",
+    );
 }
 
 pub fn stick_cases() {
-    stick_1();
-    stick_2();
-    stick_3();
-    stick_4();
-    stick_5();
+    stick_case(b"stick, no bytes", 1, b"");
+    stick_case(b"stick, type 2", 2, b"\x00\x00\x11\x00");
+    stick_case(
+        b"stick, the float next above 16,384 as a time",
+        3,
+        b"\x00\x00\x19\x1a\x00\x00\x05\x00",
+    );
+    stick_case(
+        b"stick, -0 as a time",
+        3,
+        b"\x00\x00\x1a\x00\x00\x00\x01\x00",
+    );
+    stick_case(
+        b"stick, 9 values",
+        5,
+        b"\x00\x00\x18\x00\x00\x00\x00\x00\x00\x00\x00\x00\x00\x01\x20\x00\x00\x00\x00\x00\x00\x00\x00\x00\x00\x00\x00\x00\x00\x00\x00\x00\x00\x00\x00\x00\x00\x00\x00\x00\x00\x00\x00\x00\x00\x00\x00\x00\x00\x00\x00",
+    );
+    stick_case(
+        b"stick, a byte left over",
+        11,
+        b"\x00\x00\x18\x00\x00\x00\x00\x00\x00\x00\x00\x00\x00\x00\x00\x00",
+    );
+    stick_case(b"stick, a line without a time", 6, b"\x00\x00\x12\x00");
+    stick_case(
+        b"stick, no such instrument",
+        4,
+        b"\x00\x00\x18\x00\x00\x00\x00\x00\x00\xe0\x00\x00\x00\x00\x00",
+    );
+    stick_case(
+        b"stick, end at beat 1",
+        0,
+        b"\x00\x00\x18\xfe\x00\x00\x01\x00",
+    );
 }
