@@ -32,13 +32,13 @@ fn performed(panel: Panel, path: &[u8], score: &[u8], out: &[u8]) {
         tape::recorded(ready, out);
         return;
     }
-    words::refused_line(path, r.line, a);
+    words::refused_score(path, score.len(), r.line, a);
 }
 
 fn with_score(panel: Panel, path: &[u8], out: &[u8]) {
     let mut buffer = io::large_buffer();
     let n = files::read(path, &mut buffer);
-    if n <= 65535 {
+    if n <= 65536 {
         performed(panel, path, &buffer[..n], out);
     }
 }
@@ -65,7 +65,7 @@ fn played(ceiling: u32, orchestra: &[u8], score: &[u8], out: &[u8]) {
     }
     let mut buffer = io::large_buffer();
     let n = files::read(orchestra, &mut buffer);
-    if n <= 65535 {
+    if n <= 65536 {
         with_orchestra(&buffer[..n], ceiling, orchestra, score, out);
     }
 }

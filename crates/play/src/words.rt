@@ -43,8 +43,20 @@ pub fn refused(path: &[u8], a: Answer) {
     numbered(a);
 }
 
+// A score whose count of lines is cut, or that has bytes behind its lines, is refused for no line of its own.
+pub fn refused_score(path: &[u8], length: usize, line: usize, a: Answer) {
+    if length < 3 {
+        refused(path, a);
+        return;
+    }
+    match a {
+        Answer::LeftOver => refused(path, a),
+        _ => refused_line(path, line, a),
+    }
+}
+
 // Lines are counted from 0, as the panel counts them.
-pub fn refused_line(path: &[u8], line: usize, a: Answer) {
+fn refused_line(path: &[u8], line: usize, a: Answer) {
     say(b"play: ");
     say(path);
     say(b": line ");

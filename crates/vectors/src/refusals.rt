@@ -92,6 +92,8 @@ fn keypad_3() {
 fn keypad_4() {
     let a = [1u32, 0, 0, 0, 0, 0, 7, 0, 0];
     keypad_case(b"keypad, no such instrument", 4, &a);
+    let b = [0u32, 0, 0, 0, 1, 0, 2, 0, 0];
+    keypad_case(b"keypad, more values than fields", 4, &b);
 }
 
 pub fn keypad_cases() {
@@ -129,6 +131,16 @@ pub fn unit_cases() {
         4,
         b"\x20\x00\x00\x00\x00\x00\x03\x80\x00\x00\x00\x00\x00",
     );
+    unit_case(
+        b"unit, more values than fields",
+        4,
+        b"\x00\x00\x01\x00\x00\x00\x00\x02\x00\x00\x00\x00\x00\x00\x00\x00",
+    );
+    unit_case(
+        b"unit, a line without a time",
+        0,
+        b"\x00\x00\x00\x00\x00\x00\x00\x00",
+    );
 }
 
 pub fn stick_cases() {
@@ -159,6 +171,11 @@ pub fn stick_cases() {
         b"stick, no such instrument",
         4,
         b"\x00\x00\x18\x00\x00\x00\x00\x00\x00\xe0\x00\x00\x00\x00\x00",
+    );
+    stick_case(
+        b"stick, more values than fields",
+        4,
+        b"\x00\x00\x18\x00\x00\x00\x00\x00\x00\x20\x00\x00\x00\x00\x40\x00\x00\x00\x00\x00\x00\x00\x00",
     );
     stick_case(
         b"stick, end at beat 1",
