@@ -28,7 +28,7 @@ use Rattle.loader.specs.declared.Program.{Program}
 use Rattle.panel.specs.declared.Fresh.{Fresh}
 use Rattle.voices.proofs.Laws.{plain-alike-tree}
 use Rattle.loader_claims.proofs.Loaded.{loaded}
-use Rattle.claims.specs.Claims.{afterCall, entrances, programOf, freshPanel, Lawful, ProgramAlike, Condition3, CeilingBinds}
+use Rattle.claims.specs.Claims.{afterCall, entrances, programOf, freshPanel, Lawful, Condition3, CeilingBinds}
 use Rattle.claims.proofs.Steady.{score-steady, unit-steady, keypad-steady}
 use Rattle.claims.proofs.Doors.{Fine, sticks, units, keypads}
 use Rattle.claims.proofs.Cycles.{Turn, cycles}
@@ -98,10 +98,6 @@ module _ (orchestra : List ℕ) (ceiling : ℕ) (l : Lawful orchestra ceiling) w
   binds =
       ceiling-holds entrances (voicesOf (programOf orchestra)) ceiling coreOf (Fine (programOf orchestra) ceiling) (works (programOf orchestra) ceiling)
       (l .low) (l .high) (freshPanel orchestra ceiling) fresh-fine
-
-pub program-alike : ProgramAlike
-unfolding ProgramAlike
-program-alike orchestra ceiling l = alike orchestra ceiling l
 
 -- condition 3, whole: an accepted orchestra is loaded, its program stands for its tree, and so the program's plain player is the tree's
 pub condition-3 : Condition3

@@ -1,9 +1,9 @@
 -- The tender's conditions 1 and 3 for the panel, over its public calls.
 use mathlib.Core.Path.{_≡_}
-use mathlib.Core.Logic.{_⊎_}
-use mathlib.Core.Bool.{true, false}
+use mathlib.Core.Bool.{Bool, true, false, not, cond, _&&_}
 use mathlib.Core.List.{List, [], _∷_}
 use Prim.Native.Nat.{ℕ, _≤_}
+use lib.IntN.{ℤ}
 use lib.ListN.{length}
 use lib.Dec.{eqb}
 use Rattle.answer.specs.Numbers.{numberOf, isTaken}
@@ -12,8 +12,9 @@ use Rattle.score_line.specs.Reading.{keypadLine}
 use Rattle.score_line.specs.declared.Line.{Line}
 use Rattle.score.specs.Score.{scoreOf, unitOf}
 use Rattle.waiting.specs.Admission.{hasTime}
+use Rattle.players.specs.Cycle.{samples, ends}
 use Rattle.players.specs.History.{Call, stick, unit, keypad, cycle, After, Entrances, PlainAlike, CeilingHolds}
-use Rattle.panel.specs.State.{voicesOf, endedOf}
+use Rattle.panel.specs.State.{coreOf, endedOf}
 use Rattle.panel.specs.Calls.{freshOf, loadOf, receiveOf, enterOf, cycleOf, blockAfter}
 use Rattle.panel.specs.declared.Panel.{Panel}
 use Rattle.loader.specs.declared.Program.{Program}
@@ -61,12 +62,6 @@ pub record Lawful (orchestra : List ℕ) (ceiling : ℕ) : Type 0 where
   pub low : 1 ≤ ceiling
   pub high : ceiling ≤ 32767
 
--- The first half of condition 3 with the voices of the panel's program.
-unfoldable pub ProgramAlike : Type 0
-ProgramAlike =
-    (orchestra : List ℕ) (ceiling : ℕ) → Lawful orchestra ceiling →
-    PlainAlike entrances (voicesOf (programOf orchestra)) ceiling (freshPanel orchestra ceiling)
-
 -- Condition 3, first half. For any accepted orchestra, whose tree is `is`, any ceiling and any list of calls on a fresh panel: if every
 -- line taken is timed and in time, each cycle lent 320 samples gives the answer and the block of the plain player, whose notes do what
 -- the tree means, and after every call the missed notes are its.
@@ -80,15 +75,20 @@ unfoldable pub CeilingBinds : Type 0
 CeilingBinds =
     (orchestra : List ℕ) (ceiling : ℕ) → Lawful orchestra ceiling → CeilingHolds entrances ceiling (freshPanel orchestra ceiling)
 
--- what a refused call leaves: the panel as it was, save that a cycle may mark the piece ended, and the lent block as it was
+-- a cycle call that finds the end: it is lent 320 samples, the piece is not yet ended, and step 1 ends it
+unfoldable pub findsEnd : Panel → List ℤ → Bool
+findsEnd p block = eqb (length block) samples && not (p .state .ended) && ends (coreOf p)
+
+-- what a refused call leaves: the panel as it was, save that the cycle call that finds the end marks the piece ended, and the lent
+-- block as it was
 abbrev pub Unchanged : Panel → Call → Type 0
 Unchanged p (stick bytes) = afterCall p (stick bytes) .player ≡ p
 Unchanged p (unit bytes) = afterCall p (unit bytes) .player ≡ p
 Unchanged p (keypad words) = afterCall p (keypad words) .player ≡ p
 Unchanged p (cycle block) =
-    ((afterCall p (cycle block) .player ≡ p) ⊎ (afterCall p (cycle block) .player ≡ endedOf p)) × (afterCall p (cycle block) .block ≡ block)
+    (afterCall p (cycle block) .player ≡ cond (findsEnd p block) (endedOf p) p) × (afterCall p (cycle block) .block ≡ block)
 
--- Condition 1, of every call on every panel: a refusal changes neither the panel nor a lent block.
+-- Condition 1, of every call on every panel: a refusal changes neither the panel nor a lent block, save that mark.
 unfoldable pub RefusalsChangeNothing : Type 0
 RefusalsChangeNothing = (p : Panel) (c : Call) → eqb (afterCall p c .answer) 0 ≡ false → Unchanged p c
 
