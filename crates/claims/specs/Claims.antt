@@ -1,4 +1,4 @@
--- The tender's conditions 1 and 3 for the panel, over its public calls.
+-- The tender's conditions 1 and 3 and the cycle of condition 2, for the panel, over its public calls.
 use mathlib.Core.Path.{_≡_}
 use mathlib.Core.Bool.{Bool, true, false, not, cond, _&&_}
 use mathlib.Core.List.{List, [], _∷_}
@@ -12,7 +12,8 @@ use Rattle.score_line.specs.Reading.{keypadLine}
 use Rattle.score_line.specs.declared.Line.{Line}
 use Rattle.score.specs.Score.{scoreOf, unitOf}
 use Rattle.waiting.specs.Admission.{hasTime}
-use Rattle.players.specs.Cycle.{samples, ends}
+use Rattle.players.specs.Cycle.{samples, ends, blockOf}
+use Rattle.players.specs.Plain.{plainAnswer, plainStep}
 use Rattle.players.specs.History.{Call, stick, unit, keypad, cycle, After, Entrances, PlainAlike, CeilingHolds}
 use Rattle.panel.specs.State.{coreOf, endedOf}
 use Rattle.panel.specs.Calls.{freshOf, loadOf, receiveOf, enterOf, cycleOf, blockAfter}
@@ -61,6 +62,27 @@ pub record Lawful (orchestra : List ℕ) (ceiling : ℕ) : Type 0 where
   pub accepted : isTaken (loadedFrom orchestra .answer) ≡ true
   pub low : 1 ≤ ceiling
   pub high : ceiling ≤ 32767
+
+-- the panel after a list of calls
+unfoldable pub afterAll : Panel → List Call → Panel
+afterAll p [] = p
+afterAll p (c ∷ cs) = afterAll (afterCall p c .player) cs
+
+-- A cycle call is the cycle that document 01 defines, on what the panel holds: steps 1 to 8, or the end at step 1. So are its answer,
+-- what the panel holds afterwards and, where it answers 0, the block. The notes do what the tree means.
+pub record IsCycle (is : List Instrument) (ceiling : ℕ) (p : Panel) (a : After Panel) : Type 0 where
+  pub answer : a .answer ≡ plainAnswer (coreOf p)
+  pub held : coreOf (a .player) ≡ plainStep (treeVoices is) (coreOf p)
+  pub block : a .answer ≡ 0 → a .block ≡ blockOf (treeVoices is) ceiling (coreOf p)
+
+-- Condition 2, every cycle of sound. For any accepted orchestra, whose tree is `is`, any ceiling and any list of calls on a fresh
+-- panel, whatever is handed in, timed or not, late or not: the next cycle call lent 320 samples is that cycle.
+unfoldable pub CycleByTree : Type 0
+CycleByTree =
+    (orchestra : List ℕ) (is : List Instrument) (ceiling : ℕ) → Accepted orchestra is → 1 ≤ ceiling → ceiling ≤ 32767 →
+    (cs : List Call) (block : List ℤ) → length block ≡ samples →
+    let p = afterAll (freshPanel orchestra ceiling) cs in
+    IsCycle is ceiling p (afterCall p (cycle block))
 
 -- Condition 3, first half. For any accepted orchestra, whose tree is `is`, any ceiling and any list of calls on a fresh panel: if every
 -- line taken is timed and in time, each cycle lent 320 samples gives the answer and the block of the plain player, whose notes do what
