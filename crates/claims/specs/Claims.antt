@@ -68,8 +68,8 @@ unfoldable pub afterAll : Panel → List Call → Panel
 afterAll p [] = p
 afterAll p (c ∷ cs) = afterAll (afterCall p c .player) cs
 
--- A cycle call is the cycle that document 01 defines, on what the panel holds: steps 1 to 8, or the end at step 1. So are its answer,
--- what the panel holds afterwards and, where it answers 0, the block. The notes do what the tree means.
+-- A cycle call does the cycle that document 01 defines, steps 1 to 8 or the end at step 1, to what the panel holds: this gives its
+-- answer, what the panel holds afterwards and, where it answers 0, the block. The notes do what the tree means.
 pub record IsCycle (is : List Instrument) (ceiling : ℕ) (p : Panel) (a : After Panel) : Type 0 where
   pub answer : a .answer ≡ plainAnswer (coreOf p)
   pub held : coreOf (a .player) ≡ plainStep (treeVoices is) (coreOf p)
