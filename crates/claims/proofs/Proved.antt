@@ -1,13 +1,13 @@
 -- The claims, proved.
 use mathlib.Core.Path.{_≡_, refl, ap, _∙_, subst, subst⁻¹}
 use mathlib.Core.Bool.{Bool, false, _&&_}
-use mathlib.Core.List.{List, []}
+use mathlib.Core.List.{List, [], _∷_}
 use Prim.Native.Nat.{ℕ, _≤_}
 use native.Mathlib.Omega.{arith}
 use lib.IntN.{ℤ}
 use lib.ListN.{length, length-take, length-replicate}
 use lib.Dec.{eqb, leb}
-use borrow.Author.Tests.{le-leb}
+use borrow.Author.Tests.{le-leb, eq-eqb}
 use Rattle.answer.specs.Numbers.{numberOf, isTaken}
 use Rattle.answer.specs.declared.Answer.{Answer}
 use Rattle.answer.specs.declared.Answer.the-variants as answer
@@ -26,12 +26,17 @@ use Rattle.panel.specs.Calls.{freshOf, cycleOf, blockAfter}
 use Rattle.panel.specs.declared.Panel.{Panel}
 use Rattle.loader.specs.declared.Program.{Program}
 use Rattle.panel.specs.declared.Fresh.{Fresh}
-use Rattle.voices.proofs.Laws.{plain-alike-tree}
+use Rattle.syntax.specs.Tree.{Instrument}
+use Rattle.voices.specs.Tree.{treeVoices}
+use Rattle.voices.proofs.Alike.{Alike}
+use Rattle.voices.proofs.Laws.{Sixteen, alike as alike-tree, plain-alike-tree}
+use Rattle.loader_claims.specs.Claims.{StandsFor}
 use Rattle.loader_claims.proofs.Loaded.{loaded}
-use Rattle.claims.specs.Claims.{afterCall, entrances, programOf, freshPanel, Lawful, ProgramAlike, Condition3, CeilingBinds}
+use Rattle.claims.specs.Claims.{afterCall, afterAll, entrances, programOf, freshPanel, Lawful, IsCycle, CycleByTree, Condition3, CeilingBinds}
 use Rattle.claims.proofs.Steady.{score-steady, unit-steady, keypad-steady}
 use Rattle.claims.proofs.Doors.{Fine, sticks, units, keypads}
 use Rattle.claims.proofs.Cycles.{Turn, cycles}
+use Rattle.claims.proofs.ByTree.{Sound, start-sound, entered-sound, turned-sound, turned-is}
 
 module _ (program : Program) (ceiling : ℕ) where
   few : (p : Panel) → Fine program ceiling p → length (coreOf p .lines) ≤ 64
@@ -70,6 +75,37 @@ module _ (program : Program) (ceiling : ℕ) where
         turns = turned;
       }
 
+-- ---- every cycle by the tree
+
+module _ (program : Program) (ceiling : ℕ) (is : List Instrument) (r : StandsFor is program) where
+  -- what the panel keeps true of itself in every list of calls
+  record Kept (p : Panel) : Type 0 where
+    fine : Fine program ceiling p
+    sound : Sound Sixteen (coreOf p)
+
+  same : Alike Sixteen (voicesOf program) (treeVoices is)
+  same = alike-tree is (tableOf program) (program .code) (program .vals) r
+
+  call-sound : (p : Panel) (c : Call) → Fine program ceiling p → Sound Sixteen (coreOf p) → Sound Sixteen (coreOf (afterCall p c .player))
+  unfolding afterCall
+  call-sound p (stick b) f s = entered-sound Sixteen _ _ _ _ s (works program ceiling .sticks p b f)
+  call-sound p (unit b) f s = entered-sound Sixteen _ _ _ _ s (works program ceiling .units p b f)
+  call-sound p (keypad w) f s = entered-sound Sixteen _ _ _ _ s (works program ceiling .keypads p w f)
+  call-sound p (cycle b) f s = turned-sound Sixteen same (coreOf p) (few program ceiling p f) s ceiling _ _ _ _ _ (works program ceiling .turns p b f)
+
+  all-kept : (cs : List Call) (p : Panel) → Kept p → Kept (afterAll p cs)
+  unfolding afterAll
+  all-kept [] p k = k
+  all-kept (c ∷ cs) p k =
+      all-kept cs (afterCall p c .player)
+      (record { fine = keeps program ceiling p c (k .fine); sound = call-sound p c (k .fine) (k .sound) })
+
+  next-cycle : (p : Panel) (b : List ℤ) → length b ≡ samples → Kept p → IsCycle is ceiling p (afterCall p (cycle b))
+  next-cycle p b e k =
+      let t = turned-is Sixteen same (coreOf p) (few program ceiling p (k .fine)) (k .sound) ceiling _ _ _ _ _
+      (eq-eqb (length b) samples e) (works program ceiling .turns p b (k .fine)) in
+      record { answer = t .0; held = t .1; block = t .2 }
+
 module _ (orchestra : List ℕ) (ceiling : ℕ) (l : Lawful orchestra ceiling) where
   fresh-is : freshPanel orchestra ceiling ≡ startOf (programOf orchestra) ceiling false
   unfolding freshOf
@@ -99,10 +135,6 @@ module _ (orchestra : List ℕ) (ceiling : ℕ) (l : Lawful orchestra ceiling) w
       ceiling-holds entrances (voicesOf (programOf orchestra)) ceiling coreOf (Fine (programOf orchestra) ceiling) (works (programOf orchestra) ceiling)
       (l .low) (l .high) (freshPanel orchestra ceiling) fresh-fine
 
-pub program-alike : ProgramAlike
-unfolding ProgramAlike
-program-alike orchestra ceiling l = alike orchestra ceiling l
-
 -- condition 3, whole: an accepted orchestra is loaded, its program stands for its tree, and so the program's plain player is the tree's
 pub condition-3 : Condition3
 unfolding Condition3
@@ -111,6 +143,19 @@ condition-3 orchestra is ceiling a low high =
     let g = programOf orchestra in
     let lawful : Lawful orchestra ceiling = record { accepted = ap isTaken (l .taken); low = low; high = high } in
     plain-alike-tree Panel entrances is (tableOf g) (g .code) (g .vals) (l .stands) ceiling (freshPanel orchestra ceiling) (alike orchestra ceiling lawful)
+
+-- condition 2, every cycle of sound
+pub cycle-by-tree : CycleByTree
+unfolding CycleByTree
+cycle-by-tree orchestra is ceiling a low high cs block e =
+    let l = loaded orchestra is a in
+    let g = programOf orchestra in
+    let lawful : Lawful orchestra ceiling = record { accepted = ap isTaken (l .taken); low = low; high = high } in
+    let core = ap coreOf (fresh-is orchestra ceiling lawful) ∙ start-core orchestra ceiling lawful in
+    let fresh : Kept g ceiling is (l .stands) (freshPanel orchestra ceiling) =
+    record { fine = fresh-fine orchestra ceiling lawful; sound = subst⁻¹ (Sound Sixteen) core (start-sound Sixteen) } in
+    next-cycle g ceiling is (l .stands) (afterAll (freshPanel orchestra ceiling) cs) block e
+    (all-kept g ceiling is (l .stands) cs (freshPanel orchestra ceiling) fresh)
 
 pub ceiling-binds : CeilingBinds
 unfolding CeilingBinds

@@ -1,7 +1,6 @@
 -- Condition 1: a refusal changes nothing. And one line by each entrance.
 use mathlib.Core.Path.{_≡_, refl, sym, ap, _∙_}
-use mathlib.Core.Logic.{_⊎_, inl, inr}
-use mathlib.Core.Bool.{Bool, true, false, cond}
+use mathlib.Core.Bool.{Bool, true, false, not, cond, _&&_}
 use mathlib.Core.List.{List, [], _∷_}
 use Prim.Native.Nat.{ℕ, _+_}
 use native.Mathlib.Omega.{arith}
@@ -34,7 +33,7 @@ use Rattle.panel.specs.declared.Loaded.{Loaded}
 use Rattle.panel.specs.declared.Entered.{Entered}
 use Rattle.panel.specs.declared.Cycled.{Cycled}
 use Rattle.entrances.proofs.Pushing.{taken-is}
-use Rattle.claims.specs.Claims.{afterCall, RefusalsChangeNothing, EntrancesAlike}
+use Rattle.claims.specs.Claims.{afterCall, findsEnd, RefusalsChangeNothing, EntrancesAlike}
 
 differ : true ≡ false → ⊥
 differ q = let z : _≡_ {A = ℕ} 0 1 = cc in omega arith
@@ -102,9 +101,9 @@ keypad-same : (p : Panel) (w : List ℕ) → isTaken (enterOf p w .answer) ≡ f
 unfolding enterOf enteredOf entry
 keypad-same p w = entry-same p (keypadLine w) (p .state .ended) (isTaken (keypadLine w .answer))
 
-cycle-same : (p : Panel) (n : ℕ) → isTaken (cycleOf p n .answer) ≡ false → (cycleOf p n .panel ≡ p) ⊎ (cycleOf p n .panel ≡ endedOf p)
-unfolding cycleOf
-cycle-same p n = go (eqb n samples) (p .state .ended) (ends (coreOf p))
+cycle-same : (p : Panel) (b : List ℤ) → isTaken (cycleOf p (length b) .answer) ≡ false → cycleOf p (length b) .panel ≡ cond (findsEnd p b) (endedOf p) p
+unfolding cycleOf findsEnd
+cycle-same p b = go (eqb (length b) samples) (p .state .ended) (ends (coreOf p))
   where
     out : Bool → Bool → Bool → Cycled
     out w e d =
@@ -114,11 +113,11 @@ cycle-same p n = go (eqb n samples) (p .state .ended) (ends (coreOf p))
         (record { panel = playedOf p; answer = answer.Taken })))
         (record { panel = p; answer = answer.BlockLength })
 
-    go : (w e d : Bool) → isTaken (out w e d .answer) ≡ false → (out w e d .panel ≡ p) ⊎ (out w e d .panel ≡ endedOf p)
-    go true true d u = inl refl
-    go true false true u = inr refl
+    go : (w e d : Bool) → isTaken (out w e d .answer) ≡ false → out w e d .panel ≡ cond (w && not e && d) (endedOf p) p
+    go true true d u = refl
+    go true false true u = refl
     go true false false u = absurd (differ u)
-    go false e d u = inl refl
+    go false e d u = refl
 
 block-same : (p : Panel) (b : List ℤ) → isTaken (cycleOf p (length b) .answer) ≡ false → blockAfter p b ≡ b
 unfolding blockAfter
@@ -129,7 +128,7 @@ unfolding RefusalsChangeNothing afterCall
 refusals-change-nothing p (stick b) u = stick-same p b u
 refusals-change-nothing p (unit b) u = unit-same p b u
 refusals-change-nothing p (keypad w) u = keypad-same p w u
-refusals-change-nothing p (cycle b) u = (cycle-same p (length b) u, block-same p b u)
+refusals-change-nothing p (cycle b) u = (cycle-same p b u, block-same p b u)
 
 -- ---- one line by each entrance
 

@@ -1,9 +1,9 @@
--- The tender's conditions 1 and 3 for the panel, over its public calls.
+-- The tender's conditions 1 and 3 and the cycle of condition 2, for the panel, over its public calls.
 use mathlib.Core.Path.{_≡_}
-use mathlib.Core.Logic.{_⊎_}
-use mathlib.Core.Bool.{true, false}
+use mathlib.Core.Bool.{Bool, true, false, not, cond, _&&_}
 use mathlib.Core.List.{List, [], _∷_}
 use Prim.Native.Nat.{ℕ, _≤_}
+use lib.IntN.{ℤ}
 use lib.ListN.{length}
 use lib.Dec.{eqb}
 use Rattle.answer.specs.Numbers.{numberOf, isTaken}
@@ -12,8 +12,10 @@ use Rattle.score_line.specs.Reading.{keypadLine}
 use Rattle.score_line.specs.declared.Line.{Line}
 use Rattle.score.specs.Score.{scoreOf, unitOf}
 use Rattle.waiting.specs.Admission.{hasTime}
+use Rattle.players.specs.Cycle.{samples, ends, blockOf}
+use Rattle.players.specs.Plain.{plainAnswer, plainStep}
 use Rattle.players.specs.History.{Call, stick, unit, keypad, cycle, After, Entrances, PlainAlike, CeilingHolds}
-use Rattle.panel.specs.State.{voicesOf, endedOf}
+use Rattle.panel.specs.State.{coreOf, endedOf}
 use Rattle.panel.specs.Calls.{freshOf, loadOf, receiveOf, enterOf, cycleOf, blockAfter}
 use Rattle.panel.specs.declared.Panel.{Panel}
 use Rattle.loader.specs.declared.Program.{Program}
@@ -61,11 +63,26 @@ pub record Lawful (orchestra : List ℕ) (ceiling : ℕ) : Type 0 where
   pub low : 1 ≤ ceiling
   pub high : ceiling ≤ 32767
 
--- The first half of condition 3 with the voices of the panel's program.
-unfoldable pub ProgramAlike : Type 0
-ProgramAlike =
-    (orchestra : List ℕ) (ceiling : ℕ) → Lawful orchestra ceiling →
-    PlainAlike entrances (voicesOf (programOf orchestra)) ceiling (freshPanel orchestra ceiling)
+-- the panel after a list of calls
+unfoldable pub afterAll : Panel → List Call → Panel
+afterAll p [] = p
+afterAll p (c ∷ cs) = afterAll (afterCall p c .player) cs
+
+-- A cycle call does the cycle that document 01 defines, steps 1 to 8 or the end at step 1, to what the panel holds: this gives its
+-- answer, what the panel holds afterwards and, where it answers 0, the block. The notes do what the tree means.
+pub record IsCycle (is : List Instrument) (ceiling : ℕ) (p : Panel) (a : After Panel) : Type 0 where
+  pub answer : a .answer ≡ plainAnswer (coreOf p)
+  pub held : coreOf (a .player) ≡ plainStep (treeVoices is) (coreOf p)
+  pub block : a .answer ≡ 0 → a .block ≡ blockOf (treeVoices is) ceiling (coreOf p)
+
+-- Condition 2, every cycle of sound. For any accepted orchestra, whose tree is `is`, any ceiling and any list of calls on a fresh
+-- panel, whatever is handed in, timed or not, late or not: the next cycle call lent 320 samples is that cycle.
+unfoldable pub CycleByTree : Type 0
+CycleByTree =
+    (orchestra : List ℕ) (is : List Instrument) (ceiling : ℕ) → Accepted orchestra is → 1 ≤ ceiling → ceiling ≤ 32767 →
+    (cs : List Call) (block : List ℤ) → length block ≡ samples →
+    let p = afterAll (freshPanel orchestra ceiling) cs in
+    IsCycle is ceiling p (afterCall p (cycle block))
 
 -- Condition 3, first half. For any accepted orchestra, whose tree is `is`, any ceiling and any list of calls on a fresh panel: if every
 -- line taken is timed and in time, each cycle lent 320 samples gives the answer and the block of the plain player, whose notes do what
@@ -80,15 +97,20 @@ unfoldable pub CeilingBinds : Type 0
 CeilingBinds =
     (orchestra : List ℕ) (ceiling : ℕ) → Lawful orchestra ceiling → CeilingHolds entrances ceiling (freshPanel orchestra ceiling)
 
--- what a refused call leaves: the panel as it was, save that a cycle may mark the piece ended, and the lent block as it was
+-- a cycle call that finds the end: it is lent 320 samples, the piece is not yet ended, and step 1 ends it
+unfoldable pub findsEnd : Panel → List ℤ → Bool
+findsEnd p block = eqb (length block) samples && not (p .state .ended) && ends (coreOf p)
+
+-- what a refused call leaves: the panel as it was, save that the cycle call that finds the end marks the piece ended, and the lent
+-- block as it was
 abbrev pub Unchanged : Panel → Call → Type 0
 Unchanged p (stick bytes) = afterCall p (stick bytes) .player ≡ p
 Unchanged p (unit bytes) = afterCall p (unit bytes) .player ≡ p
 Unchanged p (keypad words) = afterCall p (keypad words) .player ≡ p
 Unchanged p (cycle block) =
-    ((afterCall p (cycle block) .player ≡ p) ⊎ (afterCall p (cycle block) .player ≡ endedOf p)) × (afterCall p (cycle block) .block ≡ block)
+    (afterCall p (cycle block) .player ≡ cond (findsEnd p block) (endedOf p) p) × (afterCall p (cycle block) .block ≡ block)
 
--- Condition 1, of every call on every panel: a refusal changes neither the panel nor a lent block.
+-- Condition 1, of every call on every panel: a refusal changes neither the panel nor a lent block, save that mark.
 unfoldable pub RefusalsChangeNothing : Type 0
 RefusalsChangeNothing = (p : Panel) (c : Call) → eqb (afterCall p c .answer) 0 ≡ false → Unchanged p c
 

@@ -1,4 +1,4 @@
--- Voices that do the same to every note they have made give the same plain player.
+-- Voices that do the same to every note they have made give the same cycle, and so the same plain player.
 use mathlib.Core.Path.{_≡_, refl, ap, _∙_}
 use mathlib.Core.Bool.{Bool, true, false, not, cond, _&&_}
 use mathlib.Core.List.{List, [], _∷_, _++_}
@@ -32,7 +32,7 @@ module _ {S : Type 0} (Good : S → Type 0) where
     pub control-good : (x : ℕ) (a : Float) (s : S) → Good s → Good (w .control x a s)
     pub run-good : (s : S) (mix : List Float) → Good s → AllFit mix → GoodRan (w .run s mix)
 
-  abbrev Notes : List (Note S) → Type 0
+  abbrev pub Notes : List (Note S) → Type 0
   Notes ns = All (λ (n : Note S). Good (n .state)) ns
 
   zeros-fit : (n : ℕ) → AllFit (replicate n (ofBits binary32 0))
@@ -197,11 +197,11 @@ module _ {S : Type 0} (Good : S → Type 0) where
       unfolding bandOf runAll
       band-good = run-notes-good sounding (replicate samples (ofBits binary32 0)) sounding-good (zeros-fit samples)
 
-      block-same : (ceiling : ℕ) → blockOf v ceiling c ≡ blockOf w ceiling c
+      pub block-same : (ceiling : ℕ) → blockOf v ceiling c ≡ blockOf w ceiling c
       unfolding blockOf
       block-same ceiling = ap (λ (b : Band S). limited ceiling (b .mix)) band-same
 
-      stepped-same : stepped v c ≡ stepped w c
+      pub stepped-same : stepped v c ≡ stepped w c
       unfolding stepped
       stepped-same =
           λ i. record {
@@ -213,7 +213,7 @@ module _ {S : Type 0} (Good : S → Type 0) where
             ended = false;
           }
 
-      stepped-good : Notes (stepped w c .notes)
+      pub stepped-good : Notes (stepped w c .notes)
       unfolding stepped
       stepped-good = all-keep (goesOn (c .position)) (λ (n : Note S). Good (n .state)) (bandOf w c .notes) band-good
 

@@ -21,7 +21,7 @@ use Rattle.voices.proofs.Kept.{birth-size, k-size, a-size, a-fits, name
 use Rattle.voices.proofs.Alike.{Alike, at-same, blocks-same, answers-same}
 
 -- a note has 16 values
-abbrev Sixteen : Held → Type 0
+abbrev pub Sixteen : Held → Type 0
 Sixteen s = length (s .values) ≡ 16
 
 module _ (is : List Instrument) (table : List row.Instrument) (code : List ℕ) (vals : List Float) (r : Represents is table code vals) where
@@ -55,7 +55,7 @@ module _ (is : List Instrument) (table : List row.Instrument) (code : List ℕ) 
     unfolding cycle
     cycle-fits = a-fits (bodyOf is name) (kPass (bodyOf is name) vs) mix f
 
-  alike : Alike Sixteen (voices table code vals) (treeVoices is)
+  pub alike : Alike Sixteen (voices table code vals) (treeVoices is)
   unfolding voices treeVoices
   alike =
       record {
