@@ -7,10 +7,9 @@ use lib.ListN.{length, length-append}
 use Rattle.syntax.specs.Tree.{Expr, number, name, unary, binary, choose, Statements, done, assign, output, branch, Instrument}
 use Rattle.syntax.specs.Program.{compile, code, instrument, program}
 use Rattle.syntax.specs.Names.{Named, place, putIn, put, placed}
-use Rattle.lowered.specs.Lowered.{after, past}
 use Rattle.lowered.specs.Statements.{depth, Proper}
 use Rattle.bounds.specs.Sizes.{Shallow, Small}
-use Rattle.bounds.proofs.Exprs.{length-name, length-unary, length-binary, length-choose, length-assign, length-output, length-branch, after-length, past-length}
+use Rattle.bounds.proofs.Exprs.{length-name, length-unary, length-binary, length-choose, length-assign, length-output, length-branch}
 
 module _ (ms : List Named) where
   pub proper-put : (e : Expr) → Proper e → Proper (putIn ms e)
@@ -54,12 +53,6 @@ module _ (ms : List Named) where
         code-put b,
         code-put t,
       )
-
-  pub after-put : (n : ℕ) (e : Expr) → after n (putIn ms e) ≡ after n e
-  after-put n e = omega (arith, after-length n e, after-length n (putIn ms e), compile-put e)
-
-  pub past-put : (n : ℕ) (t : Statements) → past n (put ms t) ≡ past n t
-  past-put n t = omega (arith, past-length n t, past-length n (put ms t), code-put t)
 
   pub shallow-put : (e : Expr) → Shallow e → Shallow (putIn ms e)
   shallow-put e s = record { proper = proper-put e (s .proper); deep = omega (arith, depth-put e) }

@@ -41,9 +41,6 @@ module _ (ts : List Token) {g : Got} {at out : ℕ} (s : ℕ) {b : Bool} (q : g 
   pub passed-no : b ≡ false → Refused ≡ passed s ts g
   passed-no f = rw (q, ← e, f)
 
-pub passed-gone : (ts : List Token) {g : Got} (s : ℕ) → g ≡ Refused → Refused ≡ passed s ts g
-passed-gone ts s q = rw q
-
 module _ {g : Got} {a b : List ℕ} {x : List Float} where
   pub place-ops : {at out : ℕ} → Place g (areas a b x) → g ≡ Next at out → out < length a
   place-ops p q = omega (arith, p .fits _ _ q .ops)

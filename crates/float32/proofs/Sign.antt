@@ -14,7 +14,7 @@ and-true-l : (a b : Bool) → a && b ≡ true → a ≡ true
 and-true-l true b e = refl
 and-true-l false b e = e
 
-pub fits-abs : (s : Bool) (m : ℕ) (e : ℤ) → T (fits binary32 (fin s m e)) → T (fits binary32 (fin false m e))
+fits-abs : (s : Bool) (m : ℕ) (e : ℤ) → T (fits binary32 (fin s m e)) → T (fits binary32 (fin false m e))
 unfolding fits
 fits-abs s zero e t = t
 fits-abs s (suc m) e t = t

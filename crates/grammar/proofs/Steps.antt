@@ -154,9 +154,6 @@ lead-past : (ts : List Token) (a : Lead) → leadL ts ≡ a → (a ≡ No → �
 lead-past [] a e f = absurd (f (sym e))
 lead-past (t ∷ ts) a e f = omega arith
 
-imports-took : (ts : List Token) → All (Took 2 ts) (seq (sign 3 ts) (listed importsKind))
-imports-took ts = seq-took {k = 1} {l = 1} _ (sign-took 3 ts) (listed-took importsKind)
-
 byLead-took : (D : List Token → Res) → Bounded D → (a : Lead) (ts : List Token) → leadL ts ≡ a → All (Took 0 ts) (byLead D a ts)
 byLead-took D H (Kind k) ts e =
     All-weaken (seq-took {k = 1} {l = 0} D (listed-took k (drop 1 ts)) H)

@@ -1,7 +1,7 @@
 -- The loop that marks where instruments start.
 use Prim.Native.Nat.{ℕ, suc, _+_, _≤_, _<_}
 use native.Mathlib.Omega.{arith}
-use mathlib.Core.Path.{_≡_, refl, sym, ap, _∙_}
+use mathlib.Core.Path.{_≡_, refl, sym, ap, ap₂, _∙_}
 use mathlib.Core.Bool.{Bool, true, false, cond}
 use mathlib.Core.List.{List, [], _∷_, _++_, append-assoc, append-nil}
 use lib.ListN.{length, take, drop, set, getD, length-append, length-set, drop-of-length-le}
@@ -11,19 +11,19 @@ use borrow.Author.Tests.{eq-eqb, ne-eqb, lt-ltb, le-ltb, ltb-true, ltb-false}
 use Rattle.orchestra.specs.declared.Starts.{Starts}
 use Rattle.orchestra.specs.Compiled.{padded}
 use Rattle.orchestra.specs.Reading.{startsFrom}
-use Rattle.orchestra.specs.Arrays.{startsIn, headedAt, markedAt, Fits}
+use Rattle.orchestra.specs.Arrays.{starting, startsIn, headedAt, markedAt, Fits}
 
 -- ---- the ways through one turn
 
-module _ (h : Starts) (o at : ℕ) where
-  pub marked-room : o ≡ 1 → h .count < 8 → record { count = h .count + 1; places = set (h .places) (h .count) at } ≡ markedAt h o at
-  marked-room e lt = rw (eq-eqb o 1 e, lt-ltb (h .count) 8 lt)
+module _ (n : ℕ) (cells : List ℕ) (o at : ℕ) where
+  pub marked-room : o ≡ 1 → n < 8 → starting (n + 1) (set cells n at) ≡ markedAt (starting n cells) o at
+  marked-room e lt = rw (eq-eqb o 1 e, lt-ltb n 8 lt)
 
-  pub marked-full : o ≡ 1 → 8 ≤ h .count → h ≡ markedAt h o at
-  marked-full e le = rw (eq-eqb o 1 e, le-ltb (h .count) 8 le)
+  pub marked-full : o ≡ 1 → 8 ≤ n → starting n cells ≡ markedAt (starting n cells) o at
+  marked-full e le = rw (eq-eqb o 1 e, le-ltb n 8 le)
 
-  pub marked-not : (o ≡ 1 → ⊥) → h ≡ markedAt h o at
-  marked-not n = rw (ne-eqb o 1 n)
+  pub marked-not : (o ≡ 1 → ⊥) → starting n cells ≡ markedAt (starting n cells) o at
+  marked-not e = rw (ne-eqb o 1 e)
 
 -- ---- the whole loop
 
@@ -34,7 +34,7 @@ marks h n (o ∷ os) = marks (markedAt h o n) (suc n) os
 fits-marked : (h : Starts) (o at : ℕ) → Fits h → Fits (markedAt h o at)
 fits-marked h o at f = by-op (eqb o 1)
   where
-    by-room : (b : Bool) → ltb (h .count) 8 ≡ b → Fits (cond b (record { count = h .count + 1; places = set (h .places) (h .count) at }) h)
+    by-room : (b : Bool) → ltb (h .count) 8 ≡ b → Fits (cond b (starting (h .count + 1) (set (h .places) (h .count) at)) h)
     by-room true e = record { most = omega (arith, ltb-true (h .count) 8 e); cells = length-set (h .places) (h .count) at ∙ f .cells }
     by-room false e = f
 
@@ -50,9 +50,11 @@ pub record Inv (ops : List ℕ) (h : Starts) (pc : ℕ) : Type 0 where
 pub begins : (ops : List ℕ) → Inv ops (startsIn []) 0
 begins ops = record { fits = record { most = omega arith; cells = refl }; rest = refl }
 
-pub again : (ops : List ℕ) {h r : Starts} (pc : ℕ) → Inv ops h pc → pc < length ops → r ≡ markedAt h (getD ops pc 0) pc → Inv ops r (pc + 1)
+pub again : (ops : List ℕ) (n : ℕ) (cells : List ℕ) {m : ℕ} {new : List ℕ} (pc : ℕ) → Inv ops (starting n cells) pc → pc < length ops
+    → starting m new ≡ markedAt (starting n cells) (getD ops pc 0) pc → Inv ops (starting m new) (pc + 1)
 unfolding marks
-again ops {h} {r} pc v lt e =
+again ops n cells pc v lt e =
+    let h = starting n cells in
     let s : pc + 1 ≡ suc pc = omega arith in
     let d = ap (marks h pc) (sym (drop-cons ops pc 0 lt)) in
     rw (e, s) (record { fits = fits-marked h (getD ops pc 0) pc (v .fits); rest = d ∙ v .rest })
@@ -72,7 +74,7 @@ place-next (a ∷ b ∷ c ∷ d ∷ e ∷ f ∷ g ∷ h ∷ hs) n lt = absurd (o
 headed-in : (hs : List ℕ) (n : ℕ) → length hs < 8 → headedAt (startsIn hs) n ≡ startsIn (hs ++ n ∷ [])
 headed-in hs n lt =
     rw (lt-ltb (length hs) 8 lt)
-    (λ i. record { count = (sym (length-append hs (n ∷ []))) i; places = place-next hs n lt i })
+    (ap₂ starting (sym (length-append hs (n ∷ []))) (place-next hs n lt))
 
 full-in : (hs : List ℕ) (n : ℕ) → 8 ≤ length hs → headedAt (startsIn hs) n ≡ startsIn hs
 full-in hs n le = rw (le-ltb (length hs) 8 le)
@@ -101,9 +103,9 @@ unfolding marks startsFrom
 marks-are hs [] n le = rw append-nil (ap startsIn (sym (take-all 8 hs le)))
 marks-are hs (o ∷ os) n le = by-op hs os n le (λ gs l. marks-are gs os (suc n) l) (eqb o 1)
 
-pub ends : (ops : List ℕ) {h : Starts} (pc : ℕ) → Inv ops h pc → length ops ≤ pc → h ≡ startsIn (take 8 (startsFrom 0 ops))
+pub ends : (ops : List ℕ) (n : ℕ) (cells : List ℕ) (pc : ℕ) → Inv ops (starting n cells) pc → length ops ≤ pc → starting n cells ≡ startsIn (take 8 (startsFrom 0 ops))
 unfolding marks
-ends ops {h} pc v le = sym (ap (marks h pc) (drop-past ops pc le)) ∙ v .rest ∙ marks-are [] ops 0 (omega arith)
+ends ops n cells pc v le = let h = starting n cells in sym (ap (marks h pc) (drop-past ops pc le)) ∙ v .rest ∙ marks-are [] ops 0 (omega arith)
   where
     drop-past : (l : List ℕ) (n : ℕ) → length l ≤ n → drop n l ≡ []
     drop-past l n le = drop-of-length-le l {i = n} le

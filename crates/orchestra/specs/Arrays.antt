@@ -17,13 +17,17 @@ use Rattle.orchestra.specs.declared.Starts.{Starts}
 use Rattle.orchestra.specs.Compiled.{padded}
 use Rattle.orchestra.specs.Reading.{taken, refused, startsFrom}
 
+-- so many starts, in the first cells of an array
+abbrev pub starting : ℕ → List ℕ → Starts
+starting n cells = record { count = n; places = cells }
+
 -- these places, in the first cells of an array
 abbrev pub startsIn : List ℕ → Starts
-startsIn hs = record { count = length hs; places = padded 8 0 hs }
+startsIn hs = starting (length hs) (padded 8 0 hs)
 
 -- one more, where there is room
 abbrev pub headedAt : Starts → ℕ → Starts
-headedAt h at = cond (ltb (h .count) 8) (record { count = h .count + 1; places = set (h .places) (h .count) at }) h
+headedAt h at = cond (ltb (h .count) 8) (starting (h .count + 1) (set (h .places) (h .count) at)) h
 
 -- an instrument starts at instr
 abbrev pub markedAt : Starts → ℕ → ℕ → Starts

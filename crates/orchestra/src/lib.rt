@@ -7,7 +7,7 @@ ghost use lib.ListN.{length, take};
 ghost use Rattle.tokens.specs.Token.{toks};
 ghost use Rattle.grammar.specs.Reader.{orchestra};
 ghost use Rattle.orchestra.specs.Reading.{refused, startsFrom, byGrammar, readOf};
-ghost use Rattle.orchestra.specs.Arrays.{startsIn, markedAt, Fits, judgement, placedIf, keptIn, finishedIn};
+ghost use Rattle.orchestra.specs.Arrays.{starting, startsIn, markedAt, Fits, judgement, placedIf, keptIn, finishedIn};
 
 // The program of an accepted orchestra: where each instrument starts, and an operation, a name or place and a number for each instruction.
 pub struct Program {
@@ -47,39 +47,35 @@ struct Starts {
     places: [u16; 8],
 }
 
-// With the place of one more operation: an instrument starts at instr, where there is room for it.
-fn marked(h: Starts, op: u8, at: u16) -> Starts
-    requires { ⌜ Fits h ⌝ }
-    ensures { λ r. ⌜ r ≡ markedAt h op at ⌝ }
+// With the place of one more operation: an instrument starts at instr, where there is room for it. Gives how many there are then.
+fn marked(places: &mut [u16], count: usize, op: u8, at: u16) -> usize
+    requires { ⌜ Fits (starting count (now places)) ⌝ }
+    ensures { λ r. ⌜ starting r (now (places .exit)) ≡ markedAt (starting count (now (places .entry))) op at ⌝ }
 {
-    let count = h.count;
-    let mut places = h.places;
     if op == 1 {
         if count < 8 {
             places[count] = at;
-            return Starts {
-                count: count + 1,
-                places: places,
-            };
+            return count + 1;
         }
     }
-    h
+    count
 }
 
 fn starts_of(ops: &[u8]) -> Starts
     requires { ⌜ length (now ops) ≤ 2048 ⌝ }
     ensures { λ r. ⌜ r ≡ startsIn (take 8 (startsFrom 0 (now (ops .entry)))) ⌝ }
 {
-    let mut h = Starts {
-        count: 0,
-        places: [0; 8],
-    };
+    let mut places = [0u16; 8];
+    let mut count: usize = 0;
     let mut pc: usize = 0;
     while pc < ops.len() {
-        h = marked(h, ops[pc], pc as u16);
+        count = marked(&mut places, count, ops[pc], pc as u16);
         pc += 1;
     }
-    h
+    Starts {
+        count: count,
+        places: places,
+    }
 }
 
 // The name rules, then the rate rules. Where the first are kept, names are put by their places.

@@ -1,4 +1,4 @@
--- The name rules ws a pass over a program, and its names put by their places. A program is given ws its operations and their names.
+-- The name rules as a pass over a program, and its names put by their places. A program is given as its operations and their names.
 use Prim.Native.Nat.{ℕ}
 use mathlib.Core.Bool.{Bool, true, not, _&&_, cond}
 use mathlib.Core.List.{List, [], _∷_, _++_}

@@ -1,4 +1,4 @@
--- The rate rules ws a pass over a program whose names are put by their places.
+-- The rate rules as a pass over a program whose names are put by their places.
 use Prim.Native.Nat.{ℕ, _+_, _-_, max}
 use mathlib.Core.Bool.{Bool, true, _&&_, cond}
 use mathlib.Core.List.{List, [], _∷_}

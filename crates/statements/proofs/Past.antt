@@ -10,10 +10,9 @@ use Rattle.expressions.specs.declared.Got.{Got}
 use Rattle.expressions.specs.declared.Got.the-variants.{Next}
 use Rattle.expressions.specs.Reader.{Res}
 use Rattle.expressions.specs.Areas.{Areas, left, Ready, gone, come, Runs, refused, done}
-use Rattle.expressions.proofs.Laws.{All, All-weaken}
+use Rattle.expressions.proofs.Laws.{All}
 use Rattle.expressions.proofs.Runs.{Past, holds-stored, holds-less, took-of}
 use Rattle.grammar.proofs.Results.{Took}
-use Rattle.grammar.proofs.Steps.{Near}
 
 -- the same reading by another name, and to the same place by another name
 pub runs-law : {ts : List Token} {f : List Token → Res} (k : List Token → Res) {g h : Got} {m n : Areas} → ((z : List Token) → k z ≡ f z)
@@ -27,28 +26,21 @@ runs-to e (gone q x) = gone q (sym e ∙ x)
 runs-to e (refused at out q v x) = refused at out q v (sym e ∙ x)
 runs-to e (done at out to c q v le x s) = done at out to c q v le (sym e ∙ x) s
 
--- room for i more before, and for j more after
-ready-by : {ts : List Token} {f : List Token → Res} {g h : Got} {m n : Areas} (i j k : ℕ)
-    → ((z : List Token) → All (λ c r. length c + j + length r ≤ i + length z) (f z)) → Ready ts (k + i) g m → Runs ts f g m h n → Ready ts (k + j) h n
-ready-by i j k b r (gone e x) = gone x
-ready-by i j k b r (refused at out e v x) = gone x
-ready-by i j k b (gone q) (done at out to c e v le x s) = let z : _≡_ {A = ℕ} 0 1 = cc in absurd (omega arith)
-ready-by {ts} i j k b (come p o q l r) (done at out to c e v le x s) =
+-- room for j more than before
+ready-by : {ts : List Token} {f : List Token → Res} {g h : Got} {m n : Areas} (k j : ℕ) → ((z : List Token) → All (Took j z) (f z)) → Ready ts k g m → Runs ts f g m h n
+    → Ready ts (k + j) h n
+ready-by k j b r (gone e x) = gone x
+ready-by k j b r (refused at out e v x) = gone x
+ready-by k j b (gone q) (done at out to c e v le x s) = let z : _≡_ {A = ℕ} 0 1 = cc in absurd (omega arith)
+ready-by {ts} k j b (come p o q l r) (done at out to c e v le x s) =
     let y : p ≡ at = cc in
     let w : o ≡ out = cc in
     let t = took-of (b (drop at ts)) v in
-    come to (out + length c) x le (rw s (holds-stored out c (holds-less (omega (arith, t, length-drop to ts, length-drop at ts)) r)))
+    come to (out + length c) x le (rw s (holds-stored out c (holds-less (omega (arith, t .room, length-drop to ts, length-drop at ts)) r)))
 
-module _ {ts : List Token} {f : List Token → Res} {k : ℕ} {g h : Got} {m n : Areas} where
-  pub ready-took : (j : ℕ) → ((z : List Token) → All (Took j z) (f z)) → Ready ts k g m → Runs ts f g m h n → Ready ts (k + j) h n
-  ready-took j b r x =
-      let z : k + 0 ≡ k = omega arith in
-      ready-by 0 j k (λ z. All-weaken (b z) (λ c r h. omega (arith, h .room))) (rw z r) x
-
-  pub ready-near : ((z : List Token) → All (Near z) (f z)) → Ready ts (k + 1) g m → Runs ts f g m h n → Ready ts k h n
-  ready-near b r x =
-      let z : k ≡ k + 0 = omega arith in
-      rw z (ready-by 1 0 k (λ z. All-weaken (b z) (λ c r h. omega (arith, h .room))) r x)
+pub ready-took : {ts : List Token} {f : List Token → Res} {k : ℕ} {g h : Got} {m n : Areas} (j : ℕ) → ((z : List Token) → All (Took j z) (f z)) → Ready ts k g m
+    → Runs ts f g m h n → Ready ts (k + j) h n
+ready-took {k = k} j b r x = ready-by k j b r x
 
 pub left-took : {ts : List Token} {f : List Token → Res} {g h : Got} {m n : Areas} (j at : ℕ) {out : ℕ} → ((z : List Token) → All (Took j z) (f z))
     → Runs ts f g m h n → h ≡ Next at out → left ts h + j ≤ left ts g
