@@ -57,7 +57,7 @@ fn within(n: usize, most: usize) -> usize
 }
 
 // The instrument with a name among the first n; else a blank one.
-fn find(table: [Instrument; 8], n: usize, name: u16) -> Found
+pub fn find(table: [Instrument; 8], n: usize, name: u16) -> Found
     ensures { λ r. ⌜ r ≡ foundIn name (take n table) ⌝ }
 {
     let m = within(n, 8);

@@ -50,7 +50,7 @@ fn sound<'a>(
 {
     let mut mix = [0.0f32; 320];
     let notes = v.notes;
-    let held = sounding::run_notes(table, n, code, vals, notes, v.count, &mut mix);
+    let held = ensemble::run_notes(table, n, code, vals, notes, v.count, &mut mix);
     limiter::limit(&mix, ceiling, block);
     Notes {
         notes: held,

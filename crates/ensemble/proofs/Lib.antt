@@ -1,0 +1,5 @@
+pub mod Together
+pub mod Plans
+pub mod Laying
+pub mod Rooms
+pub mod Whole
