@@ -7,11 +7,11 @@ use lib.Dec.{T}
 use lib.ListN.{length, getD, take, drop}
 use Rattle.answer.specs.declared.Answer.the-variants as answer
 use Rattle.bitstream.specs.Fields.{farthest}
+use Rattle.score_line.specs.LineFormat.{lawful}
 use Rattle.score_line.specs.Reading.{lineAt, keypadLine}
 use Rattle.score_line.specs.declared.Line.{Line}
 use Rattle.score_line.specs.declared.LineRead.{LineRead}
 use Rattle.line_writer.specs.Fields.{lineBefore, lineBits, lineWords}
-use Rattle.line_writer.specs.Lawful.{lawful}
 
 -- a line that was taken, and the position past it
 abbrev pub taken : Line → ℕ → LineRead

@@ -1,4 +1,4 @@
--- Where a line's numbers come from. Definitions only.
+-- Where a record's numbers come from. Definitions only.
 use Prim.Native.Nat.{ℕ, _+_}
 use mathlib.Core.Bool.{Bool, true, false}
 use mathlib.Core.List.{List}

@@ -1,4 +1,4 @@
--- Fields as keypad numbers: where a line's numbers stand, and what they are read as. Assumes nothing.
+-- Fields as keypad numbers: where they stand, and what they are read as. Assumes nothing.
 use Prim.Native.Nat.{ℕ, suc, _+_, _-_, _^_, _<_}
 use mathlib.Core.Path.{_≡_, refl, sym, ap, ap₂, _∙_, subst}
 use mathlib.Core.Bool.{Bool, true, false}
@@ -12,10 +12,9 @@ use lib.ListN.{length, getD, drop, length-drop}
 use lib.Seq.{drop-drop, drop-cons, getD-drop}
 use Rattle.bitstream.specs.Fields.{pick}
 use Rattle.bitstream.specs.declared.Got.the-variants.{Value, Short}
-use Rattle.score_line.specs.Source.{keypadSource}
-use Rattle.line_writer.specs.Fields.{Field, of, fieldWords}
-use Rattle.line_writer.proofs.Gives.{Gives}
-use Rattle.line_writer.proofs.Back.{Bounded}
+use Rattle.formats.specs.Source.{keypadSource}
+use Rattle.formats.specs.Fields.{Field, of, fieldWords}
+use Rattle.formats.proofs.Gives.{Gives, Bounded}
 
 -- what the keypad gives is the next number
 record Next (words : List ℕ) (at v p : ℕ) : Type 0 where
