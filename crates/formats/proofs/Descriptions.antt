@@ -19,7 +19,7 @@ use Rattle.formats.specs.Fields.{Field, of, widths}
 use Rattle.formats.specs.Format.{Format, named, ifSetFields, ifSetLawful, timesFrom, timesFields, all}
 use Rattle.formats.specs.Format as F
 use Rattle.formats.specs.Description.{Description, flag, field, oneOf, nothing, choose, ifSet, setThen, times, as-a, format, small, ifSetLength, timesLength, lengthOf}
-use Rattle.formats.proofs.Gives.{Gives}
+use Rattle.formats.proofs.Gives.{Fits, Gives}
 use Rattle.formats.proofs.Laws.{Law, Stands, number-there, field-law, small-law, flag-law, lawful-flag, oneOf-law, nothing-law, choose-law, ifSet-law, setThen-law, times-law, as-a-law}
 
 -- ---- what the laws ask of a description: of its fields, its names and its views
@@ -185,11 +185,11 @@ abbrev pub Every : {A : Type 0} → (A → Type 0) → List A → Type 0
 Every P [] = Unit
 Every P (x ∷ xs) = P x × Every P xs
 
--- a value that its fields hold, as far as reading goes: each part has a number, and there are as many parts as their number says
+-- a value that its fields hold, as far as reading goes: each part has a number, its width holds it, and there are as many parts as their number says
 abbrev pub Held : {A : Type 0} → Description A → A → Type 0
 Held flag b = Unit
-Held (small w m) v = Unit
-Held (field w t g v n ok) a = T (ok a)
+Held (small w m) v = v < 2 ^ w
+Held (field w t g v n ok) a = T (ok a) × (n a < 2 ^ w)
 Held (oneOf w n ks g) k = Unit
 Held nothing u = Unit
 Held (choose d e) x = Held d (x .0) × (T (format d .lawful (x .0)) → Held (e (x .0)) (x .1))
@@ -209,16 +209,16 @@ pub data Fate {A : Type 0} (P : Fault → Type 0) (f : Format A) (a : A) : Type 
   refused-value : Refuses P f a → Fate P f a
 
 module _ (P : Fault → Type 0) where
-  field-fate : {A : Type 0} (w : ℕ) (t : ℕ → Bool) (g : Fault) (v : ℕ → A) (n : A → ℕ) (ok : A → Bool) → P g → (a : A) → T (ok a) → Fate P (F.field w t g v n ok) a
-  field-fate w t g v n ok r a h = go (t (n a)) refl
+  field-fate : {A : Type 0} (w : ℕ) (t : ℕ → Bool) (g : Fault) (v : ℕ → A) (n : A → ℕ) (ok : A → Bool) → P g → (a : A) → T (ok a) → Fits w (n a) → Fate P (F.field w t g v n ok) a
+  field-fate w t g v n ok r a h f = go (t (n a)) refl
     where
       go : (b : Bool) → t (n a) ≡ b → Fate P (F.field w t g v n ok) a
       go true e = lawful-value (and-i (ok a) (t (n a)) h (passes (t (n a)) e))
-      go false e = refused-value record { fault = g; is = r; everywhere = λ s at p rest k. rw (number-there s w at (n a) (k .next) (k .reads), e) }
+      go false e = refused-value record { fault = g; is = r; everywhere = λ s at p rest k. rw (number-there s w at (n a) (k f .next) (k f .reads), e) }
 
-  small-fate : (w m : ℕ) → P fault.OutOfRange → (v : ℕ) → Fate P (F.small w m) v
+  small-fate : (w m : ℕ) → P fault.OutOfRange → (v : ℕ) → Fits w v → Fate P (F.small w m) v
   unfolding F.small
-  small-fate w m r v = field-fate w (λ u. leb u m) fault.OutOfRange (λ u. u) (λ u. u) (λ u. true) r v tt
+  small-fate w m r v f = field-fate w (λ u. leb u m) fault.OutOfRange (λ u. u) (λ u. u) (λ u. true) r v tt f
 
   choose-fate : {K : Type 0} {B : K → Type 0} (f : Format K) (g : (k : K) → Format (B k)) → Law f → (x : (k : K) × B k) → Fate P f (x .0) → (T (f .lawful (x .0)) → Fate P (g (x .0)) (x .1)) → Fate P (F.choose f g) x
   choose-fate f g lf x (refused-value r) h = refused-value record { fault = r .fault; is = r .is; everywhere = λ s at p rest k. rw (r .everywhere s at p (g (x .0) .fields (x .1) rest) k) }
@@ -293,8 +293,8 @@ module _ (P : Fault → Type 0) where
   -- a value is lawful, or refused with one fault wherever its fields stand
   pub fate : {A : Type 0} (d : Description A) → Proper d → Raises P d → (a : A) → Held d a → Fate P (format d) a
   fate flag p r b h = lawful-value (lawful-flag b)
-  fate (small w m) p r v h = small-fate w m r v
-  fate (field w t g v n ok) p r a h = field-fate w t g v n ok r a h
+  fate (small w m) p r v h = small-fate w m r v (record { some = p .0; most = p .1; small = h })
+  fate (field w t g v n ok) p r a h = field-fate w t g v n ok r a (h .0) (record { some = p .some; most = p .most; small = h .1 })
   fate (oneOf w n ks g) p r k h = lawful-value tt
   fate nothing p r u h = lawful-value tt
   fate (choose d e) p r x h =

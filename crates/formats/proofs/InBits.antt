@@ -1,11 +1,10 @@
 -- Fields as bits: where they stand, and what they are read as. Assumes nothing.
 use Prim.Native.Nat.{ℕ, _+_, _-_, _^_, _<_, _≤_}
 use mathlib.Core.Path.{_≡_, refl, sym, ap, ap₂, _∙_}
-use mathlib.Core.Bool.{Bool, true}
+use mathlib.Core.Bool.{Bool}
 use mathlib.Core.List.{List, [], _∷_, _++_, append-assoc}
 use native.Mathlib.Nat.{mod-eq-of-lt, add-assoc}
 use native.Mathlib.Omega.{arith}
-use lib.Dec.{T}
 use lib.ListN.{length, take, drop, length-append, length-drop}
 use lib.Seq.{take-at, drop-at, drop-drop}
 use Rattle.bitstream.specs.Bits.{field, valueOf}
@@ -16,44 +15,40 @@ use Rattle.bitstream.proofs.Laws.{length-field, valueOf-field}
 use Rattle.bitstream.proofs.Fields.{room-yes, read-back}
 use Rattle.formats.specs.Source.{bitSource}
 use Rattle.formats.specs.Fields.{Field, of, fieldBits, widths}
-use Rattle.formats.proofs.Gives.{Gives, Bounded}
+use Rattle.formats.proofs.Gives.{Fits, Gives, Bounded}
 
--- a field that its width holds, before such fields
-pub record Held (w v : ℕ) (Rest : Type 0) : Type 0 where
-  pub some : 0 < w
-  pub most : w ≤ 32
-  pub small : v < 2 ^ w
-  pub then : Rest
-
+-- the width of every field holds its number
 abbrev pub Small : List Field → Type 0
-Small [] = T true
-Small (of w v ∷ fs) = Held w v (Small fs)
+Small [] = Unit
+Small (of w v ∷ fs) = Fits w v × Small fs
 
 -- ---- reading them
 
-read-near : (l : List Bool) (at n v : ℕ) (rest : List Bool) → at ≤ farthest → 0 < n → n ≤ 32 → v < 2 ^ n → drop at l ≡ put n v rest
-    → (readAt l at n ≡ Value v (at + n)) × (drop (at + n) l ≡ rest)
+drop-field : (l : List Bool) (at n v : ℕ) (rest : List Bool) → drop at l ≡ put n v rest → drop (at + n) l ≡ rest
+drop-field l at n v rest e = sym (drop-drop n at l) ∙ ap (drop n) e ∙ drop-at (field n v) rest n (length-field n v)
+
+read-near : (l : List Bool) (at n v : ℕ) (rest : List Bool) → at ≤ farthest → Fits n v → drop at l ≡ put n v rest → readAt l at n ≡ Value v (at + n)
 unfolding readAt
-read-near l at n v rest near hn h32 hv e =
+read-near l at n v rest near f e =
     let len : length l - at ≡ n + length rest = sym (length-drop at l) ∙ ap length e ∙ length-append (field n v) rest ∙ ap (λ (k : ℕ). k + length rest) (length-field n v) in
-    let h : at + n ≤ length l = omega arith in
+    let h : at + n ≤ length l = omega (arith, f .some) in
     let t : take n (drop at l) ≡ field n v = ap (take n) e ∙ take-at (field n v) rest n (length-field n v) in
-    let w : valueOf (take n (drop at l)) ≡ v = ap valueOf t ∙ valueOf-field n v ∙ mod-eq-of-lt hv in
-    (rw (room-yes (length l) at n h32 near h, w), sym (drop-drop n at l) ∙ ap (drop n) e ∙ drop-at (field n v) rest n (length-field n v))
+    let w : valueOf (take n (drop at l)) ≡ v = ap valueOf t ∙ valueOf-field n v ∙ mod-eq-of-lt (f .small) in
+    rw (room-yes (length l) at n (f .most) near h, w)
 
 pub bits-bounded : (l : List Bool) → Bounded (bitSource l)
 unfolding bitSource
 bits-bounded l at v p e = read-back l at 32 v p e .small
 
 -- where the bits of fields stand, the fields are given, and what follows them follows
-pub bits-there : (l : List Bool) (fs : List Field) (at p : ℕ) (rest : List Bool) → p ≤ farthest → Small fs → at + widths fs ≡ p → drop at l ≡ fieldBits fs rest
+pub bits-there : (l : List Bool) (fs : List Field) (at p : ℕ) (rest : List Bool) → p ≤ farthest → at + widths fs ≡ p → drop at l ≡ fieldBits fs rest
     → Gives (bitSource l) at fs p × (drop p l ≡ rest)
 unfolding bitSource fieldBits
-bits-there l [] at p rest near h e d = let q : at ≡ p = omega arith in (q, ap (λ (x : ℕ). drop x l) (sym q) ∙ d)
-bits-there l (of w v ∷ fs) at p rest near h e d =
-    let r = read-near l at w v (fieldBits fs rest) (omega arith) (h .some) (h .most) (h .small) d in
-    let k = bits-there l fs (at + w) p rest near (h .then) (omega arith) (r .1) in
-    (record { next = at + w; reads = r .0; then = k .0 }, k .1)
+bits-there l [] at p rest near e d = let q : at ≡ p = omega arith in (q, ap (λ (x : ℕ). drop x l) (sym q) ∙ d)
+bits-there l (of w v ∷ fs) at p rest near e d =
+    let n : at ≤ farthest = omega arith in
+    let k = bits-there l fs (at + w) p rest near (omega arith) (drop-field l at w v (fieldBits fs rest) d) in
+    ((λ f. record { next = at + w; reads = read-near l at w v (fieldBits fs rest) n f d; then = k .0 }), k .1)
 
 -- fields that are given stand there as bits
 pub record BitsBack (l : List Bool) (fs : List Field) (at p : ℕ) : Type 0 where
@@ -61,12 +56,13 @@ pub record BitsBack (l : List Bool) (fs : List Field) (at p : ℕ) : Type 0 wher
   pub room : at ≤ length l → p ≤ length l
   pub here : drop at l ≡ fieldBits fs (drop p l)
 
-pub bits-back : (l : List Bool) (fs : List Field) (at p : ℕ) → Gives (bitSource l) at fs p → BitsBack l fs at p
+pub bits-back : (l : List Bool) (fs : List Field) (at p : ℕ) → Small fs → Gives (bitSource l) at fs p → BitsBack l fs at p
 unfolding bitSource fieldBits
-bits-back l [] at p g = record { next = omega arith; room = λ h. omega arith; here = ap (λ (x : ℕ). drop x l) g }
-bits-back l (of w v ∷ fs) at p g =
+bits-back l [] at p h g = record { next = omega arith; room = λ h. omega arith; here = ap (λ (x : ℕ). drop x l) g }
+bits-back l (of w v ∷ fs) at p h f =
+    let g = f (h .0) in
     let r = read-back l at w v (g .next) (g .reads) in
-    let k = bits-back l fs (g .next) p (g .then) in
+    let k = bits-back l fs (g .next) p (h .1) (g .then) in
     record {
       next = omega (arith, k .next, r .next);
       room = λ h. k .room (omega (arith, r .next, r .room));

@@ -15,6 +15,7 @@ use Rattle.bitstream.specs.declared.Got.the-variants.{Value, Short}
 use Rattle.formats.specs.Source.{keypadSource}
 use Rattle.formats.specs.Fields.{Field, of, fieldWords}
 use Rattle.formats.proofs.Gives.{Gives, Bounded}
+use Rattle.formats.proofs.InBits.{Small}
 
 -- what the keypad gives is the next number
 record Next (words : List ℕ) (at v p : ℕ) : Type 0 where
@@ -42,15 +43,16 @@ words-there words (of w v ∷ fs) at p rest e d =
     let h : at < length words = omega arith in
     let g : getD words at 0 ≡ v = ap (λ (k : ℕ). getD words k 0) (sym (add-zero at)) ∙ sym (getD-drop at words 0 0) ∙ ap (λ (l : List ℕ). getD l 0 0) d in
     let r : drop (at + 1) words ≡ fieldWords fs ++ rest = sym (drop-drop 1 at words) ∙ ap (drop 1) d in
-    record { next = at + 1; reads = rw (lt-ltb at (length words) h, g); then = words-there words fs (at + 1) p rest (omega arith) r }
+    λ f. record { next = at + 1; reads = rw (lt-ltb at (length words) h, g); then = words-there words fs (at + 1) p rest (omega arith) r }
 
 -- fields that are given stand there as numbers
-pub words-back : (words : List ℕ) (fs : List Field) (at p : ℕ) → Gives (keypadSource words) at fs p → (drop at words ≡ fieldWords fs ++ drop p words) × (p ≡ at + length fs)
+pub words-back : (words : List ℕ) (fs : List Field) (at p : ℕ) → Small fs → Gives (keypadSource words) at fs p → (drop at words ≡ fieldWords fs ++ drop p words) × (p ≡ at + length fs)
 unfolding fieldWords
-words-back words [] at p g = (ap (λ (x : ℕ). drop x words) g, omega arith)
-words-back words (of w v ∷ fs) at p g =
+words-back words [] at p h g = (ap (λ (x : ℕ). drop x words) g, omega arith)
+words-back words (of w v ∷ fs) at p h f =
+    let g = f (h .0) in
     let n = next-of words w at v (g .next) (g .reads) in
-    let k = words-back words fs (g .next) p (g .then) in
+    let k = words-back words fs (g .next) p (h .1) (g .then) in
     (drop-cons words at 0 (n .within) ∙ ap₂ (λ (x : ℕ) (l : List ℕ). x ∷ l) (n .value) (ap (λ (j : ℕ). drop j words) (sym (n .past ∙ add-one at)) ∙ k .0), omega (arith, k .1, n .past))
 
 pub length-words : (fs : List Field) → length (fieldWords fs) ≡ length fs

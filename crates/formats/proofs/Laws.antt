@@ -20,8 +20,8 @@ use Rattle.formats.specs.Reading.{Read, got, refused, andThen, whole, nu
 use Rattle.formats.specs.declared.Fault.{Fault}
 use Rattle.formats.specs.declared.Fault.the-variants as fault
 use Rattle.formats.specs.Fields.{Field, of}
-use Rattle.formats.proofs.Gives.{Gives, Found, Bounded}
-use Rattle.formats.proofs.InBits.{Held, Small}
+use Rattle.formats.proofs.Gives.{Fits, Gives, Found, Bounded}
+use Rattle.formats.proofs.InBits.{Small}
 use Rattle.formats.specs.Format.{Format, field, small, flag, named, found, oneOf, nothing, choose, ifSet, ifSetFields, ifSetLawful, setThen, timesFrom, timesFields, all, times, as-a}
 
 -- ---- what is proved of a format
@@ -80,11 +80,15 @@ pub record Stands {A : Type 0} (width : ℕ) (test : ℕ → Bool) (value : ℕ 
   pub back : (v : ℕ) → (width ≡ 32 → v < 2 ^ 32) → test v ≡ true → number (value v) ≡ v
 
 module _ {A : Type 0} (width : ℕ) (test : ℕ → Bool) (g : Fault) (value : ℕ → A) (number : A → ℕ) (good : A → Bool) (st : Stands width test value number good) where
+  field-fits : (a : A) → T (good a && test (number a)) → Fits width (number a)
+  field-fits a h = record { some = st .some; most = st .most; small = st .small a (and-l (good a) (test (number a)) h) (and-r (good a) (test (number a)) h) }
+
   field-there : (s : Source) (at p : ℕ) (a : A) (rest : List Field) → T (good a && test (number a)) → Gives s at (of width (number a) ∷ rest) p
       → Found (field width test g value number good .from s at) a (λ q. Gives s q rest p)
-  field-there s at p a rest h r =
+  field-there s at p a rest h given =
       let x = and-l (good a) (test (number a)) h in
       let y = and-r (good a) (test (number a)) h in
+      let r = given (field-fits a h) in
       record { next = r .next; is = rw (number-there s width at (number a) (r .next) (r .reads), is-true (test (number a)) y, st .again a x y); then = r .then }
 
   field-back : (s : Source) → Bounded s → (at : ℕ) → Holds (Back (field width test g value number good) s at) (field width test g value number good .from s at)
@@ -95,7 +99,7 @@ module _ {A : Type 0} (width : ℕ) (test : ℕ → Bool) (g : Fault) (value : �
       let n : number (value v) ≡ v = st .back v (λ w. b at v q (subst (λ (x : ℕ). s x at ≡ Value v q) w e)) t in
       record {
         is-lawful = and-i (good (value v)) (test (number (value v))) (st .good-value v t) (passes (test (number (value v))) (ap test n ∙ t));
-        gives = λ rest end r. record { next = q; reads = e ∙ ap (λ (x : ℕ). Value x q) (sym n); then = r };
+        gives = λ rest end r f. record { next = q; reads = e ∙ ap (λ (x : ℕ). Value x q) (sym n); then = r };
       })
       (λ t. tt))
 
@@ -104,7 +108,7 @@ module _ {A : Type 0} (width : ℕ) (test : ℕ → Bool) (g : Fault) (value : �
       record {
         there = field-there;
         back = field-back;
-        small = λ a rest h r. record { some = st .some; most = st .most; small = st .small a (and-l (good a) (test (number a)) h) (and-r (good a) (test (number a)) h); then = r };
+        small = λ a rest h r. (field-fits a h, r);
       }
 
 pub small-law : (width most : ℕ) → 0 < width → width ≤ 32 → most < 2 ^ width → Law (small width most)
@@ -166,21 +170,22 @@ module _ {K : Type 0} (width : ℕ) (number : K → ℕ) (ks : List K) (g : Faul
       go true e h = (eqb-true n (number j) e, refl)
       go false e h = h
 
+  name-fits : (k : K) → Fits width (number k)
+  name-fits k = record { some = some-bits; most = most-bits; small = below k }
+
   pub oneOf-law : Law (oneOf width number ks g)
   oneOf-law =
       record {
-        there = λ s at p k rest h r. record {
-          next = r .next;
-          is = rw (number-there s width at (number k) (r .next) (r .reads), listed k);
-          then = r .then;
-        };
+        there = λ s at p k rest h given.
+            let r = given (name-fits k) in
+            record { next = r .next; is = rw (number-there s width at (number k) (r .next) (r .reads), listed k); then = r .then };
         back = λ s b at.
             holds-then (λ v q. s width at ≡ Value v q) (Back (oneOf width number ks g) s at) (numberFrom s width at) (λ n p. found g p (named number ks n)) (number-back s width at)
             (λ v q e. holds-map (found g q (named number ks v)) (λ k p h. record {
               is-lawful = tt;
-              gives = λ rest end r. record { next = p; reads = e ∙ ap₂ (λ (x y : ℕ). Value x y) (h .0) (h .1); then = r };
+              gives = λ rest end r f. record { next = p; reads = e ∙ ap₂ (λ (x y : ℕ). Value x y) (h .0) (h .1); then = r };
             }) (named-back ks v q));
-        small = λ k rest h r. record { some = some-bits; most = most-bits; small = below k; then = r };
+        small = λ k rest h r. (name-fits k, r);
       }
 
 -- ---- several

@@ -2,3 +2,4 @@ pub mod LineLaw
 pub mod Packs
 pub mod Writes
 pub mod Proved
+pub mod AnyLine

@@ -96,7 +96,7 @@ pub line-here : (bits : List Bool) (at : ℕ) (l : Line) (rest : List Bool) → 
     → (lineAt bits at ≡ taken l (at + length (lineBits l))) × (drop (at + length (lineBits l)) bits ≡ rest)
 unfolding lineAt lineRead lineBefore
 line-here bits at l rest h near d =
-    let g = bits-there bits (lineFields l) at (at + length (lineBits l)) rest near (line-law .small l [] h tt) (ap (λ (k : ℕ). at + k) (sym (length-line l))) d in
+    let g = bits-there bits (lineFields l) at (at + length (lineBits l)) rest near (ap (λ (k : ℕ). at + k) (sym (length-line l))) d in
     (ap lineRead (line-there (bitSource bits) at (at + length (lineBits l)) l h (g .0)), g .1)
 
 -- where a line is read, its bits stand
@@ -110,7 +110,7 @@ pub line-back-here : (bits : List Bool) (at : ℕ) (l : Line) (p : ℕ) → line
 unfolding lineAt lineBefore
 line-back-here bits at l p e =
     let b = line-back (bitSource bits) (bits-bounded bits) at l p (read-taken (lineFrom (bitSource bits) at) l p e) in
-    let k = bits-back bits (lineFields l) at p (b .1) in
+    let k = bits-back bits (lineFields l) at p (line-law .small l [] (b .0) tt) (b .1) in
     let w = line-wide l (values-long l (b .0)) in
     let n : length (drop at bits) ≡ widths (lineFields l) + length (drop p bits) = ap length (k .here) ∙ length-bits (lineFields l) (drop p bits) in
     let m : at ≤ length bits = omega (arith, length-drop at bits, w .0) in
@@ -154,7 +154,7 @@ pub words-back-here : (words : List ℕ) (at : ℕ) (l : Line) (p : ℕ) → ((i
 unfolding lineInWords lineWords
 words-back-here words at l p h e =
     let b = line-back (keypadSource words) (words-bounded words h) at l p (read-taken (lineFrom (keypadSource words) at) l p e) in
-    let k = words-back words (lineFields l) at p (b .1) in
+    let k = words-back words (lineFields l) at p (line-law .small l [] (b .0) tt) (b .1) in
     (b .0, k .0, k .1 ∙ ap (λ (x : ℕ). at + x) (sym (length-words (lineFields l))))
 
 pub words-read-back : WordsReadBack
