@@ -20,7 +20,7 @@ use Rattle.answer.specs.declared.Answer.the-variants as answer
 use Rattle.bitstream.specs.Fields.{farthest}
 use Rattle.formats.specs.Source.{Source, bitSource, keypadSource}
 use Rattle.formats.specs.Reading.{Read, got, refused, andThen}
-use Rattle.formats.specs.Fields.{fieldWords}
+use Rattle.formats.specs.Fields.{Field, fieldBits, fieldWords}
 use Rattle.formats.specs.Format.{all}
 use Rattle.formats.specs.Description.{format}
 use Rattle.formats.specs.declared.Fault.{Fault}
@@ -43,7 +43,7 @@ use Rattle.score_line.specs.declared.Range.{Range}
 use Rattle.score_line.specs.declared.Range.the-variants as range
 use Rattle.line_writer.specs.Fields.{lineFields, lineBits, lineBefore, lineWords}
 use Rattle.line_writer.specs.Writing.{lineFault}
-use Rattle.line_writer.specs.Claims.{taken, isSymbol, storedWhen, storedLabel, storedEvent, stored, meant, asRead, AnyRead, EveryLineRead, MeantLawful, FaultNumber, no-fault, out-of-range, too-many-values, FaultNumbers}
+use Rattle.line_writer.specs.Claims.{taken, isSymbol, storedWhen, storedLabel, storedEvent, stored, meant, asRead, AnyRead, EveryLineRead, Meant, EveryMeant, FaultNumber, no-fault, out-of-range, too-many-values, FaultNumbers}
 use Rattle.line_writer.proofs.LineLaw.{parts-proper, event-again, line-proper}
 use Rattle.line_writer.proofs.Proved.{length-line, before-append}
 
@@ -154,7 +154,7 @@ meant-is : (l : Line) → lineWith (partsOf l) ≡ meant l
 meant-is l i = record { when = l .when; priority = l .priority; event = event-again (l .event) i; count = used l; values = padded (values-meant (l .event) (l .count) (l .values) i) }
 
 data Answered (l : Line) : Type 0 where
-  reads : T (lawful (meant l)) → ((s : Source) (at p : ℕ) → Gives s at (lineFields l) p → lineFrom s at ≡ got (meant l) p) → Answered l
+  reads : Meant l → ((s : Source) (at p : ℕ) → Gives s at (lineFields l) p → lineFrom s at ≡ got (meant l) p) → Answered l
   fails : (f : Fault) → Own f → ((s : Source) (at p : ℕ) → Gives s at (lineFields l) p → lineFrom s at ≡ refused f) → Answered l
 
 made-lawful : (x : Parts) → T (format parts .lawful x) → T (lawful (lineWith x))
@@ -163,12 +163,25 @@ made-lawful x h =
     let v = line-proper .1 in
     and-i (filled (lineWith x)) (format parts .lawful (partsOf (lineWith x))) (v .admits x h) (subst (λ (y : Parts). T (format parts .lawful y)) (sym (v .back x h)) h)
 
+made-fields : (l : Line) → T (format parts .lawful (partsOf l)) → lineFields (meant l) ≡ lineFields l
+unfolding line
+made-fields l h = ap (λ (m : Line). format parts .fields (partsOf m) []) (sym (meant-is l)) ∙ ap (λ (x : Parts). format parts .fields x []) (line-proper .1 .back (partsOf l) h)
+
+made-meant : (l : Line) → T (format parts .lawful (partsOf l)) → Meant l
+unfolding lineBits lineBefore lineWords
+made-meant l h =
+    record {
+      is-lawful = subst (λ (m : Line). T (lawful m)) (meant-is l) (made-lawful (partsOf l) h);
+      same-bits = ap (λ (fs : List Field). fieldBits fs []) (made-fields l h);
+      same-words = ap fieldWords (made-fields l h);
+    }
+
 answered : (l : Line) → T (stored l) → Answered l
 unfolding line
 answered l h = go (fate Own parts parts-proper parts-raises (partsOf l) (parts-held l h))
   where
     go : Fate Own (format parts) (partsOf l) → Answered l
-    go (lawful-value k) = reads (subst (λ (m : Line). T (lawful m)) (meant-is l) (made-lawful (partsOf l) k)) (λ s at p g.
+    go (lawful-value k) = reads (made-meant l k) (λ s at p g.
         let f = law parts parts-proper .there s at p (partsOf l) [] k g in
         ap (λ (x : Read _). andThen x (λ y q. got (lineWith y) q)) (f .is) ∙ ap₂ (λ (m : Line) (q : ℕ). got m q) (meant-is l) (f .then))
     go (refused-value r) = fails (r .fault) (r .is) (λ s at p g. ap (λ (x : Read _). andThen x (λ y q. got (lineWith y) q)) (r .everywhere s at p [] g))
@@ -176,11 +189,14 @@ answered l h = go (fate Own parts parts-proper parts-raises (partsOf l) (parts-h
 -- ---- among bits and as keypad numbers
 
 module _ (l : Line) where
-  gives-words : Gives (keypadSource (lineWords l)) 0 (lineFields l) (length (lineWords l))
+  gives-words : (after : List ℕ) → Gives (keypadSource (lineWords l ++ after)) 0 (lineFields l) (length (lineWords l))
   unfolding lineWords
-  gives-words =
+  gives-words after =
       let ws = fieldWords (lineFields l) in
-      words-there ws (lineFields l) 0 (length ws) [] (zero-add (length (lineFields l)) ∙ sym (length-words (lineFields l))) (sym (append-nil ws))
+      words-there (ws ++ after) (lineFields l) 0 (length ws) after (zero-add (length (lineFields l)) ∙ sym (length-words (lineFields l))) refl
+
+  gives-alone : Gives (keypadSource (lineWords l)) 0 (lineFields l) (length (lineWords l))
+  gives-alone = subst (λ (ws : List ℕ). Gives (keypadSource ws) 0 (lineFields l) (length (lineWords l))) (append-nil (lineWords l)) (gives-words [])
 
   gives-bits : (before after : List Bool) → length before + length (lineBits l) ≤ farthest → Gives (bitSource (before ++ (lineBits l ++ after))) (length before) (lineFields l) (length before + length (lineBits l))
   unfolding lineBefore
@@ -207,7 +223,7 @@ module _ (l : Line) where
   module _ (k : (s : Source) (at p : ℕ) → Gives s at (lineFields l) p → lineFrom s at ≡ got (meant l) p) where
     fault-none : lineFault l ≡ answer.Taken
     unfolding lineFault
-    fault-none = ap (λ (r : LineRead). r .answer) (words-taken (k (keypadSource (lineWords l)) 0 (length (lineWords l)) gives-words))
+    fault-none = ap (λ (r : LineRead). r .answer) (words-taken (k (keypadSource (lineWords l)) 0 (length (lineWords l)) gives-alone))
 
     as-taken : (p : ℕ) → asRead l p ≡ taken (meant l) p
     as-taken p = cond-true _ _ (ap isTaken fault-none)
@@ -216,17 +232,21 @@ module _ (l : Line) where
     any-taken =
         record {
           in-bits = λ before after near. bits before after near ∙ sym (as-taken (length before + length (lineBits l)));
-          in-words = words-taken (k (keypadSource (lineWords l)) 0 (length (lineWords l)) gives-words) ∙ sym (as-taken (length (lineWords l)));
+          in-words = λ after. words after ∙ sym (as-taken (length (lineWords l)));
+          alone = words-taken (k (keypadSource (lineWords l)) 0 (length (lineWords l)) gives-alone) ∙ sym (as-taken (length (lineWords l)));
         }
       where
         bits : (before after : List Bool) → length before + length (lineBits l) ≤ farthest → lineAt (before ++ (lineBits l ++ after)) (length before) ≡ taken (meant l) (length before + length (lineBits l))
         bits before after near = unfold lineAt lineRead in ap lineRead (k (bitSource (before ++ (lineBits l ++ after))) (length before) (length before + length (lineBits l)) (gives-bits before after near))
 
+        words : (after : List ℕ) → lineInWords (lineWords l ++ after) 0 ≡ taken (meant l) (length (lineWords l))
+        words after = unfold lineInWords lineRead in ap lineRead (k (keypadSource (lineWords l ++ after)) 0 (length (lineWords l)) (gives-words after))
+
   -- of one that is refused
   module _ (f : Fault) (o : Own f) (k : (s : Source) (at p : ℕ) → Gives s at (lineFields l) p → lineFrom s at ≡ refused f) where
     fault-is : lineFault l ≡ answerOf f
     unfolding lineFault refusedLine
-    fault-is = ap (λ (r : LineRead). r .answer) (words-refused f o (k (keypadSource (lineWords l)) 0 (length (lineWords l)) gives-words))
+    fault-is = ap (λ (r : LineRead). r .answer) (words-refused f o (k (keypadSource (lineWords l)) 0 (length (lineWords l)) gives-alone))
 
     as-refused : (p : ℕ) → asRead l p ≡ refusedLine (answerOf f)
     as-refused p = ap (λ (a : Answer). cond (isTaken a) (taken (meant l) p) (refusedLine a)) fault-is ∙ go f o
@@ -239,11 +259,15 @@ module _ (l : Line) where
     any-refused =
         record {
           in-bits = λ before after near. bits before after near ∙ sym (as-refused (length before + length (lineBits l)));
-          in-words = words-refused f o (k (keypadSource (lineWords l)) 0 (length (lineWords l)) gives-words) ∙ sym (as-refused (length (lineWords l)));
+          in-words = λ after. words after ∙ sym (as-refused (length (lineWords l)));
+          alone = words-refused f o (k (keypadSource (lineWords l)) 0 (length (lineWords l)) gives-alone) ∙ sym (as-refused (length (lineWords l)));
         }
       where
         bits : (before after : List Bool) → length before + length (lineBits l) ≤ farthest → lineAt (before ++ (lineBits l ++ after)) (length before) ≡ refusedLine (answerOf f)
         bits before after near = unfold lineAt lineRead in ap lineRead (k (bitSource (before ++ (lineBits l ++ after))) (length before) (length before + length (lineBits l)) (gives-bits before after near))
+
+        words : (after : List ℕ) → lineInWords (lineWords l ++ after) 0 ≡ refusedLine (answerOf f)
+        words after = unfold lineInWords lineRead in ap lineRead (k (keypadSource (lineWords l ++ after)) 0 (length (lineWords l)) (gives-words after))
 
     fault-number : FaultNumber (numberOf (lineFault l))
     fault-number = go f o fault-is
@@ -265,9 +289,9 @@ fault-numbers l h = go (answered l h)
     go (reads m k) = subst (λ (a : Answer). FaultNumber (numberOf a)) (sym (fault-none l k)) no-fault
     go (fails f o k) = fault-number l f o k
 
-pub meant-lawful : MeantLawful
-meant-lawful l h e = go (answered l h)
+pub every-meant : EveryMeant
+every-meant l h e = go (answered l h)
   where
-    go : Answered l → T (lawful (meant l))
+    go : Answered l → Meant l
     go (reads m k) = m
     go (fails f o k) = absurd (own-refuses f o (ap numberOf (sym (fault-is l f o k)) ∙ e))

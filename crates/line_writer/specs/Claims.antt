@@ -12,7 +12,7 @@ use Rattle.answer.specs.declared.Answer.the-variants as answer
 use Rattle.bitstream.specs.Fields.{farthest}
 use Rattle.formats.specs.Format.{all}
 use Rattle.score_line.specs.LineFormat.{lawful, used, padded}
-use Rattle.score_line.specs.Reading.{lineAt, keypadLine, refusedLine}
+use Rattle.score_line.specs.Reading.{lineAt, lineInWords, keypadLine, refusedLine}
 use Rattle.score_line.specs.declared.When.{When}
 use Rattle.score_line.specs.declared.When.the-variants.{Timed, Untimed}
 use Rattle.score_line.specs.declared.Label.{Label}
@@ -88,18 +88,24 @@ meant l = record { when = l .when; priority = l .priority; event = l .event; cou
 abbrev pub asRead : Line → ℕ → LineRead
 asRead l p = cond (isTaken (lineFault l)) (taken (meant l) p) (refusedLine (lineFault l))
 
--- wherever a line's fields stand, reading meets the same: among bits, or as keypad numbers
+-- wherever a line's fields stand, reading meets the same: among bits, or as keypad numbers, with others behind them or alone
 pub record AnyRead (l : Line) : Type 0 where
   pub in-bits : (before after : List Bool) → length before + length (lineBits l) ≤ farthest
       → lineAt (before ++ (lineBits l ++ after)) (length before) ≡ asRead l (length before + length (lineBits l))
-  pub in-words : keypadLine (lineWords l) ≡ asRead l (length (lineWords l))
+  pub in-words : (after : List ℕ) → lineInWords (lineWords l ++ after) 0 ≡ asRead l (length (lineWords l))
+  pub alone : keypadLine (lineWords l) ≡ asRead l (length (lineWords l))
 
 abbrev pub EveryLineRead : Type 0
 EveryLineRead = (l : Line) → T (stored l) → AnyRead l
 
--- a line without fault is lawful as it is meant
-abbrev pub MeantLawful : Type 0
-MeantLawful = (l : Line) → T (stored l) → numberOf (lineFault l) ≡ 0 → T (lawful (meant l))
+-- a line without fault is lawful as it is meant, and written the same
+pub record Meant (l : Line) : Type 0 where
+  pub is-lawful : T (lawful (meant l))
+  pub same-bits : lineBits (meant l) ≡ lineBits l
+  pub same-words : lineWords (meant l) ≡ lineWords l
+
+abbrev pub EveryMeant : Type 0
+EveryMeant = (l : Line) → T (stored l) → numberOf (lineFault l) ≡ 0 → Meant l
 
 -- the faults of a line: none, a number outside its range, or more than 8 values
 pub data FaultNumber : ℕ → Type 0 where
