@@ -15,12 +15,16 @@ use Rattle.bitstream.specs.declared.Got.{Got}
 use Rattle.bitstream.specs.declared.Got.the-variants as gives
 use Rattle.timebase.specs.Time.{cycleIn, tempoBits}
 use Rattle.timebase.proofs.Laws.{tempo-from-to, cycle-from-to}
-use Rattle.score_line.specs.Source.{Source, bitSource, keypadSource}
-use Rattle.score_line.specs.Reading.{Read, got, refused, andThen, numberFrom, inRange, floatFrom, whenFrom, instrFrom, labelFrom, symbolFrom, controlFrom, labelledFrom, flagFrom, tempoFrom, eventFrom, valuesAfter, lineOf, withValues, afterEvent, afterWhen, lineFrom, refusedLine, lineRead, lineAt, wholeRun, lineInWords, keypadLine}
+use Rattle.formats.specs.Source.{Source, bitSource, keypadSource}
+use Rattle.formats.specs.Reading.{Read, got, refused, andThen, numberFrom}
+use Rattle.formats.specs.Format as format
+use Rattle.formats.specs.Description.{pair, choose}
+use Rattle.formats.specs.Description.{format as formatOf}
+use Rattle.formats.specs.declared.Fault.{Fault}
+use Rattle.formats.specs.declared.Fault.the-variants as fault
+use Rattle.score_line.specs.LineFormat.{inRange, float, when, Kind, instr, control, end, tempo, kind, Body, body, Values, values, Parts, afterTime, parts, eventOf, line}
+use Rattle.score_line.specs.Reading.{floatFrom, lineOf, lineFrom, refusedLine, lineRead, lineAt, wholeRun, lineInWords, keypadLine}
 use Rattle.score_line.specs.declared.Range.the-variants as range
-use Rattle.score_line.specs.declared.Fault.{Fault}
-use Rattle.score_line.specs.declared.Fault.the-variants as fault
-use Rattle.score_line.specs.declared.Event.the-variants.{End, Tempo}
 use Rattle.score_line.specs.declared.Line.{Line}
 use Rattle.score_line.specs.declared.LineRead.{LineRead}
 use Rattle.score.specs.Score.{Lines, all, faulty, before, lineThen, linesFrom, Score, taken, refusedScore, ended, counted, scoreOf, wholeLine, opened, unitOf}
@@ -47,47 +51,53 @@ slow-enough : (b : ℕ) → tempoBits b ≡ true → 1024 ≤ cycleIn (ofBits bi
 slow-enough b h = let t = tempo-from-to b h in cycle-from-to (ofBits binary32 b) (t .0) (t .1) .0
 
 tempo-float : (s : Source) (at : ℕ) → ReadHolds (λ (t : Float). 1024 ≤ cycleIn t) (floatFrom s range.Tempo at)
-unfolding floatFrom ReadHolds inRange
+unfolding float ReadHolds inRange
 tempo-float s at = any-holds _ (numberFrom s 32 at) _ (λ b p. go b p (tempoBits b) refl)
   where
     go : (b p : ℕ) (c : Bool) → tempoBits b ≡ c → ReadHolds (λ (t : Float). 1024 ≤ cycleIn t) (cond c (got (ofBits binary32 b) p) (refused fault.OutOfRange))
     go b p true e = slow-enough b e
     go b p false e = tt
 
+every-holds : {A : Type 0} (P : A → Type 0) (x : Read A) → ((a : A) → P a) → ReadHolds P x
+unfolding ReadHolds
+every-holds P (got a p) f = f a
+every-holds P (refused g) f = tt
+
+-- an event's kind and fields, if they are a tempo's
+abbrev SteadyBody : (k : Kind) → Body k → Type 0
+SteadyBody k x = steady (eventOf k x)
+
 module _ (s : Source) where
-  instr-steady : (at : ℕ) → ReadHolds steady (instrFrom s at)
-  unfolding instrFrom ReadHolds
-  instr-steady at = any-holds steady (labelFrom s at) _ (λ l p. any-holds steady (symbolFrom s p) _ (λ n q. any-holds steady (floatFrom s range.Duration q) _ (λ d r. tt)))
+  body-steady : (k : Kind) (at : ℕ) → ReadHolds (SteadyBody k) (formatOf (body k) .from s at)
+  unfolding body
+  body-steady instr at = every-holds (SteadyBody instr) _ (λ x. tt)
+  body-steady control at = every-holds (SteadyBody control) _ (λ x. tt)
+  body-steady end at = every-holds (SteadyBody end) _ (λ x. tt)
+  body-steady tempo at = tempo-float s at
 
-  control-steady : (at : ℕ) → ReadHolds steady (controlFrom s at)
-  unfolding controlFrom labelledFrom ReadHolds
-  control-steady at = any-holds steady (flagFrom s at) _ (λ has p. go p (eqb has 1))
-    where
-      go : (p : ℕ) (b : Bool) → ReadHolds steady (cond b (labelledFrom s p) (refused fault.NotCarried))
-      go p true = any-holds steady (symbolFrom s p) _ (λ l q. any-holds steady (symbolFrom s q) _ (λ x r. any-holds steady (floatFrom s range.Value r) _ (λ v t. tt)))
-      go p false = tt
+  fields-steady : (k : Kind) (at : ℕ) → ReadHolds (λ (y : Body k × Values k). SteadyBody k (y .0)) (formatOf (pair (body k) (values k)) .from s at)
+  unfolding ReadHolds
+  fields-steady k at =
+      then-holds (SteadyBody k) (λ (y : Body k × Values k). SteadyBody k (y .0)) (formatOf (body k) .from s at) _ (body-steady k at)
+      (λ x p h. any-holds (λ (y : Body k × Values k). SteadyBody k (y .0)) (formatOf (values k) .from s p) _ (λ v q. h))
 
-  tempo-steady : (at : ℕ) → ReadHolds steady (tempoFrom s at)
-  unfolding tempoFrom ReadHolds
-  tempo-steady at = then-holds (λ (t : Float). 1024 ≤ cycleIn t) steady (floatFrom s range.Tempo at) _ (tempo-float s at) (λ t p h. h)
-
-  event-steady : (type at : ℕ) → ReadHolds steady (eventFrom s type at)
-  unfolding eventFrom ReadHolds
-  event-steady type at = go (eqb type 0) (eqb type 1) (eqb type 4) (eqb type 5)
-    where
-      go : (a b c d : Bool)
-          → ReadHolds steady (cond a (instrFrom s at) (cond b (controlFrom s at) (cond c (got End at) (cond d (tempoFrom s at) (refused fault.NotCarried)))))
-      go true b c d = instr-steady at
-      go false true c d = control-steady at
-      go false false true d = tt
-      go false false false true = tempo-steady at
-      go false false false false = tt
+  after-steady : (at : ℕ) → ReadHolds (λ (y : Bool × ((k : Kind) × (Body k × Values k))). SteadyBody (y .1 .0) (y .1 .1 .0)) (formatOf afterTime .from s at)
+  unfolding ReadHolds afterTime
+  after-steady at =
+      any-holds (λ (y : Bool × ((k : Kind) × (Body k × Values k))). SteadyBody (y .1 .0) (y .1 .1 .0)) (format.flag .from s at) _ (λ b p.
+      then-holds (λ (z : (k : Kind) × (Body k × Values k)). SteadyBody (z .0) (z .1 .0)) (λ (y : Bool × ((k : Kind) × (Body k × Values k))). SteadyBody (y .1 .0) (y .1 .1 .0))
+      (formatOf (choose {B = λ (k : Kind). Body k × Values k} kind (λ k. pair (body k) (values k))) .from s p) _
+      (any-holds (λ (z : (k : Kind) × (Body k × Values k)). SteadyBody (z .0) (z .1 .0)) (formatOf kind .from s p) _ (λ k q.
+      then-holds (λ (y : Body k × Values k). SteadyBody k (y .0)) (λ (z : (k : Kind) × (Body k × Values k)). SteadyBody (z .0) (z .1 .0)) (formatOf (pair (body k) (values k)) .from s q) _ (fields-steady k q) (λ y r h. h)))
+      (λ z q h. h))
 
   line-steady : (at : ℕ) → ReadHolds (λ (l : Line). steady (l .event)) (lineFrom s at)
-  unfolding lineFrom afterWhen afterEvent withValues lineOf ReadHolds
+  unfolding line parts ReadHolds
   line-steady at =
-      any-holds _ (whenFrom s at) _ (λ w p. any-holds _ (flagFrom s p) _ (λ b q. any-holds _ (numberFrom s 3 q) _ (λ t r.
-      then-holds steady _ (eventFrom s t r) _ (event-steady t r) (λ e u h. any-holds _ (valuesAfter s e u) _ (λ xs v. h)))))
+      then-holds (λ (x : Parts). SteadyBody (x .1 .1 .0) (x .1 .1 .1 .0)) (λ (l : Line). steady (l .event)) (formatOf parts .from s at) _
+      (any-holds (λ (x : Parts). SteadyBody (x .1 .1 .0) (x .1 .1 .1 .0)) (formatOf when .from s at) _ (λ w p.
+      then-holds (λ (y : Bool × ((k : Kind) × (Body k × Values k))). SteadyBody (y .1 .0) (y .1 .1 .0)) (λ (x : Parts). SteadyBody (x .1 .1 .0) (x .1 .1 .1 .0)) (formatOf afterTime .from s p) _ (after-steady p) (λ y q h. h)))
+      (λ x p h. h)
 
 -- ---- what the calls read
 

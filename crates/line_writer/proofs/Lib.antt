@@ -1,7 +1,5 @@
-pub mod Gives
-pub mod Back
-pub mod InBits
-pub mod InWords
-pub mod Proved
+pub mod LineLaw
 pub mod Packs
 pub mod Writes
+pub mod Proved
+pub mod AnyLine

@@ -21,10 +21,19 @@ use Rattle.score_line.specs.declared.Label.{Label}
 use Rattle.score_line.specs.declared.Label.the-variants.{Unlabelled, Labelled}
 use Rattle.score_line.specs.declared.Event.{Event}
 use Rattle.score_line.specs.declared.Event.the-variants.{Instr, Control, End, Tempo}
-use Rattle.line_writer.specs.Fields.{Field, of, flag, float, whenBefore, labelBefore, eventBefore, valueFields, lineFields, fieldWords}
-use Rattle.line_writer.specs.Packed.{fieldWidths, widths, toEighteen, packed, Room, Joined}
+use Rattle.formats.specs.Fields.{Field, of, fieldWords, fieldWidths, widths}
+use Rattle.formats.specs.Format.{small, timesFields}
+use Rattle.formats.specs.Description.{format}
+use Rattle.formats.proofs.InWords.{length-words}
+use Rattle.formats.proofs.Descriptions.{append}
+use Rattle.line_writer.specs.Fields.{flag, float, whenBefore, labelBefore, eventBefore, valueFields, lineFields}
+use Rattle.line_writer.specs.Packed.{toEighteen, packed, Room, Joined}
 use Rattle.line_writer.specs.declared.Fields.{Fields}
-use Rattle.line_writer.proofs.InWords.{length-words}
+use Rattle.score_line.specs.LineFormat.{timed, when, label, kind, body, eventParts, kindOf, number, counted, valuesOf, afterTime, parts, line}
+use Rattle.score_line.specs.LineFormat.{labelled as labelled·format}
+use Rattle.score_line.specs.LineFormat.{float as real}
+use Rattle.score_line.specs.LineFormat.{values as values·format}
+use Rattle.score_line.specs.declared.Range.the-variants as range
 
 -- ---- a float's bits
 
@@ -112,49 +121,44 @@ also {f} {r} {xs} {ys} {n} e a = subst (λ (l : List Field). Joined f l n r) e a
 
 -- ---- the ways through the code
 
-label-before : (l : Label) (rest more : List Field) → labelBefore l rest ++ more ≡ labelBefore l (rest ++ more)
-unfolding labelBefore
-label-before Unlabelled rest more = refl
-label-before (Labelled n) rest more = refl
-
 module _ (f r : Fields) where
   pub when-timed : (a b : Fields) (w : When) (late : Bool) (t : Float) (d p : ℕ) → w ≡ Timed late t → d ≡ digit late → p ≡ toBits binary32 t
       → Joined f (of 1 1 ∷ []) 1 a → Joined a (of 1 d ∷ []) 1 b → Joined b (of 32 p ∷ []) 1 r → Joined f (whenBefore w []) 3 r
-  unfolding whenBefore
+  unfolding when timed small real
   when-timed a b w late t d p e h k x y z =
       also (ap₂ (λ (m n : ℕ). of 1 1 ∷ (of 1 m ∷ (of 32 n ∷ []))) h k ∙ ap (λ (u : When). whenBefore u []) (sym e)) (both x (both y z))
 
   pub when-untimed : (w : When) → w ≡ Untimed → Joined f (of 1 0 ∷ []) 1 r → Joined f (whenBefore w []) 3 r
-  unfolding whenBefore
+  unfolding when timed small real
   when-untimed w e x = also (ap (λ (u : When). whenBefore u []) (sym e)) (wider (omega arith) x)
 
   pub labelled : (a : Fields) (l : Label) (n : ℕ) → l ≡ Labelled n → Joined f (of 1 1 ∷ []) 1 a → Joined a (of 16 n ∷ []) 1 r → Joined f (labelBefore l []) 2 r
-  unfolding labelBefore
+  unfolding label small
   labelled a l n e x y = also (ap (λ (u : Label). labelBefore u []) (sym e)) (both x y)
 
   pub unlabelled : (l : Label) → l ≡ Unlabelled → Joined f (of 1 0 ∷ []) 1 r → Joined f (labelBefore l []) 2 r
-  unfolding labelBefore
+  unfolding label small
   unlabelled l e x = also (ap (λ (u : Label). labelBefore u []) (sym e)) (wider (omega arith) x)
 
   pub event-instr : (a b c : Fields) (v : Event) (l : Label) (i : ℕ) (d : Float) (p : ℕ) → v ≡ Instr l i d → p ≡ toBits binary32 d
       → Joined f (of 3 0 ∷ []) 1 a → Joined a (labelBefore l []) 2 b → Joined b (of 16 i ∷ []) 1 c → Joined c (of 32 p ∷ []) 1 r → Joined f (eventBefore v []) 5 r
-  unfolding eventBefore
+  unfolding kind body labelled·format small real
   event-instr a b c v l i d p e h x y z u =
-      also (ap (λ (m : ℕ). of 3 0 ∷ (labelBefore l [] ++ (of 16 i ∷ (of 32 m ∷ [])))) h ∙ ap (λ (s : List Field). of 3 0 ∷ s) (label-before l [] (of 16 i ∷ (float d ∷ []))) ∙ ap (λ (s : Event). eventBefore s []) (sym e))
+      also (ap (λ (m : ℕ). of 3 0 ∷ (labelBefore l [] ++ (of 16 i ∷ (of 32 m ∷ [])))) h ∙ ap (λ (s : List Field). of 3 0 ∷ s) (append label l [] (of 16 i ∷ (float d ∷ []))) ∙ ap (λ (s : Event). eventBefore s []) (sym e))
       (both x (both y (both z u)))
 
   pub event-control : (a b c g : Fields) (v : Event) (l i : ℕ) (d : Float) (p : ℕ) → v ≡ Control l i d → p ≡ toBits binary32 d
       → Joined f (of 3 1 ∷ []) 1 a → Joined a (of 1 1 ∷ []) 1 b → Joined b (of 16 l ∷ []) 1 c → Joined c (of 16 i ∷ []) 1 g → Joined g (of 32 p ∷ []) 1 r → Joined f (eventBefore v []) 5 r
-  unfolding eventBefore
+  unfolding kind body labelled·format small real
   event-control a b c g v l i d p e h x y z u t =
       also (ap (λ (m : ℕ). of 3 1 ∷ (of 1 1 ∷ (of 16 l ∷ (of 16 i ∷ (of 32 m ∷ []))))) h ∙ ap (λ (s : Event). eventBefore s []) (sym e)) (both x (both y (both z (both u t))))
 
   pub event-end : (v : Event) → v ≡ End → Joined f (of 3 4 ∷ []) 1 r → Joined f (eventBefore v []) 5 r
-  unfolding eventBefore
+  unfolding kind body labelled·format small real
   event-end v e x = also (ap (λ (s : Event). eventBefore s []) (sym e)) (wider (omega arith) x)
 
   pub event-tempo : (a : Fields) (v : Event) (t : Float) (p : ℕ) → v ≡ Tempo t → p ≡ toBits binary32 t → Joined f (of 3 5 ∷ []) 1 a → Joined a (of 32 p ∷ []) 1 r → Joined f (eventBefore v []) 5 r
-  unfolding eventBefore
+  unfolding kind body labelled·format small real
   event-tempo a v t p e h x y = also (ap (λ (m : ℕ). of 3 5 ∷ (of 32 m ∷ [])) h ∙ ap (λ (s : Event). eventBefore s []) (sym e)) (wider (omega arith) (both x y))
 
 -- ---- the loop over the values
@@ -204,36 +208,33 @@ floats-end f n count values r i m l c h =
 
 -- ---- values, and the whole line
 
+floats-are : (xs : List Float) → map float xs ≡ timesFields (format (real range.Value)) xs []
+unfolding real
+floats-are [] = refl
+floats-are (x ∷ xs) = ap (λ (fs : List Field). float x ∷ fs) (floats-are xs)
+
 module _ (f : Fields) (count : ℕ) (values : List Float) where
   pub values-instr : (a r : Fields) (v : Event) (l : Label) (i : ℕ) (d : Float) (n : ℕ) → v ≡ Instr l i d → n ≡ lesser count 255
       → Joined f (of 8 n ∷ []) 1 a → Joined a (map float (take count values)) 8 r → Joined f (valueFields v count values) 9 r
-  unfolding valueFields
+  unfolding values·format counted number
   values-instr a r v l i d n e h x y =
-      also (ap (λ (k : ℕ). of 8 k ∷ map float (take count values)) h ∙ ap (λ (u : Event). valueFields u count values) (sym e)) (both x y)
+      also (ap₂ (λ (k : ℕ) (fs : List Field). of 8 k ∷ fs) h (floats-are (take count values)) ∙ ap (λ (u : Event). valueFields u count values) (sym e)) (both x y)
 
   pub values-control : (v : Event) (l i : ℕ) (d : Float) → v ≡ Control l i d → Room f 9 → Joined f (valueFields v count values) 9 f
-  unfolding valueFields
+  unfolding values·format counted number
   values-control v l i d e h = also (ap (λ (u : Event). valueFields u count values) (sym e)) (wider (omega arith) (none-more f 9 h))
 
   pub values-end : (v : Event) → v ≡ End → Room f 9 → Joined f (valueFields v count values) 9 f
-  unfolding valueFields
+  unfolding values·format counted number
   values-end v e h = also (ap (λ (u : Event). valueFields u count values) (sym e)) (wider (omega arith) (none-more f 9 h))
 
   pub values-tempo : (v : Event) (t : Float) → v ≡ Tempo t → Room f 9 → Joined f (valueFields v count values) 9 f
-  unfolding valueFields
+  unfolding values·format counted number
   values-tempo v t e h = also (ap (λ (u : Event). valueFields u count values) (sym e)) (wider (omega arith) (none-more f 9 h))
 
-when-before : (w : When) (rest : List Field) → whenBefore w [] ++ rest ≡ whenBefore w rest
-unfolding whenBefore
-when-before Untimed rest = refl
-when-before (Timed late t) rest = refl
-
 event-before : (e : Event) (rest : List Field) → eventBefore e [] ++ rest ≡ eventBefore e rest
-unfolding eventBefore
-event-before (Instr l i d) rest = ap (λ (s : List Field). of 3 0 ∷ s) (label-before l (of 16 i ∷ (float d ∷ [])) rest)
-event-before (Control l i d) rest = refl
-event-before End rest = refl
-event-before (Tempo t) rest = refl
+unfolding kind
+event-before e rest = ap (λ (fs : List Field). format kind .fields (kindOf e) fs) (append (body (kindOf e)) (eventParts e .1) [] rest)
 
 none-yet : (f : Fields) → f ≡ packed [] → f .count ≡ 0
 unfolding packed
@@ -259,8 +260,8 @@ module _ (f a : Fields) (xs : List Field) (e : f ≡ packed []) (j : Joined f xs
 
 pub line-packed : (l : Line) (f a b c r : Fields) (d : ℕ) → f ≡ packed [] → Joined f (whenBefore (l .when) []) 3 a → d ≡ digit (l .priority) → Joined a (of 1 d ∷ []) 1 b
     → Joined b (eventBefore (l .event) []) 5 c → Joined c (valueFields (l .event) (l .count) (l .values)) 9 r → r ≡ packed (lineFields l)
-unfolding lineFields
+unfolding line parts afterTime small
 line-packed l f a b c r d e w h p v x =
     let t = valueFields (l .event) (l .count) (l .values) in
     both w (both (also (ap (λ (k : ℕ). of 1 k ∷ []) h) p) (both v x)) .joins [] e
-    ∙ ap packed (ap (λ (s : List Field). whenBefore (l .when) [] ++ (flag (l .priority) ∷ s)) (event-before (l .event) t) ∙ when-before (l .when) (flag (l .priority) ∷ eventBefore (l .event) t))
+    ∙ ap packed (ap (λ (s : List Field). whenBefore (l .when) [] ++ (flag (l .priority) ∷ s)) (event-before (l .event) t) ∙ append when (l .when) [] (flag (l .priority) ∷ eventBefore (l .event) t))

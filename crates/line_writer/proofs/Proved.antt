@@ -1,6 +1,6 @@
 -- The round trips of a line. Assumes nothing.
 use Prim.Native.Nat.{ℕ, _+_, _^_, _<_, _≤_}
-use mathlib.Core.Path.{_≡_, refl, sym, ap, ap₂, _∙_}
+use mathlib.Core.Path.{_≡_, refl, sym, ap, ap₂, _∙_, subst}
 use mathlib.Core.Bool.{Bool, true, false, _&&_, cond}
 use mathlib.Core.List.{List, [], _++_, append-nil}
 use native.Mathlib.Nat.{add-zero, zero-add}
@@ -13,21 +13,25 @@ use lib.Ieee.Fits.{and-l, and-r}
 use Rattle.answer.specs.Numbers.{isTaken}
 use Rattle.answer.specs.declared.Answer.the-variants as answer
 use Rattle.bitstream.specs.Fields.{farthest}
-use Rattle.score_line.specs.Source.{bitSource, keypadSource}
-use Rattle.score_line.specs.Reading.{Read, got, refused, lineFrom, answerOf, refusedLine, lineRead, lineAt, lineInWords, wholeRun, keypadLine}
+use Rattle.formats.specs.Source.{Source, bitSource, keypadSource}
+use Rattle.formats.specs.Reading.{Read, got, refused}
+use Rattle.formats.specs.Fields.{fieldWords, widths}
+use Rattle.formats.specs.Format.{all}
+use Rattle.formats.specs.Description.{format, lengthOf}
+use Rattle.formats.specs.declared.Fault.{Fault}
+use Rattle.formats.specs.declared.Fault.the-variants as fault
+use Rattle.formats.proofs.Gives.{Gives, Bounded}
+use Rattle.formats.proofs.InBits.{bits-bounded, bits-there, bits-back, length-bits, bits-append}
+use Rattle.formats.proofs.InWords.{words-bounded, words-there, words-back, length-words}
+use Rattle.formats.proofs.Laws.{Back, Holds}
+use Rattle.formats.proofs.Descriptions.{sum-widths, sum-count, adds}
+use Rattle.score_line.specs.LineFormat.{isZero, used, filled, partsOf, parts, line, lawful}
+use Rattle.score_line.specs.Reading.{lineFrom, answerOf, refusedLine, lineRead, lineAt, lineInWords, wholeRun, keypadLine}
 use Rattle.score_line.specs.declared.Line.{Line}
 use Rattle.score_line.specs.declared.LineRead.{LineRead}
-use Rattle.score_line.specs.declared.Fault.{Fault}
-use Rattle.score_line.specs.declared.Fault.the-variants as fault
-use Rattle.score_line.specs.declared.Range.the-variants as range
-use Rattle.line_writer.specs.Fields.{lineFields, fieldWords, lineBefore, lineBits, lineWords}
-use Rattle.line_writer.specs.Packed.{widths}
-use Rattle.line_writer.specs.Lawful.{lawfulFloat, lawfulWhen, lawfulEvent, mostValues, every, isZero, lawfulValues, lawful}
+use Rattle.line_writer.specs.Fields.{lineFields, lineBefore, lineBits, lineWords}
 use Rattle.line_writer.specs.Claims.{taken, BitsReadBack, WordsReadBack, BitsWrittenBack, WordsWrittenBack, BitsTellLines}
-use Rattle.line_writer.proofs.Gives.{line-there}
-use Rattle.line_writer.proofs.Back.{line-back}
-use Rattle.line_writer.proofs.InBits.{bits-bounded, bits-there, bits-back, length-bits, bits-append, line-small, line-wide}
-use Rattle.line_writer.proofs.InWords.{words-bounded, words-there, words-back, length-words}
+use Rattle.line_writer.proofs.LineLaw.{line-law, line-most}
 
 -- ---- what a result tells of the reading
 
@@ -42,17 +46,32 @@ read-taken (refused f) l p e = absurd (none f (ap (λ (r : LineRead). r .answer)
     none fault.OutOfRange k = unfold answerOf in let z : _≡_ {A = ℕ} 0 1 = cc in omega arith
     none fault.TooManyValues k = unfold answerOf in let z : _≡_ {A = ℕ} 0 1 = cc in omega arith
 
+-- where a source gives a lawful line's fields, that line is read
+line-there : (s : Source) (at p : ℕ) (l : Line) → T (lawful l) → Gives s at (lineFields l) p → lineFrom s at ≡ got l p
+line-there s at p l h g = let f = line-law .there s at p l [] h g in f .is ∙ ap (λ (q : ℕ). got l q) (f .then)
+
+line-back : (s : Source) → Bounded s → (at : ℕ) (l : Line) (p : ℕ) → lineFrom s at ≡ got l p → T (lawful l) × Gives s at (lineFields l) p
+line-back s b at l p e = let k = subst (Holds (Back (format line) s at)) e (line-law .back s b at) in (k .is-lawful, k .gives [] p refl)
+
 -- ---- lengths
+
+-- at least one bit, at most 367
+pub line-wide : (l : Line) → length (l .values) ≡ 8 → (0 < widths (lineFields l)) × (widths (lineFields l) ≤ 367)
+line-wide l h =
+    let e : widths (lineFields l) ≡ lengthOf (λ w. w) line l + 0 = sym (sum-widths (lineFields l)) ∙ adds (λ w. w) line l [] in
+    let m = line-most (λ w. w) l h in
+    (omega (arith, m .0), omega (arith, m .1))
+
+-- at most 18 numbers
+pub line-few : (l : Line) → length (l .values) ≡ 8 → length (lineFields l) ≤ 18
+line-few l h =
+    let e : length (lineFields l) ≡ lengthOf (λ w. 1) line l + 0 = sym (sum-count (lineFields l)) ∙ adds (λ w. 1) line l [] in
+    omega (arith, line-most (λ w. 1) l h .1)
 
 -- a lawful line has eight places for values
 pub values-long : (l : Line) → T (lawful l) → length (l .values) ≡ 8
-unfolding lawful lawfulValues
-values-long l h =
-    let e = l .event in
-    let n = l .count in
-    let xs = l .values in
-    let h2 = and-r (lawfulEvent e) (leb n (mostValues e) && lawfulValues n xs) (and-r (lawfulWhen (l .when)) (lawfulEvent e && (leb n (mostValues e) && lawfulValues n xs)) h) in
-    eqb→eq (length xs) 8 (and-l (eqb (length xs) 8) (every (lawfulFloat range.Value) (take n xs) && every isZero (drop n xs)) (and-r (leb n (mostValues e)) (lawfulValues n xs) h2))
+unfolding line
+values-long l h = eqb→eq (length (l .values)) 8 (and-l (eqb (length (l .values)) 8) (eqb (l .count) (used l) && all isZero (drop (used l) (l .values))) (and-l (filled l) (format parts .lawful (partsOf l)) h))
 
 pub length-line : (l : Line) → length (lineBits l) ≡ widths (lineFields l)
 unfolding lineBits lineBefore
@@ -77,7 +96,7 @@ pub line-here : (bits : List Bool) (at : ℕ) (l : Line) (rest : List Bool) → 
     → (lineAt bits at ≡ taken l (at + length (lineBits l))) × (drop (at + length (lineBits l)) bits ≡ rest)
 unfolding lineAt lineRead lineBefore
 line-here bits at l rest h near d =
-    let g = bits-there bits (lineFields l) at (at + length (lineBits l)) rest near (line-small l h) (ap (λ (k : ℕ). at + k) (sym (length-line l))) d in
+    let g = bits-there bits (lineFields l) at (at + length (lineBits l)) rest near (ap (λ (k : ℕ). at + k) (sym (length-line l))) d in
     (ap lineRead (line-there (bitSource bits) at (at + length (lineBits l)) l h (g .0)), g .1)
 
 -- where a line is read, its bits stand
@@ -91,11 +110,11 @@ pub line-back-here : (bits : List Bool) (at : ℕ) (l : Line) (p : ℕ) → line
 unfolding lineAt lineBefore
 line-back-here bits at l p e =
     let b = line-back (bitSource bits) (bits-bounded bits) at l p (read-taken (lineFrom (bitSource bits) at) l p e) in
-    let k = bits-back bits (lineFields l) at p (b .gives) in
-    let w = line-wide l (values-long l (b .lawful-line)) in
+    let k = bits-back bits (lineFields l) at p (line-law .small l [] (b .0) tt) (b .1) in
+    let w = line-wide l (values-long l (b .0)) in
     let n : length (drop at bits) ≡ widths (lineFields l) + length (drop p bits) = ap length (k .here) ∙ length-bits (lineFields l) (drop p bits) in
     let m : at ≤ length bits = omega (arith, length-drop at bits, w .0) in
-    record { is-lawful = b .lawful-line; within = k .room m; past = k .next ∙ ap (λ (x : ℕ). at + x) (sym (length-line l)); here = k .here }
+    record { is-lawful = b .0; within = k .room m; past = k .next ∙ ap (λ (x : ℕ). at + x) (sym (length-line l)); here = k .here }
 
 pub bits-read-back : BitsReadBack
 bits-read-back l before after h near =
@@ -135,8 +154,8 @@ pub words-back-here : (words : List ℕ) (at : ℕ) (l : Line) (p : ℕ) → ((i
 unfolding lineInWords lineWords
 words-back-here words at l p h e =
     let b = line-back (keypadSource words) (words-bounded words h) at l p (read-taken (lineFrom (keypadSource words) at) l p e) in
-    let k = words-back words (lineFields l) at p (b .gives) in
-    (b .lawful-line, k .0, k .1 ∙ ap (λ (x : ℕ). at + x) (sym (length-words (lineFields l))))
+    let k = words-back words (lineFields l) at p (line-law .small l [] (b .0) tt) (b .1) in
+    (b .0, k .0, k .1 ∙ ap (λ (x : ℕ). at + x) (sym (length-words (lineFields l))))
 
 pub words-read-back : WordsReadBack
 unfolding keypadLine wholeRun

@@ -13,28 +13,25 @@ use lib.ListN.{length, take, drop, getD, replicate, length-append}
 use lib.Seq.{take-at}
 use mir.Val.{Fits}
 use mir.Syntax.{w64}
-use lib.Ieee.{Float}
 use Rattle.answer.specs.declared.Answer.{Answer}
 use Rattle.bitstream.specs.Bits.{bitsOf, field}
 use Rattle.bitstream.specs.Fields.{farthest, over, written, put}
 use Rattle.bitstream.proofs.Laws.{length-field, length-bitsOf}
 use Rattle.bitstream.proofs.Fields.{over-over, written-over}
 use Rattle.score_line.specs.Reading.{keypadLine}
-use Rattle.score_line.specs.declared.When.{When}
-use Rattle.score_line.specs.declared.When.the-variants.{Timed, Untimed}
-use Rattle.score_line.specs.declared.Label.{Label}
-use Rattle.score_line.specs.declared.Label.the-variants.{Unlabelled, Labelled}
-use Rattle.score_line.specs.declared.Event.{Event}
-use Rattle.score_line.specs.declared.Event.the-variants.{Instr, Control, End, Tempo}
 use Rattle.score_line.specs.declared.Line.{Line}
-use Rattle.line_writer.specs.Fields.{Field, of, flag, float, whenBefore, labelBefore, eventBefore, valueFields, lineFields, fieldBits, fieldWords, lineBits, lineBefore, lineWords}
-use Rattle.line_writer.specs.Packed.{fieldWidths, widths, toEighteen, packed, zipped, fieldsIn, Writable, Wrote}
+use Rattle.formats.specs.Fields.{Field, of, fieldBits, fieldWords, fieldWidths, widths}
+use Rattle.formats.proofs.InBits.{length-bits}
+use Rattle.formats.proofs.InWords.{length-words}
+use Rattle.formats.proofs.Descriptions.{Narrow, narrow}
+use Rattle.line_writer.specs.Fields.{lineFields, lineBits, lineBefore, lineWords}
+use Rattle.line_writer.specs.Packed.{toEighteen, packed, zipped, fieldsIn, Writable, Wrote}
 use Rattle.line_writer.specs.Writing.{lineFault, lineSlot, bitsFit, lineOver, pastLine, LineWritten}
 use Rattle.line_writer.specs.declared.Fields.{Fields}
-use Rattle.line_writer.proofs.InBits.{length-bits}
-use Rattle.line_writer.proofs.InWords.{length-words}
+use Rattle.line_writer.proofs.LineLaw.{line-proper}
 use Rattle.line_writer.proofs.Packs.{length-widths, sum-snoc}
 use Rattle.line_writer.proofs.Proved.{length-line}
+use Rattle.score_line.specs.LineFormat.{line}
 
 -- ---- whether bits fit
 
@@ -165,63 +162,16 @@ module _ (at n : ℕ) (ws vs first : List ℕ) where
 
 -- ---- a line's fields in the arrays
 
--- no field is wider than 32 bits
-abbrev narrow : List Field → Bool
-narrow [] = true
-narrow (of w v ∷ fs) = leb w 32 && narrow fs
-
-when-narrow : (w : When) (rest : List Field) → narrow (whenBefore w rest) ≡ narrow rest
-unfolding whenBefore
-when-narrow Untimed rest = refl
-when-narrow (Timed late t) rest = refl
-
-label-narrow : (l : Label) (rest : List Field) → narrow (labelBefore l rest) ≡ narrow rest
-unfolding labelBefore
-label-narrow Unlabelled rest = refl
-label-narrow (Labelled n) rest = refl
-
-event-narrow : (e : Event) (rest : List Field) → narrow (eventBefore e rest) ≡ narrow rest
-unfolding eventBefore
-event-narrow (Instr l i d) rest = label-narrow l (of 16 i ∷ (float d ∷ rest))
-event-narrow (Control l i d) rest = refl
-event-narrow End rest = refl
-event-narrow (Tempo t) rest = refl
-
-floats-narrow : (xs : List Float) → narrow (map float xs) ≡ true
-floats-narrow [] = refl
-floats-narrow (x ∷ xs) = floats-narrow xs
-
-values-narrow : (e : Event) (n : ℕ) (xs : List Float) → narrow (valueFields e n xs) ≡ true
-unfolding valueFields
-values-narrow (Instr l i d) n xs = floats-narrow (take n xs)
-values-narrow (Control l i d) n xs = refl
-values-narrow End n xs = refl
-values-narrow (Tempo t) n xs = refl
-
-line-narrow : (l : Line) → narrow (lineFields l) ≡ true
-unfolding lineFields
-line-narrow l =
-    let v = valueFields (l .event) (l .count) (l .values) in
-    when-narrow (l .when) (flag (l .priority) ∷ eventBefore (l .event) v) ∙ event-narrow (l .event) v ∙ values-narrow (l .event) (l .count) (l .values)
-
 zeros-narrow : (n i : ℕ) → getD (replicate n 0) i 0 ≤ 32
 zeros-narrow zero i = omega arith
 zeros-narrow (suc n) zero = omega arith
 zeros-narrow (suc n) (suc i) = zeros-narrow n i
 
-and-first : (a b : Bool) → (a && b) ≡ true → a ≡ true
-and-first true b e = refl
-and-first false b e = e
-
-and-second : (a b : Bool) → (a && b) ≡ true → b ≡ true
-and-second true b e = e
-and-second false b e = absurd (true≢false (sym e))
-
-narrow-at : (fs : List Field) (n i : ℕ) → narrow fs ≡ true → getD (fieldWidths fs ++ replicate n 0) i 0 ≤ 32
+narrow-at : (fs : List Field) (n i : ℕ) → Narrow fs → getD (fieldWidths fs ++ replicate n 0) i 0 ≤ 32
 unfolding fieldWidths
-narrow-at [] n i e = zeros-narrow n i
-narrow-at (of w v ∷ fs) n zero e = leb-true w 32 (and-first (leb w 32) (narrow fs) e)
-narrow-at (of w v ∷ fs) n (suc i) e = narrow-at fs n i (and-second (leb w 32) (narrow fs) e)
+narrow-at [] n i h = zeros-narrow n i
+narrow-at (of w v ∷ fs) n zero h = h .0
+narrow-at (of w v ∷ fs) n (suc i) h = narrow-at fs n i (h .1)
 
 zip-back : (fs : List Field) → zipped (fieldWidths fs) (fieldWords fs) ≡ fs
 unfolding fieldWidths fieldWords
@@ -274,7 +224,7 @@ module _ (f : Fields) (l : Line) (e : f ≡ packed (lineFields l)) where
       let y = fit-back (8 * length s) at (f .bits) (sym g ∙ k) in
       record {
         few = few h;
-        narrow = λ i. subst (λ (x : Fields). getD (x .widths) i 0 ≤ 32) (sym e) (narrow-at (lineFields l) (18 - length (fieldWidths (lineFields l))) i (line-narrow l));
+        narrow = λ i. subst (λ (x : Fields). getD (x .widths) i 0 ≤ 32) (sym e) (narrow-at (lineFields l) (18 - length (fieldWidths (lineFields l))) i (narrow line line-proper l [] tt));
         near = omega (arith, y .0);
         within = omega (arith, y .1);
       }

@@ -1,17 +1,28 @@
--- Lines are read and written so that each undoes the other. Statements only; the proofs are in proofs/Proved.antt.
+-- Lines are read and written so that each undoes the other, and what reading meets in any line. Statements only; the proofs are in
+-- proofs/Proved.antt and proofs/AnyLine.antt.
 use Prim.Native.Nat.{ℕ, _+_, _^_, _<_, _≤_}
 use mathlib.Core.Path.{_≡_}
-use mathlib.Core.Bool.{Bool}
+use mathlib.Core.Bool.{Bool, true, _&&_, cond}
 use mathlib.Core.List.{List, _++_}
-use lib.Dec.{T}
+use lib.Dec.{T, eqb, leb}
+use lib.Ieee.{Float, binary32, fits}
 use lib.ListN.{length, getD, take, drop}
+use Rattle.answer.specs.Numbers.{numberOf, isTaken}
 use Rattle.answer.specs.declared.Answer.the-variants as answer
 use Rattle.bitstream.specs.Fields.{farthest}
-use Rattle.score_line.specs.Reading.{lineAt, keypadLine}
+use Rattle.formats.specs.Format.{all}
+use Rattle.score_line.specs.LineFormat.{lawful, used, padded}
+use Rattle.score_line.specs.Reading.{lineAt, lineInWords, keypadLine, refusedLine}
+use Rattle.score_line.specs.declared.When.{When}
+use Rattle.score_line.specs.declared.When.the-variants.{Timed, Untimed}
+use Rattle.score_line.specs.declared.Label.{Label}
+use Rattle.score_line.specs.declared.Label.the-variants.{Unlabelled, Labelled}
+use Rattle.score_line.specs.declared.Event.{Event}
+use Rattle.score_line.specs.declared.Event.the-variants.{Instr, Control, End, Tempo}
 use Rattle.score_line.specs.declared.Line.{Line}
 use Rattle.score_line.specs.declared.LineRead.{LineRead}
 use Rattle.line_writer.specs.Fields.{lineBefore, lineBits, lineWords}
-use Rattle.line_writer.specs.Lawful.{lawful}
+use Rattle.line_writer.specs.Writing.{lineFault}
 
 -- a line that was taken, and the position past it
 abbrev pub taken : Line → ℕ → LineRead
@@ -45,3 +56,62 @@ WordsWrittenBack =
 -- no lawful line's bits begin another's: line and rest are told apart
 abbrev pub BitsTellLines : Type 0
 BitsTellLines = (a b : Line) (r t : List Bool) → T (lawful a) → T (lawful b) → lineBefore a r ≡ lineBefore b t → (a ≡ b) × (r ≡ t)
+
+-- ---- any line that the code can hold, lawful or not
+
+abbrev pub isSymbol : ℕ → Bool
+isSymbol n = leb n 65535
+
+abbrev pub storedWhen : When → Bool
+storedWhen Untimed = true
+storedWhen (Timed late t) = fits binary32 t
+
+abbrev pub storedLabel : Label → Bool
+storedLabel Unlabelled = true
+storedLabel (Labelled n) = isSymbol n
+
+abbrev pub storedEvent : Event → Bool
+storedEvent (Instr label instrument duration) = storedLabel label && (isSymbol instrument && fits binary32 duration)
+storedEvent (Control label variable value) = isSymbol label && (isSymbol variable && fits binary32 value)
+storedEvent End = true
+storedEvent (Tempo tempo) = fits binary32 tempo
+
+-- every float has 32 bits, every symbol 16, and there are eight places for values: a line as its type says
+abbrev pub stored : Line → Bool
+stored l = storedWhen (l .when) && (storedEvent (l .event) && (eqb (length (l .values)) 8 && all (fits binary32) (l .values)))
+
+-- a line as it is meant: the places that it does not use are zero, and a line that is no instr line has no values
+abbrev pub meant : Line → Line
+meant l = record { when = l .when; priority = l .priority; event = l .event; count = used l; values = padded (take (used l) (l .values)) }
+
+-- what reading a line's own fields gives: the line as it is meant, or its fault
+abbrev pub asRead : Line → ℕ → LineRead
+asRead l p = cond (isTaken (lineFault l)) (taken (meant l) p) (refusedLine (lineFault l))
+
+-- wherever a line's fields stand, reading meets the same: among bits, or as keypad numbers, with others behind them or alone
+pub record AnyRead (l : Line) : Type 0 where
+  pub in-bits : (before after : List Bool) → length before + length (lineBits l) ≤ farthest
+      → lineAt (before ++ (lineBits l ++ after)) (length before) ≡ asRead l (length before + length (lineBits l))
+  pub in-words : (after : List ℕ) → lineInWords (lineWords l ++ after) 0 ≡ asRead l (length (lineWords l))
+  pub alone : keypadLine (lineWords l) ≡ asRead l (length (lineWords l))
+
+abbrev pub EveryLineRead : Type 0
+EveryLineRead = (l : Line) → T (stored l) → AnyRead l
+
+-- a line without fault is lawful as it is meant, and written the same
+pub record Meant (l : Line) : Type 0 where
+  pub is-lawful : T (lawful (meant l))
+  pub same-bits : lineBits (meant l) ≡ lineBits l
+  pub same-words : lineWords (meant l) ≡ lineWords l
+
+abbrev pub EveryMeant : Type 0
+EveryMeant = (l : Line) → T (stored l) → numberOf (lineFault l) ≡ 0 → Meant l
+
+-- the faults of a line: none, a number outside its range, or more than 8 values
+pub data FaultNumber : ℕ → Type 0 where
+  no-fault : FaultNumber 0
+  out-of-range : FaultNumber 3
+  too-many-values : FaultNumber 5
+
+abbrev pub FaultNumbers : Type 0
+FaultNumbers = (l : Line) → T (stored l) → FaultNumber (numberOf (lineFault l))

@@ -5,17 +5,8 @@ use mathlib.Core.List.{List, [], _∷_, _++_}
 use mathlib.Core.Bool.{Bool}
 use lib.ListN.{length, replicate, take, getD}
 use Rattle.bitstream.specs.Fields.{farthest, over}
-use Rattle.line_writer.specs.Fields.{Field, of, fieldWords, fieldBits}
+use Rattle.formats.specs.Fields.{Field, of, fieldWords, fieldBits, fieldWidths, widths}
 use Rattle.line_writer.specs.declared.Fields.{Fields}
-
-unfoldable pub fieldWidths : List Field → List ℕ
-fieldWidths [] = []
-fieldWidths (of width v ∷ fs) = width ∷ fieldWidths fs
-
--- the widths of fields, added up
-abbrev pub widths : List Field → ℕ
-widths [] = 0
-widths (of w v ∷ fs) = w + widths fs
 
 -- zeros to the end of an array of 18
 unfoldable pub toEighteen : List ℕ → List ℕ

@@ -1,8 +1,8 @@
 // One function for each kind of call: the call on lent memory that is marked, and its answer into the output.
 use crate::record::Record;
 use answer::Answer;
-use area_writer::Written;
 use panel::Panel;
+use score_writer::Written;
 
 // The panel, if there is one.
 pub struct Session {
@@ -187,7 +187,7 @@ fn put_written(r: Written, lent: &[u8], out: &mut [u8], used: usize) -> usize {
 fn write_area(bytes: &[u8], slots: usize, lent: &mut [u8], out: &mut [u8], used: usize) -> usize {
     let mut area = [0u32; 2304];
     ports::words_of(bytes, &mut area);
-    let r = area_writer::write_score(&area, slots, lent);
+    let r = score_writer::write_score(&area, slots, lent);
     put_written(r, lent, out, used)
 }
 
@@ -202,7 +202,7 @@ fn write(bytes: &[u8], slots: usize, room: usize, out: &mut [u8], used: usize) -
 fn write_unit_area(bytes: &[u8], lent: &mut [u8], out: &mut [u8], used: usize) -> usize {
     let mut slot = [0u32; 18];
     ports::words_of(bytes, &mut slot);
-    let r = area_writer::write_slot(&slot, lent);
+    let r = score_writer::write_slot(&slot, lent);
     put_written(r, lent, out, used)
 }
 

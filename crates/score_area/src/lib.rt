@@ -8,6 +8,9 @@ ghost use Rattle.bitstream.specs.Bits.{bitsOf};
 ghost use Rattle.score.specs.Score.{scoreOf, unitOf, walked};
 ghost use Rattle.score_area.specs.Area.{areaWords, laid, carried, SlotPut, Left};
 
+// The words of a line in the area.
+const SLOT: usize = 18;
+
 // What decoding gives: the answer, the number of the line that it is about, and how many lines stand in the area.
 pub struct Decoded {
     pub answer: Answer,
@@ -31,7 +34,7 @@ fn put_slot(area: &mut [u32], at: usize, slot: [u32; 18])
     ensures { λ _. ⌜ SlotPut (now (area .entry)) at slot (now (area .exit)) ⌝ }
 {
     let mut i: usize = 0;
-    while i < 18 {
+    while i < SLOT {
         area[at + i] = slot[i];
         i += 1;
     }
@@ -48,7 +51,7 @@ fn fill(bytes: &[u8], area: &mut [u32], start: Cursor)
     while i < n {
         let step = score::next(bytes, c);
         let line = step.line;
-        put_slot(area, 18 * i, line_writer::line_slot(line));
+        put_slot(area, SLOT * i, line_writer::line_slot(line));
         c = step.rest;
         i += 1;
     }
@@ -63,7 +66,7 @@ pub fn decode_score(bytes: &[u8], area: &mut [u32]) -> Decoded
     if answer::is_taken(answer) {
         let start = score::first(bytes);
         let count = start.left;
-        if count <= area.len() / 18 {
+        if count <= area.len() / SLOT {
             fill(bytes, area, start);
             return told(Answer::Taken, 0, count);
         }
@@ -76,15 +79,15 @@ pub fn decode_score(bytes: &[u8], area: &mut [u32]) -> Decoded
 pub fn decode_unit(bytes: &[u8], area: &mut [u32]) -> Decoded
     ensures { λ r. ⌜ Left (carried (unitOf (bitsOf (now (bytes .entry))))) (now (area .entry)) (now (area .exit)) r ⌝ }
 {
-    let read = score::read_unit(bytes);
-    let answer = read.answer;
-    if answer::is_taken(answer) {
-        if 18 <= area.len() {
-            let line = read.line;
+    let unit = score::read_unit(bytes);
+    let reading = unit.answer;
+    if answer::is_taken(reading) {
+        if SLOT <= area.len() {
+            let line = unit.line;
             put_slot(area, 0, line_writer::line_slot(line));
             return told(Answer::Taken, 0, 1);
         }
         return told(Answer::NoRoom, 0, 0);
     }
-    told(answer, 0, 0)
+    told(reading, 0, 0)
 }

@@ -1,2 +1,2 @@
-pub mod Source
+pub mod LineFormat
 pub mod Reading

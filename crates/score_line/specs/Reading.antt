@@ -1,27 +1,28 @@
--- Reading a line, field by field, from any source: document 01's fields, ranges and faults. Definitions only.
-use Prim.Native.Nat.{ℕ, zero, suc, _-_, _+_}
+-- Reading a line from any source, by its format, and what the calls give. Definitions only.
+use Prim.Native.Nat.{ℕ}
 use mathlib.Core.Bool.{Bool, false, cond}
-use mathlib.Core.List.{List, [], _∷_, _++_}
-use lib.ListN.{length, replicate}
-use lib.Dec.{eqb, leb, ltb}
-use lib.Ieee.{Float, binary32, ofBits}
+use mathlib.Core.List.{List, []}
+use mathlib.Core.Option.{some}
+use lib.ListN.{length}
+use lib.Dec.{eqb}
+use lib.Ieee.{Float}
 use Rattle.answer.specs.Numbers.{isTaken}
 use Rattle.answer.specs.declared.Answer.{Answer}
 use Rattle.answer.specs.declared.Answer.the-variants as answer
-use Rattle.bitstream.specs.declared.Got.{Got}
-use Rattle.bitstream.specs.declared.Got.the-variants as gives
-use Rattle.timebase.specs.Time.{timeBits, durationBits, tempoBits, finiteBits}
-use Rattle.score_line.specs.Source.{Source, bitSource, keypadSource}
+use Rattle.formats.specs.Source.{Source, bitSource, keypadSource}
+use Rattle.formats.specs.Reading.{Read, got, refused, andThen}
+use Rattle.formats.specs.Format.{small, named, found, timesFrom}
+use Rattle.formats.specs.Description.{format}
+use Rattle.formats.specs.declared.Fault.{Fault}
+use Rattle.formats.specs.declared.Fault.the-variants as fault
+use Rattle.score_line.specs.LineFormat.{float, whenOf, timed, when, label, Kind, instr, control, tempo, typeOf, kinds, Body, body, labelled, eventOf, eventParts, kindOf, counted, values, Parts, padded, lineWith, afterTime, line}
 use Rattle.score_line.specs.declared.When.{When}
-use Rattle.score_line.specs.declared.When.the-variants.{Timed, Untimed}
+use Rattle.score_line.specs.declared.When.the-variants.{Untimed}
 use Rattle.score_line.specs.declared.Label.{Label}
-use Rattle.score_line.specs.declared.Label.the-variants.{Unlabelled, Labelled}
 use Rattle.score_line.specs.declared.Event.{Event}
-use Rattle.score_line.specs.declared.Event.the-variants.{Instr, Control, End, Tempo}
+use Rattle.score_line.specs.declared.Event.the-variants.{End}
 use Rattle.score_line.specs.declared.Line.{Line}
 use Rattle.score_line.specs.declared.LineRead.{LineRead}
-use Rattle.score_line.specs.declared.Fault.{Fault}
-use Rattle.score_line.specs.declared.Fault.the-variants as fault
 use Rattle.score_line.specs.declared.Range.{Range}
 use Rattle.score_line.specs.declared.Range.the-variants as range
 use Rattle.score_line.specs.declared.Number.{Number}
@@ -35,135 +36,12 @@ use Rattle.score_line.specs.declared.LabelRead.the-variants as label-rea
 use Rattle.score_line.specs.declared.EventRead.{EventRead}
 use Rattle.score_line.specs.declared.EventRead.the-variants as event-read
 
--- a part of a line and the position past it, or the first fault
-pub data Read (A : Type 0) : Type 0 where
-  got : A → ℕ → Read A
-  refused : Fault → Read A
+abbrev pub lineFrom : Source → ℕ → Read Line
+lineFrom s at = format line .from s at
 
--- and then: what follows, where no fault was met
-abbrev pub andThen : {A B : Type 0} → Read A → (A → ℕ → Read B) → Read B
-andThen (got a p) k = k a p
-andThen (refused f) k = refused f
-
--- ---- numbers
-
-abbrev pub whole : Got → Read ℕ
-whole (gives.Value v p) = got v p
-whole gives.Short = refused fault.CutShort
-
--- a field's number
-unfoldable pub numberFrom : Source → ℕ → ℕ → Read ℕ
-numberFrom s width at = whole (s width at)
-
--- a number that is at most `most`
-unfoldable pub smallFrom : Source → ℕ → ℕ → ℕ → Read ℕ
-smallFrom s width most at = andThen (numberFrom s width at) (λ v p. cond (leb v most) (got v p) (refused fault.OutOfRange))
-
--- flags (1 bit) and symbols (16 bits)
-abbrev pub flagFrom : Source → ℕ → Read ℕ
-flagFrom s at = smallFrom s 1 1 at
-
-abbrev pub symbolFrom : Source → ℕ → Read ℕ
-symbolFrom s at = smallFrom s 16 65535 at
-
--- the ranges of a line's floats, by their bits
-unfoldable pub inRange : Range → ℕ → Bool
-inRange range.Time b = timeBits b
-inRange range.Duration b = durationBits b
-inRange range.Tempo b = tempoBits b
-inRange range.Value b = finiteBits b
-
-unfoldable pub floatFrom : Source → Range → ℕ → Read Float
-floatFrom s r at = andThen (numberFrom s 32 at) (λ b p. cond (inRange r b) (got (ofBits binary32 b) p) (refused fault.OutOfRange))
-
--- ---- has-time; if set, use-if-late and the time
-
-unfoldable pub timedFrom : Source → ℕ → Read When
-timedFrom s at = andThen (flagFrom s at) (λ late p. andThen (floatFrom s range.Time p) (λ t q. got (Timed (eqb late 1) t) q))
-
-unfoldable pub whenFrom : Source → ℕ → Read When
-whenFrom s at = andThen (flagFrom s at) (λ has p. cond (eqb has 1) (timedFrom s p) (got Untimed p))
-
--- ---- the four events
-
--- has-label; if set, the label
-unfoldable pub labelFrom : Source → ℕ → Read Label
-labelFrom s at = andThen (flagFrom s at) (λ has p. cond (eqb has 1) (andThen (symbolFrom s p) (λ n q. got (Labelled n) q)) (got Unlabelled p))
-
--- instr: label, instrument, duration
-unfoldable pub instrFrom : Source → ℕ → Read Event
-instrFrom s at =
-    andThen (labelFrom s at) (λ label p.
-    andThen (symbolFrom s p) (λ instrument q.
-    andThen (floatFrom s range.Duration q) (λ duration r.
-    got (Instr label instrument duration) r)))
-
--- control: has-label, which must be set, label, variable, value
-unfoldable pub labelledFrom : Source → ℕ → Read Event
-labelledFrom s at =
-    andThen (symbolFrom s at) (λ label p.
-    andThen (symbolFrom s p) (λ variable q.
-    andThen (floatFrom s range.Value q) (λ value r.
-    got (Control label variable value) r)))
-
-unfoldable pub controlFrom : Source → ℕ → Read Event
-controlFrom s at = andThen (flagFrom s at) (λ has p. cond (eqb has 1) (labelledFrom s p) (refused fault.NotCarried))
-
-unfoldable pub tempoFrom : Source → ℕ → Read Event
-tempoFrom s at = andThen (floatFrom s range.Tempo at) (λ tempo p. got (Tempo tempo) p)
-
--- the event of a line's type
-unfoldable pub eventFrom : Source → ℕ → ℕ → Read Event
-eventFrom s type at =
-    cond (eqb type 0) (instrFrom s at)
-    (cond (eqb type 1) (controlFrom s at)
-    (cond (eqb type 4) (got End at)
-    (cond (eqb type 5) (tempoFrom s at)
-    (refused fault.NotCarried))))
-
--- ---- the values of an instr line
-
-unfoldable pub valuesFrom : Source → ℕ → ℕ → Read (List Float)
-valuesFrom s zero at = got [] at
-valuesFrom s (suc n) at = andThen (floatFrom s range.Value at) (λ x p. andThen (valuesFrom s n p) (λ xs q. got (x ∷ xs) q))
-
--- their number, at most 8, then the values
-unfoldable pub countedFrom : Source → ℕ → Read (List Float)
-countedFrom s at = andThen (numberFrom s 8 at) (λ n p. cond (ltb 8 n) (refused fault.TooManyValues) (valuesFrom s n p))
-
-unfoldable pub valuesAfter : Source → Event → ℕ → Read (List Float)
-valuesAfter s (Instr label instrument duration) at = countedFrom s at
-valuesAfter s (Control label variable value) at = got [] at
-valuesAfter s End at = got [] at
-valuesAfter s (Tempo tempo) at = got [] at
-
--- ---- the line
-
-abbrev pub zeroFloat : Float
-zeroFloat = ofBits binary32 0
-
--- too few values: the other fields are zero
-unfoldable pub padded : List Float → List Float
-padded xs = xs ++ replicate (8 - length xs) zeroFloat
-
+-- a line of these parts, its count the number of its values
 unfoldable pub lineOf : When → Bool → Event → List Float → Line
 lineOf w priority e xs = record { when = w; priority = priority; event = e; count = length xs; values = padded xs }
-
-unfoldable pub withValues : When → Bool → Event → Read (List Float) → Read Line
-withValues w priority e r = andThen r (λ xs p. got (lineOf w priority e xs) p)
-
-unfoldable pub afterEvent : Source → When → Bool → Event → ℕ → Read Line
-afterEvent s w priority e at = withValues w priority e (valuesAfter s e at)
-
-unfoldable pub afterWhen : Source → When → ℕ → Read Line
-afterWhen s w at =
-    andThen (flagFrom s at) (λ priority p.
-    andThen (numberFrom s 3 p) (λ type q.
-    andThen (eventFrom s type q) (λ e r.
-    afterEvent s w (eqb priority 1) e r)))
-
-unfoldable pub lineFrom : Source → ℕ → Read Line
-lineFrom s at = andThen (whenFrom s at) (λ w p. afterWhen s w p)
 
 -- ---- what the calls give
 
@@ -196,6 +74,60 @@ wholeRun n r = cond (isTaken (r .answer)) (cond (eqb (r .next) n) r (refusedLine
 
 unfoldable pub keypadLine : List ℕ → LineRead
 keypadLine words = wholeRun (length words) (lineInWords words 0)
+
+-- ---- what is left of the format where each function of the code begins
+
+abbrev pub smallFrom : Source → ℕ → ℕ → ℕ → Read ℕ
+smallFrom s width most at = small width most .from s at
+
+abbrev pub floatFrom : Source → Range → ℕ → Read Float
+floatFrom s r at = format (float r) .from s at
+
+unfoldable pub timedFrom : Source → ℕ → Read When
+timedFrom s at = andThen (andThen (format timed .from s at) (λ a q. got (some a) q)) (λ x q. got (whenOf x) q)
+
+abbrev pub whenFrom : Source → ℕ → Read When
+whenFrom s at = format when .from s at
+
+abbrev pub labelFrom : Source → ℕ → Read Label
+labelFrom s at = format label .from s at
+
+-- the event of what was read of its body
+abbrev pub asEvent : (k : Kind) → Read (Body k) → Read Event
+asEvent k r = andThen r (λ b q. got (eventOf k b) q)
+
+unfoldable pub instrFrom : Source → ℕ → Read Event
+instrFrom s at = asEvent instr (format (body instr) .from s at)
+
+unfoldable pub labelledFrom : Source → ℕ → Read Event
+labelledFrom s at = asEvent control (format labelled .from s at)
+
+unfoldable pub controlFrom : Source → ℕ → Read Event
+controlFrom s at = asEvent control (format (body control) .from s at)
+
+unfoldable pub tempoFrom : Source → ℕ → Read Event
+tempoFrom s at = asEvent tempo (format (body tempo) .from s at)
+
+-- the event of a line's type
+unfoldable pub eventFrom : Source → ℕ → ℕ → Read Event
+eventFrom s type at = andThen (found fault.NotCarried at (named typeOf kinds type)) (λ k p. asEvent k (format (body k) .from s p))
+
+abbrev pub valuesFrom : Source → ℕ → ℕ → Read (List Float)
+valuesFrom s n at = timesFrom (format (float range.Value)) s n at
+
+-- a line with the values that were read
+unfoldable pub withValues : When → Bool → Event → ℕ → Read (List Float) → Read Line
+withValues w priority e n r = andThen r (λ xs p. got (record { when = w; priority = priority; event = e; count = n; values = padded xs }) p)
+
+unfoldable pub afterCount : Source → When → Bool → Event → ℕ → Read Line
+unfolding withValues
+afterCount s w priority e at = andThen (format counted .from s at) (λ x p. withValues w priority e (x .0) (got (x .1) p))
+
+unfoldable pub afterEvent : Source → When → Bool → Event → ℕ → Read Line
+afterEvent s w priority e at = andThen (format (values (kindOf e)) .from s at) (λ x p. got (lineWith (w, (priority, (kindOf e, (eventParts e .1, x))))) p)
+
+unfoldable pub afterWhen : Source → When → ℕ → Read Line
+afterWhen s w at = andThen (format afterTime .from s at) (λ y q. got (lineWith (w, y)) q)
 
 -- ---- the code's results as readings
 

@@ -1,14 +1,17 @@
 // A score line: its fields read from bits or from keypad numbers (document 01, "Score lines, bit by bit").
 use answer::Answer;
 use bitstream::Got;
+use formats::Fault;
 use timebase::Checked;
 ghost use mathlib.Core.Path.{_≡_};
 ghost use Prim.Native.Nat.{_≤_};
 ghost use mathlib.Core.List.{[]};
 ghost use Rattle.timebase.specs.Range.{checked};
 ghost use Rattle.bitstream.specs.Bits.{bitsOf};
-ghost use Rattle.score_line.specs.Source.{sourceOf};
-ghost use Rattle.score_line.specs.Reading.{got, answerOf, numberIs, realIs, whenIs, labelIs, eventIs, inRange, numberFrom, smallFrom, floatFrom, timedFrom, whenFrom, labelFrom, instrFrom, labelledFrom, controlFrom, tempoFrom, eventFrom, valuesFrom, countedFrom, withValues, afterEvent, afterWhen, lineFrom, refusedLine, lineRead, lineAt, lineInWords, keypadLine};
+ghost use Rattle.formats.specs.Source.{sourceOf};
+ghost use Rattle.formats.specs.Reading.{got, numberFrom};
+ghost use Rattle.score_line.specs.LineFormat.{inRange};
+ghost use Rattle.score_line.specs.Reading.{answerOf, numberIs, realIs, whenIs, labelIs, eventIs, smallFrom, floatFrom, timedFrom, whenFrom, labelFrom, instrFrom, labelledFrom, controlFrom, tempoFrom, eventFrom, valuesFrom, withValues, afterCount, afterEvent, afterWhen, lineFrom, refusedLine, lineRead, lineAt, lineInWords, keypadLine};
 
 pub enum When {
     Timed { use_if_late: bool, time: f32 },
@@ -49,14 +52,6 @@ pub struct LineRead {
     pub answer: Answer,
     pub line: Line,
     pub next: usize,
-}
-
-// The faults that a line's fields can show.
-pub enum Fault {
-    CutShort,
-    NotCarried,
-    OutOfRange,
-    TooManyValues,
 }
 
 // The ranges of a line's floats.
@@ -333,7 +328,7 @@ fn values_line(
     event: Event,
 ) -> LineRead
     requires { ⌜ n ≤ 8 ⌝ }
-    ensures { λ r. ⌜ r ≡ lineRead (withValues when priority event (valuesFrom (sourceOf (now (bytes .entry)) (now (words .entry)) keypad) n at)) ⌝ }
+    ensures { λ r. ⌜ r ≡ lineRead (withValues when priority event n (valuesFrom (sourceOf (now (bytes .entry)) (now (words .entry)) keypad) n at)) ⌝ }
 {
     let mut values = [0.0f32; 8];
     let mut p = at;
@@ -372,7 +367,7 @@ fn counted_line(
     priority: bool,
     event: Event,
 ) -> LineRead
-    ensures { λ r. ⌜ r ≡ lineRead (withValues when priority event (countedFrom (sourceOf (now (bytes .entry)) (now (words .entry)) keypad) at)) ⌝ }
+    ensures { λ r. ⌜ r ≡ lineRead (afterCount (sourceOf (now (bytes .entry)) (now (words .entry)) keypad) when priority event at) ⌝ }
 {
     match number_at(bytes, words, keypad, at, 8) {
         Number::Of(n, p) => {
@@ -387,7 +382,7 @@ fn counted_line(
 }
 
 fn no_values(at: usize, when: When, priority: bool, event: Event) -> LineRead
-    ensures { λ r. ⌜ r ≡ lineRead (withValues when priority event (got [] at)) ⌝ }
+    ensures { λ r. ⌜ r ≡ lineRead (withValues when priority event 0 (got [] at)) ⌝ }
 {
     LineRead {
         answer: Answer::Taken,

@@ -1,2 +1,7 @@
 pub mod Whole
-pub mod Proved
+pub mod Bytes
+pub mod Area
+pub mod Lays
+pub mod Ends
+pub mod InSlots
+pub mod Calls

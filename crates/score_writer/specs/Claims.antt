@@ -1,62 +1,166 @@
--- Whole scores and access units are read and written so that each undoes the other. Statements only; the proofs are in proofs/Proved.antt.
-use Prim.Native.Nat.{ℕ, _^_, _<_, _≤_}
+-- Reading and writing undo each other: lines, scores and access units, through the public calls, with what they answer and leave for whatever is lent to
+-- them; and what the writer answers for lines of every kind. Read this file first. Statements only; the proofs are in proofs/Calls.antt.
+use Prim.Native.Nat.{ℕ, suc, _+_, _-_, _*_, _^_, _<_, _≤_}
 use mathlib.Core.Path.{_≡_}
-use mathlib.Core.Bool.{false}
-use mathlib.Core.List.{List, [], _∷_}
-use lib.Dec.{T}
-use lib.Ieee.{binary32, ofBits}
-use lib.ListN.{length, getD}
-use Rattle.answer.specs.declared.Answer.the-variants.{Taken}
+use mathlib.Core.Bool.{Bool, true, _&&_, cond}
+use mathlib.Core.List.{List, [], _∷_, _++_}
+use lib.Dec.{T, leb}
+use lib.ListN.{length, getD, take, drop, replicate}
+use Rattle.answer.specs.Numbers.{numberOf, isTaken}
+use Rattle.answer.specs.declared.Answer.{Answer}
+use Rattle.answer.specs.declared.Answer.the-variants.{Taken, OutOfRange}
 use Rattle.bitstream.specs.Bits.{bitsOf}
-use Rattle.score_line.specs.Reading.{lineOf}
+use Rattle.bitstream.specs.Fields.{farthest}
+use Rattle.score_line.specs.LineFormat.{lawful}
+use Rattle.score_line.specs.Reading.{lineAt, keypadLine}
 use Rattle.score_line.specs.declared.Line.{Line}
-use Rattle.score_line.specs.declared.When.the-variants.{Timed}
-use Rattle.score_line.specs.declared.Event.the-variants.{End}
-use Rattle.line_writer.specs.Lawful.{lawful}
-use Rattle.score.specs.Score.{taken, scoreOf, unitOf}
-use Rattle.score_writer.specs.Writing.{scoreBytes, unitBytes, mostLines, allLawful}
+use Rattle.score_line.specs.declared.LineRead.{LineRead}
+use Rattle.line_writer.specs.Fields.{lineBits, lineWords}
+use Rattle.line_writer.specs.Writing.{lineFault, lineSlot, bitsFit, LineWritten}
+use Rattle.line_writer.specs.Claims.{stored, meant}
+use Rattle.score.specs.Score.{scoreOf, unitOf}
+use Rattle.score.specs.declared.ScoreRead.{ScoreRead}
+use Rattle.score_area.specs.Area.{areaWords, carried, Left}
+use Rattle.score_area.specs.declared.Decoded.{Decoded}
+use Rattle.score_writer.specs.Writing.{scoreBytes, mostLines}
+use Rattle.score_writer.specs.Slots.{allZero, slotLine}
+use Rattle.score_writer.specs.Written.{refusal, told, left, ScoreDone, UnitDone, SlotDone}
+use Rattle.score_writer.specs.declared.Written.{Written}
 
--- every number is a byte
+-- what a lent slice holds
 abbrev pub Bytes : List ℕ → Type 0
 Bytes s = (i : ℕ) → getD s i 0 < 2 ^ 8
 
--- every list of at most 1,048,575 lawful lines, written and read, is itself
-abbrev pub ScoreReadBack : Type 0
-ScoreReadBack = (ls : List Line) → T (allLawful ls) → length ls ≤ mostLines → scoreOf (bitsOf (scoreBytes ls)) ≡ taken ls
+abbrev pub Words : List ℕ → Type 0
+Words ws = (i : ℕ) → getD ws i 0 < 2 ^ 32
 
--- an accepted score has such lines, and read and written again it is the same bytes
-pub record ScoreOfBytes (s : List ℕ) : Type 0 where
-  pub lawful-lines : T (allLawful (scoreOf (bitsOf s) .lines))
-  pub count : length (scoreOf (bitsOf s) .lines) ≤ mostLines
-  pub bytes-are : scoreBytes (scoreOf (bitsOf s) .lines) ≡ s
+-- ---- lines: `score_line::line_at` and `line_writer::write_line`, `score_line::keypad_line` and `line_writer::line_slot`
+
+-- the line and the position past it, with the number 0
+pub record Took (r : LineRead) (l : Line) (p : ℕ) : Type 0 where
+  pub number : numberOf (r .answer) ≡ 0
+  pub line : r .line ≡ l
+  pub next : r .next ≡ p
+
+-- a lawful line, written where it has room, is read there
+abbrev pub LineReadBack : Type 0
+LineReadBack =
+    (old new : List ℕ) (at p : ℕ) (l : Line) → T (lawful l) → LineWritten (bitsOf old) at l (bitsOf new) p → T (bitsFit (length (bitsOf old)) at (length (lineBits l)))
+    → Took (lineAt (bitsOf new) at) l p
+
+-- a line that was read, written where it stood, changes nothing
+abbrev pub LineWrittenBack : Type 0
+LineWrittenBack =
+    (s t : List ℕ) (at p : ℕ) → Bytes s → Bytes t → numberOf (lineAt (bitsOf s) at .answer) ≡ 0 → lineAt (bitsOf s) at .next ≤ farthest
+    → LineWritten (bitsOf s) at (lineAt (bitsOf s) at .line) (bitsOf t) p → (t ≡ s) × (p ≡ lineAt (bitsOf s) at .next)
+
+-- the keypad takes a lawful line's numbers as that line
+abbrev pub KeypadReadBack : Type 0
+KeypadReadBack = (l : Line) → T (lawful l) → Took (keypadLine (lineWords l)) l (length (lineWords l))
+
+-- numbers that the keypad took, then zeros, are the slot of the line
+abbrev pub KeypadWrittenBack : Type 0
+KeypadWrittenBack = (ws : List ℕ) → Words ws → numberOf (keypadLine ws .answer) ≡ 0 → lineSlot (keypadLine ws .line) ≡ ws ++ replicate (18 - length ws) 0
+
+-- ---- scores: `score_area::decode_score` and `score_writer::write_score`
+
+-- n slots that were written, decoded into any area that has room for them, are its first words; the others are as they were
+pub record SlotsBack (area : List ℕ) (n : ℕ) (into new : List ℕ) (d : Decoded) : Type 0 where
+  pub number : numberOf (d .answer) ≡ 0
+  pub line : d .line ≡ 0
+  pub count : d .count ≡ n
+  pub words : new ≡ take (18 * n) area ++ drop (18 * n) into
+
+abbrev pub ScoreReadBack : Type 0
+ScoreReadBack =
+    (area out bytes into new : List ℕ) (n : ℕ) (w : Written) (d : Decoded) → Words area
+    → ScoreDone area n out bytes w → numberOf (w .answer) ≡ 0
+    → Left (scoreOf (bitsOf (take (w .bytes) bytes))) into new d → 18 * n ≤ length into → SlotsBack area n into new d
+
+-- bytes that were decoded, written into any bytes that have room for them, are the first; the others are as they were
+pub record BytesBack (s out new : List ℕ) (w : Written) : Type 0 where
+  pub number : numberOf (w .answer) ≡ 0
+  pub line : w .line ≡ 0
+  pub bytes : w .bytes ≡ length s
+  pub are : new ≡ s ++ drop (length s) out
 
 abbrev pub ScoreWrittenBack : Type 0
-ScoreWrittenBack = (s : List ℕ) → Bytes s → scoreOf (bitsOf s) .answer ≡ Taken → ScoreOfBytes s
+ScoreWrittenBack =
+    (s area words out new : List ℕ) (d : Decoded) (w : Written) → Bytes s
+    → Left (scoreOf (bitsOf s)) area words d → numberOf (d .answer) ≡ 0
+    → ScoreDone words (d .count) out new w → length s ≤ length out → BytesBack s out new w
 
--- different lawful scores have different bytes
-abbrev pub BytesTellScores : Type 0
-BytesTellScores =
-    (ls ms : List Line) → T (allLawful ls) → T (allLawful ms) → length ls ≤ mostLines → length ms ≤ mostLines → scoreBytes ls ≡ scoreBytes ms → ls ≡ ms
+-- ---- access units: `score::read_unit` and `score_writer::write_unit`, `score_area::decode_unit` and `score_writer::write_slot`
 
--- ---- access units
-
-pub record UnitRead (l : Line) : Type 0 where
-  pub answer : unitOf (bitsOf (unitBytes l)) .answer ≡ Taken
-  pub line : unitOf (bitsOf (unitBytes l)) .line ≡ l
-
+-- any line that was written is read as it is meant; a lawful one as it is
 abbrev pub UnitReadBack : Type 0
-UnitReadBack = (l : Line) → T (lawful l) → UnitRead l
+UnitReadBack =
+    (l : Line) (out bytes : List ℕ) (w : Written) → T (stored l) → UnitDone l out bytes w → numberOf (w .answer) ≡ 0
+    → Took (unitOf (bitsOf (take (w .bytes) bytes))) (meant l) (2 + length (lineBits l))
 
 abbrev pub UnitWrittenBack : Type 0
-UnitWrittenBack = (s : List ℕ) → Bytes s → unitOf (bitsOf s) .answer ≡ Taken → T (lawful (unitOf (bitsOf s) .line)) × (unitBytes (unitOf (bitsOf s) .line) ≡ s)
+UnitWrittenBack =
+    (s out new : List ℕ) (w : Written) → Bytes s → numberOf (unitOf (bitsOf s) .answer) ≡ 0
+    → UnitDone (unitOf (bitsOf s) .line) out new w → length s ≤ length out → BytesBack s out new w
 
-abbrev pub BytesTellUnits : Type 0
-BytesTellUnits = (l m : Line) → T (lawful l) → T (lawful m) → unitBytes l ≡ unitBytes m → l ≡ m
+abbrev pub SlotReadBack : Type 0
+SlotReadBack =
+    (area out bytes into new : List ℕ) (w : Written) (d : Decoded) → Words area
+    → SlotDone area out bytes w → numberOf (w .answer) ≡ 0
+    → Left (carried (unitOf (bitsOf (take (w .bytes) bytes)))) into new d → 18 ≤ length into → SlotsBack area 1 into new d
 
--- ---- document 01's worked score: one line, end at beat 1, neither flag set
+abbrev pub SlotWrittenBack : Type 0
+SlotWrittenBack =
+    (s area words out new : List ℕ) (d : Decoded) (w : Written) → Bytes s
+    → Left (carried (unitOf (bitsOf s))) area words d → numberOf (d .answer) ≡ 0
+    → SlotDone words out new w → length s ≤ length out → BytesBack s out new w
 
-abbrev pub endAtBeat1 : Line
-endAtBeat1 = lineOf (Timed false (ofBits binary32 0x3F800000)) false End []
+-- ---- a slot is read exactly as the keypad reads its numbers, then zeros
 
-abbrev pub Example : Type 0
-Example = scoreBytes (endAtBeat1 ∷ []) ≡ 0x00 ∷ (0x00 ∷ (0x18 ∷ (0xFE ∷ (0x00 ∷ (0x00 ∷ (0x01 ∷ (0x00 ∷ [])))))))
+-- numbers that the keypad takes, then any number of zeros, are that line; what a slot is taken for are such numbers; else the answer is the keypad's to all its words
+pub record AsKeypad (slot : List ℕ) : Type 0 where
+  pub taken : numberOf (slotLine slot .answer) ≡ 0 → (keypadLine (take (slotLine slot .next) slot) ≡ slotLine slot) × (allZero (drop (slotLine slot .next) slot) ≡ true)
+  pub refused : (numberOf (slotLine slot .answer) ≡ 0 → ⊥) → slotLine slot ≡ keypadLine slot
+
+abbrev pub SlotsAsKeypad : Type 0
+SlotsAsKeypad = (slot : List ℕ) → Words slot → AsKeypad slot
+
+abbrev pub KeypadAsSlot : Type 0
+KeypadAsSlot = (ws : List ℕ) (n : ℕ) → Words ws → numberOf (keypadLine ws .answer) ≡ 0 → slotLine (ws ++ replicate n 0) ≡ keypadLine ws
+
+-- ---- the writer's answers for slots that are lines, lawful or not
+
+abbrev pub allStored : List Line → Bool
+allStored [] = true
+allStored (l ∷ ls) = stored l && allStored ls
+
+-- the first line that reading would refuse, with its number
+unfoldable pub linesFault : List Line → ℕ → ScoreRead
+linesFault [] i = record { answer = Taken; line = 0 }
+linesFault (l ∷ ls) i = cond (isTaken (lineFault l)) (linesFault ls (suc i)) (record { answer = lineFault l; line = i })
+
+-- document 01: 3 or 5 for the first line that reading would refuse so, 3 for more than 1,048,575 lines, then 8
+unfoldable pub linesWritten : List Line → ℕ → Written
+linesWritten ls room =
+    cond (isTaken (linesFault ls 0 .answer))
+    (cond (leb (length ls) mostLines) (told (scoreBytes ls) room) (refusal OutOfRange 0))
+    (refusal (linesFault ls 0 .answer) (linesFault ls 0 .line))
+
+-- bytes past what was written stay, and all of them on refusal
+unfoldable pub linesLeft : List Line → List ℕ → List ℕ
+linesLeft ls out = cond (isTaken (linesFault ls 0 .answer)) (cond (leb (length ls) mostLines) (left (scoreBytes ls) out) out) out
+
+pub data WriterNumber : ℕ → Type 0 where
+  written : WriterNumber 0
+  out-of-range : WriterNumber 3
+  too-many-values : WriterNumber 5
+  too-short : WriterNumber 8
+
+-- whatever lies behind the lines' slots
+pub record AsLines (ls : List Line) (out new : List ℕ) (w : Written) : Type 0 where
+  pub answers : w ≡ linesWritten ls (length out)
+  pub leaves : new ≡ linesLeft ls out
+  pub number : WriterNumber (numberOf (w .answer))
+
+abbrev pub LinesWritten : Type 0
+LinesWritten = (ls : List Line) (rest out new : List ℕ) (w : Written) → T (allStored ls) → ScoreDone (areaWords ls ++ rest) (length ls) out new w → AsLines ls out new w

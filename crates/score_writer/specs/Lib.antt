@@ -1,2 +1,5 @@
 pub mod Writing
+pub mod Slots
+pub mod Written
+pub mod Bytes
 pub mod Claims

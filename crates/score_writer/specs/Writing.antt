@@ -7,7 +7,7 @@ use Rattle.bitstream.specs.Bits.{field}
 use Rattle.bitstream.specs.Filling.{filledUp, bytesOf}
 use Rattle.score_line.specs.declared.Line.{Line}
 use Rattle.line_writer.specs.Fields.{lineBits}
-use Rattle.line_writer.specs.Lawful.{lawful}
+use Rattle.score_line.specs.LineFormat.{lawful}
 
 -- lines without gap
 unfoldable pub linesBits : List Line → List Bool

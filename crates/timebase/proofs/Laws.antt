@@ -12,7 +12,7 @@ use lib.Ieee.Bits.{ofBits-toBits, toBits-ofBits, ofBits-fits}
 use lib.Ieee.Scale.{finite}
 use Rattle.laws.proofs.Choice.{both-true}
 use Rattle.timebase.specs.Time.{finiteBits, timeBits, durationBits, tempoBits, ticksOf, ticksIn, cycleOf, cycleIn, latest, slowest, fastest, endless}
-use Rattle.timebase.specs.Range.{checked}
+use Rattle.timebase.specs.Range.{checked, EveryNumber}
 use Rattle.timebase.specs.declared.Checked.the-variants.{Value, Outside}
 use Rattle.timebase.proofs.Order.{le-trans as le-on, lt-is}
 use Rattle.timebase.proofs.Ranges.{zeroF, from-zero, between-finite}
@@ -29,6 +29,11 @@ pub checked-out : (p : Bool) (b : ℕ) → checked p b ≡ Outside → p ≡ fal
 unfolding checked
 checked-out true b e = absurd (let z : _≡_ {A = ℕ} 0 1 = cc in omega arith)
 checked-out false b e = refl
+
+pub every-number : EveryNumber
+unfolding checked
+every-number true b = refl
+every-number false b = refl
 
 -- ---- patterns and floats, there and back
 

@@ -33,14 +33,14 @@ fn cramped(title: &[u8], other: &[u8], score: &[u8], unit: &[u8]) {
 
 fn written_score(title: &[u8], expected: u64, area: &[u32]) {
     let mut out = [0u8; 64];
-    let r = area_writer::write_score(area, 1, &mut out);
+    let r = score_writer::write_score(area, 1, &mut out);
     let a = r.answer;
     told(title, expected, number(a));
 }
 
 fn written_unit(title: &[u8], expected: u64, slot: &[u32]) {
     let mut out = [0u8; 64];
-    let r = area_writer::write_slot(slot, &mut out);
+    let r = score_writer::write_slot(slot, &mut out);
     let a = r.answer;
     told(title, expected, number(a));
 }
@@ -48,11 +48,11 @@ fn written_unit(title: &[u8], expected: u64, slot: &[u32]) {
 // The same into a byte less than is needed.
 fn short_of_bytes(title: &[u8], other: &[u8], slot: &[u32]) {
     let mut seven = [0u8; 7];
-    let r = area_writer::write_score(slot, 1, &mut seven);
+    let r = score_writer::write_score(slot, 1, &mut seven);
     let a = r.answer;
     told(title, 8, number(a));
     let mut four = [0u8; 4];
-    let s = area_writer::write_slot(slot, &mut four);
+    let s = score_writer::write_slot(slot, &mut four);
     let b = s.answer;
     told(other, 8, number(b));
 }
@@ -215,7 +215,7 @@ fn nine_values() -> Line {
 
 fn written_line(title: &[u8], expected: u64, line: Line) {
     let mut out = [0u8; 64];
-    let r = area_writer::write_unit(line, &mut out);
+    let r = score_writer::write_unit(line, &mut out);
     let a = r.answer;
     told(title, expected, number(a));
 }
@@ -225,7 +225,7 @@ pub fn write_line_cases() {
     written_line(b"write a line as a unit, -0 as a time", 3, end_at(-0.0));
     written_line(b"write a line as a unit, 9 values", 5, nine_values());
     let mut four = [0u8; 4];
-    let r = area_writer::write_unit(end_at(1.0), &mut four);
+    let r = score_writer::write_unit(end_at(1.0), &mut four);
     let a = r.answer;
     told(b"write a line as a unit, 4 bytes", 8, number(a));
 }

@@ -15,8 +15,11 @@ use Rattle.bitstream.specs.Bits as bitstream-bits
 use Rattle.bitstream.specs.Fields as bitstream-fields
 use Rattle.bitstream.specs.Filling as bitstream-filling
 use Rattle.bitstream.specs.Reads as bitstream-reads
+use Rattle.formats.specs.Source as formats-source
+use Rattle.formats.specs.Reading as formats-reading
+use Rattle.formats.specs.Format as formats-format
+use Rattle.score_line.specs.LineFormat as score-line-format
 use Rattle.score_line.specs.Reading as score-line-reading
-use Rattle.score_line.specs.Source as score-line-source
 use Rattle.score.specs.Score as score-score
 use Rattle.timebase.specs.Range as timebase-range
 use Rattle.timebase.specs.Time as timebase-time
@@ -78,7 +81,7 @@ stick-taken table e = rw (admitted-so (fieldsIn table (line .event)) e)
 
 -- the score read, computed
 score-read : (isTaken (read-as .answer) ≡ true) × (read-as .lines ≡ line ∷ [])
-unfolding bitstream-bits.bit bitstream-bits.field bitstream-bits.bitsOf bitstream-bits.valueOf bitstream-fields.roomFor bitstream-fields.written bitstream-filling.filled bitstream-filling.filledUp bitstream-filling.bytesFrom bitstream-filling.bytesOf bitstream-reads.readAt score-line-reading.numberFrom score-line-reading.smallFrom score-line-reading.inRange score-line-reading.floatFrom score-line-reading.timedFrom score-line-reading.whenFrom score-line-reading.labelFrom score-line-reading.instrFrom score-line-reading.labelledFrom score-line-reading.controlFrom score-line-reading.tempoFrom score-line-reading.eventFrom score-line-reading.valuesFrom score-line-reading.countedFrom score-line-reading.valuesAfter score-line-reading.padded score-line-reading.lineOf score-line-reading.withValues score-line-reading.afterEvent score-line-reading.afterWhen score-line-reading.lineFrom score-line-reading.answerOf score-line-reading.refusedLine score-line-reading.lineRead score-line-reading.lineAt score-line-reading.lineInWords score-line-reading.wholeRun score-line-reading.keypadLine score-line-source.bitSource score-line-source.keypadSource score-score.linesFrom score-score.ended score-score.counted score-score.scoreOf score-score.firstOf score-score.nextOf score-score.walked score-score.wholeLine score-score.opened score-score.unitOf timebase-range.checked timebase-time.finiteBits timebase-time.timeBits timebase-time.durationBits timebase-time.tempoBits timebase-time.upTo timebase-time.ticksOf timebase-time.ticksIn timebase-time.cycleOf timebase-time.cycleIn ofBits le
+unfolding bitstream-bits.bit bitstream-bits.field bitstream-bits.bitsOf bitstream-bits.valueOf bitstream-fields.roomFor bitstream-fields.written bitstream-filling.filled bitstream-filling.filledUp bitstream-filling.bytesFrom bitstream-filling.bytesOf bitstream-reads.readAt formats-reading.numberFrom formats-format.small score-line-format.inRange score-line-format.float score-line-format.number score-line-format.timed score-line-format.when score-line-format.label score-line-format.kind score-line-format.labelled score-line-format.body score-line-format.counted score-line-format.values score-line-format.afterTime score-line-format.parts score-line-format.padded score-line-format.line score-line-reading.lineOf score-line-reading.answerOf score-line-reading.refusedLine score-line-reading.lineRead score-line-reading.lineAt score-line-reading.lineInWords score-line-reading.wholeRun score-line-reading.keypadLine formats-source.bitSource formats-source.keypadSource score-score.linesFrom score-score.ended score-score.counted score-score.scoreOf score-score.firstOf score-score.nextOf score-score.walked score-score.wholeLine score-score.opened score-score.unitOf timebase-range.checked timebase-time.finiteBits timebase-time.timeBits timebase-time.durationBits timebase-time.tempoBits timebase-time.upTo timebase-time.ticksOf timebase-time.ticksIn timebase-time.cycleOf timebase-time.cycleIn ofBits le
 score-read = (refl, refl)
 
 first-answer : (b : Bool) (x y : Loaded) → b ≡ true → cond b x y .answer ≡ x .answer

@@ -1,6 +1,6 @@
 use mathlib.Core.Path.{refl}
-use Rattle.line_writer.specs.Fields.{fieldWords}
-use Rattle.line_writer.specs.Packed.{packed, toEighteen, fieldWidths}
+use Rattle.formats.specs.Fields.{fieldWords, fieldWidths}
+use Rattle.line_writer.specs.Packed.{packed, toEighteen}
 use Rattle.line_writer.proofs.no_fields.Statement.{statement}
 use Rattle.line_writer.proofs.no_fields.Tie as tie
 

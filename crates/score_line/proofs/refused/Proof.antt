@@ -1,6 +1,7 @@
 use mathlib.Core.Path.{refl}
 use lib.Ieee.{ofBits}
-use Rattle.score_line.specs.Reading.{refusedLine, lineOf, padded}
+use Rattle.score_line.specs.Reading.{refusedLine, lineOf}
+use Rattle.score_line.specs.LineFormat.{padded}
 use Rattle.score_line.proofs.refused.Statement.{statement}
 use Rattle.score_line.proofs.refused.Tie as tie
 

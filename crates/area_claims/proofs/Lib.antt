@@ -1,2 +1,0 @@
-pub mod Proved
-pub mod Faults

@@ -1,0 +1,75 @@
+-- The round trips of whole scores and units, and document 01's worked score. Assumes nothing.
+use Prim.Native.Nat.{ℕ, _+_, _%_}
+use mathlib.Core.Path.{_≡_, refl, sym, ap, _∙_}
+use mathlib.Core.Bool.{Bool}
+use mathlib.Core.List.{List}
+use native.Mathlib.Omega.{arith}
+use lib.Dec.{T}
+use lib.Ieee.{ofBits, toBits}
+use lib.ListN.{length}
+use Rattle.answer.specs.declared.Answer.the-variants.{Taken}
+use Rattle.bitstream.specs.Bits.{bitsOf, bit, field, valueOf}
+use Rattle.bitstream.specs.Filling.{filledUp, bytesFrom, bytesOf}
+use Rattle.bitstream.proofs.Laws.{length-bitsOf}
+use Rattle.bitstream.proofs.Filling.{bitsOf-bytesOf, bytesOf-bitsOf}
+use Rattle.formats.specs.Reading.{got}
+use Rattle.formats.specs.Fields.{fieldBits}
+use Rattle.formats.specs.Format.{small}
+use Rattle.score_line.specs.LineFormat.{timed, when, kind, body, values, float, padded, afterTime, parts, line, lawful}
+use Rattle.score_line.specs.Reading.{lineRead, lineOf}
+use Rattle.score_line.specs.declared.Line.{Line}
+use Rattle.score_line.specs.declared.LineRead.{LineRead}
+use Rattle.line_writer.specs.Fields.{lineBefore, lineBits}
+use Rattle.score.specs.Score.{Score, scoreOf, unitOf}
+use Rattle.score.proofs.Walk.{answered}
+use Rattle.score_writer.specs.Writing.{linesBits, scoreBits, scoreBytes, unitBits, unitBytes}
+use Rattle.score_writer.specs.Bytes.{ScoreBytesRead, ScoreBytesWritten, ScoreBytesTell, UnitBytesRead, UnitBytesWritten, UnitBytesTell, Example}
+use Rattle.score_writer.proofs.Whole.{score-here, whole-bytes, score-back, unit-here, whole-unit, unit-back}
+
+pub score-bytes-read : ScoreBytesRead
+unfolding scoreBytes
+score-bytes-read ls w h = ap scoreOf (bitsOf-bytesOf (scoreBits ls) (whole-bytes ls)) ∙ score-here ls w h
+
+whole : (s : List ℕ) → length (bitsOf s) % 8 ≡ 0
+whole s = omega (arith, length-bitsOf s)
+
+pub score-bytes-written : ScoreBytesWritten
+unfolding scoreBytes
+score-bytes-written s h e =
+    let ls = scoreOf (bitsOf s) .lines in
+    let b = score-back (bitsOf s) ls (whole s) (answered (bitsOf s) e) in
+    record { lawful-lines = b .lawful; count = b .count; bytes-are = ap bytesOf (sym (b .bits)) ∙ bytesOf-bitsOf s h }
+
+pub score-bytes-tell : ScoreBytesTell
+score-bytes-tell ls ms a b c d e =
+    ap (λ (x : Score). x .lines) (sym (score-bytes-read ls a c) ∙ ap (λ (x : List ℕ). scoreOf (bitsOf x)) e ∙ score-bytes-read ms b d)
+
+pub unit-whole : (l : Line) → T (lawful l) → unitOf (bitsOf (unitBytes l)) ≡ lineRead (got l (2 + length (lineBits l)))
+unfolding unitBytes
+unit-whole l w = ap unitOf (bitsOf-bytesOf (unitBits l) (whole-unit l)) ∙ unit-here l w
+
+pub unit-bytes-read : UnitBytesRead
+unfolding lineRead
+unit-bytes-read l w =
+    let e = unit-whole l w in
+    record { answer = ap (λ (r : LineRead). r .answer) e; line = ap (λ (r : LineRead). r .line) e }
+
+-- a unit that was taken, as its line and the position past it
+unit-answered : (bits : List Bool) → unitOf bits .answer ≡ Taken → unitOf bits ≡ lineRead (got (unitOf bits .line) (unitOf bits .next))
+unfolding lineRead
+unit-answered bits e = λ i. record { answer = e i; line = unitOf bits .line; next = unitOf bits .next }
+
+pub unit-bytes-written : UnitBytesWritten
+unfolding unitBytes
+unit-bytes-written s h e =
+    let r = unitOf (bitsOf s) in
+    let b = unit-back (bitsOf s) (r .line) (r .next) (whole s) (unit-answered (bitsOf s) e) in
+    (b .lawful, ap bytesOf (sym (b .bits)) ∙ bytesOf-bitsOf s h)
+
+pub unit-bytes-tell : UnitBytesTell
+unit-bytes-tell l m a b e = sym (unit-bytes-read l a .line) ∙ ap (λ (x : List ℕ). unitOf (bitsOf x) .line) e ∙ unit-bytes-read m b .line
+
+-- 00 00 18 FE 00 00 01 00
+pub example : Example
+unfolding scoreBytes scoreBits linesBits lineBits lineBefore line parts afterTime when timed kind body values float small fieldBits lineOf padded filledUp bytesFrom bytesOf bit field valueOf toBits ofBits
+example = refl

@@ -1,0 +1,62 @@
+-- Lists of lines and the bytes of their scores and units: each is made of the other. Statements only; the proofs are in proofs/Bytes.antt.
+use Prim.Native.Nat.{ℕ, _^_, _<_, _≤_}
+use mathlib.Core.Path.{_≡_}
+use mathlib.Core.Bool.{false}
+use mathlib.Core.List.{List, [], _∷_}
+use lib.Dec.{T}
+use lib.Ieee.{binary32, ofBits}
+use lib.ListN.{length, getD}
+use Rattle.answer.specs.declared.Answer.the-variants.{Taken}
+use Rattle.bitstream.specs.Bits.{bitsOf}
+use Rattle.score_line.specs.Reading.{lineOf}
+use Rattle.score_line.specs.declared.Line.{Line}
+use Rattle.score_line.specs.declared.When.the-variants.{Timed}
+use Rattle.score_line.specs.declared.Event.the-variants.{End}
+use Rattle.score_line.specs.LineFormat.{lawful}
+use Rattle.score.specs.Score.{taken, scoreOf, unitOf}
+use Rattle.score_writer.specs.Writing.{scoreBytes, unitBytes, mostLines, allLawful}
+
+-- every number is a byte
+abbrev pub Bytes : List ℕ → Type 0
+Bytes s = (i : ℕ) → getD s i 0 < 2 ^ 8
+
+-- every list of at most 1,048,575 lawful lines, written and read, is itself
+abbrev pub ScoreBytesRead : Type 0
+ScoreBytesRead = (ls : List Line) → T (allLawful ls) → length ls ≤ mostLines → scoreOf (bitsOf (scoreBytes ls)) ≡ taken ls
+
+-- an accepted score has such lines, and read and written again it is the same bytes
+pub record ScoreOfBytes (s : List ℕ) : Type 0 where
+  pub lawful-lines : T (allLawful (scoreOf (bitsOf s) .lines))
+  pub count : length (scoreOf (bitsOf s) .lines) ≤ mostLines
+  pub bytes-are : scoreBytes (scoreOf (bitsOf s) .lines) ≡ s
+
+abbrev pub ScoreBytesWritten : Type 0
+ScoreBytesWritten = (s : List ℕ) → Bytes s → scoreOf (bitsOf s) .answer ≡ Taken → ScoreOfBytes s
+
+-- different lawful scores have different bytes
+abbrev pub ScoreBytesTell : Type 0
+ScoreBytesTell =
+    (ls ms : List Line) → T (allLawful ls) → T (allLawful ms) → length ls ≤ mostLines → length ms ≤ mostLines → scoreBytes ls ≡ scoreBytes ms → ls ≡ ms
+
+-- ---- access units
+
+pub record UnitRead (l : Line) : Type 0 where
+  pub answer : unitOf (bitsOf (unitBytes l)) .answer ≡ Taken
+  pub line : unitOf (bitsOf (unitBytes l)) .line ≡ l
+
+abbrev pub UnitBytesRead : Type 0
+UnitBytesRead = (l : Line) → T (lawful l) → UnitRead l
+
+abbrev pub UnitBytesWritten : Type 0
+UnitBytesWritten = (s : List ℕ) → Bytes s → unitOf (bitsOf s) .answer ≡ Taken → T (lawful (unitOf (bitsOf s) .line)) × (unitBytes (unitOf (bitsOf s) .line) ≡ s)
+
+abbrev pub UnitBytesTell : Type 0
+UnitBytesTell = (l m : Line) → T (lawful l) → T (lawful m) → unitBytes l ≡ unitBytes m → l ≡ m
+
+-- ---- document 01's worked score: one line, end at beat 1, neither flag set
+
+abbrev pub endAtBeat1 : Line
+endAtBeat1 = lineOf (Timed false (ofBits binary32 0x3F800000)) false End []
+
+abbrev pub Example : Type 0
+Example = scoreBytes (endAtBeat1 ∷ []) ≡ 0x00 ∷ (0x00 ∷ (0x18 ∷ (0xFE ∷ (0x00 ∷ (0x00 ∷ (0x01 ∷ (0x00 ∷ [])))))))
