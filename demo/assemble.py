@@ -12,7 +12,8 @@ without a whole number. The score has one line to a line, times and durations in
     [*]time tempo number
     [*]time end
 
-"*" sets the priority flag. "//" starts a comment in both files. Nothing is written if anything is wrong.
+"*" sets the priority flag. "//" starts a comment in both files. Everything that the panel would refuse is told
+with its file, line and column, and then nothing is written. What is lawful and looks like a slip is a warning.
 """
 import os
 import re
@@ -24,16 +25,63 @@ from fractions import Fraction
 SIGNS = ("instr ivar ksig asig imports output if else abs sgn int frac min max ( ) { } , ; = ? : || && == != < > "
          "<= >= + - * / !").split()
 NUMBER_OF = {sign: number for number, sign in enumerate(SIGNS, 1)}
+KEYWORDS = {sign for sign in SIGNS if sign.isalpha()}
+CALLS = {"abs": 1, "sgn": 1, "int": 1, "frac": 1, "min": 2, "max": 2}
 SCORE_WORDS = ("control", "tempo", "end")
 DIGITS = r"(\d+\.?\d*|\.\d+)(e[-+]?\d{1,2})?(?![\w.])"
 LEXEME = re.compile(r"(?P<number>" + DIGITS + r")|(?P<word>[A-Za-z_]\w*)"
                     r"|(?P<sign>\|\||&&|==|!=|<=|>=|[(){},;=?:<>+\-*/!])")
 DECIMAL = re.compile("-?" + DIGITS + "$")
+NAME = re.compile(r"[A-Za-z_]\w*$")
 LARGEST = Fraction((2 << 127) - (1 << 104))
+
+# Document 01's sizes.
+MOST_BYTES, MOST_TOKENS, MOST_BRACKETS, MOST_BETWEEN = 16384, 2048, 24, 128
+MOST_INSTRUMENTS, MOST_NAMES, MOST_VALUES, MOST_WAITING = 8, 16, 8, 64
+
+# Binary operators, loosest first, all grouped from the left.
+LEVELS = (("||",), ("&&",), ("==", "!="), ("<", ">", "<=", ">="), ("+", "-"), ("*", "/"))
+
+# Rates, slowest first, by their letters.
+I, K, A = 0, 1, 2
+RATE_NAMES = ("i", "k", "a")
+DECLARED_RATE = {"ivar": I, "ksig": K, "asig": A}
+
+# Words that SAOL keeps for itself and the panel does not.
+RESERVED = set("""
+aopcode exports extend global inchannels interp iopcode kopcode krate map opcode oparray outbus outchannels
+preset return route sasbf send sequence spatialize srate table tablemap template turnoff while with xsig
+s_rate k_rate inchan outchan time dur cpuload itime input inGroup released params MIDIctrl MIDItouch MIDIbend
+sample data random step lineseg expseg cubicseg spline polynomial window harm harm_phase periodic buzz concat empty
+dbamp ampdb exp log sqrt sin cos atan pow log10 asin acos ceil floor gettune settune pchoct octpch cpspch pchcps
+cpsoct octcps pchmidi midipch octmidi midioct cpsmidi midicps ftlen ftloop ftloopend ftsr ftbasecps ftsetloop
+ftsetend ftsetbase ftsetsr tableread tablewrite oscil loscil doscil koscil kline aline kexpon aexpon kphasor aphasor
+pluck grain irand krand arand ilinrand klinrand alinrand iexprand kexprand aexprand kpoissonrand apoissonrand
+igaussrand kgaussrand agaussrand port hipass lopass bandpass bandstop biquad allpass comb fir iir firt iirt fft ifft
+rms gain balance compressor decimate upsamp downsamp samphold sblock delay delay1 fracdelay gettempo settempo chorus
+flange reverb speedt fx_speedc effect
+""".split())
 
 
 class Fault(Exception):
-    """What is wrong, with its file and line."""
+    """What is wrong, with its place."""
+
+
+class Token:
+    """A word, number or sign of the orchestra, and where it stands."""
+
+    def __init__(self, kind, text, where):
+        self.kind, self.text, self.where = kind, text, where
+
+
+class Report:
+    """The warnings, in the order in which they were met."""
+
+    def __init__(self):
+        self.warnings = []
+
+    def warn(self, where, text):
+        self.warnings.append(f"{where}: warning: {text}")
 
 
 def float_bits(text, where):
@@ -78,72 +126,310 @@ class Symbols:
         return self.of.setdefault(name, len(self.of))
 
 
-def tokens_of(path, symbols):
-    """The orchestra's bytes, and its instruments with their numbers of fields."""
-    out, fields, opened, header = bytearray(), {}, [], None
+# ---- the orchestra's tokens and their measures
+
+def tokens_of(path):
+    """The orchestra's tokens."""
+    tokens = []
     for number, line in lines_of(path):
-        where = f"{path}:{number}"
         at = 0
         while True:
             while at < len(line) and line[at].isspace():
                 at += 1
             if at == len(line):
                 break
+            where = f"{path}:{number}:{at + 1}"
             found = LEXEME.match(line, at)
             if not found:
-                raise Fault(f"{where}: no token begins with {line[at]!r}")
-            text, at = found.group(), found.end()
-            if found.lastgroup == "word" and text not in NUMBER_OF:
-                out += struct.pack(">BH", 0xF0, symbols(text, where))
-                header = header_step(header, text, fields, where)
-                continue
-            if found.group("number"):
-                out += number_bytes(text, where)
-                continue
-            out.append(NUMBER_OF[text])
-            if text == "instr":
-                header = "name"
-            if text == ")" and header:
-                header = None
-            match_brackets(text, where, opened)
-    if opened:
-        raise Fault(f"{opened[-1][1]}: this {opened[-1][0]} is never closed")
+                raise Fault(f"{where}: no token begins with `{line[at]}`")
+            kind, text, at = found.lastgroup, found.group(), found.end()
+            if kind == "word":
+                tokens.append(Token("sign" if text in KEYWORDS else "name", text, where))
+            else:
+                tokens.append(Token("number" if found.group("number") else "sign", text, where))
+    return tokens
+
+
+def measured(tokens):
+    """Document 01's token measures."""
+    if len(tokens) > MOST_TOKENS:
+        raise Fault(f"{tokens[MOST_TOKENS].where}: more than {MOST_TOKENS:,} tokens")
+    opened, between = 0, 0
+    for token in tokens:
+        if token.kind == "sign" and token.text in "({":
+            opened += 1
+            if opened > MOST_BRACKETS:
+                raise Fault(f"{token.where}: more than {MOST_BRACKETS} brackets are open here")
+        elif token.kind == "sign" and token.text in ")}":
+            opened = max(opened - 1, 0)
+        between = 0 if token.text in (";", "{", "}") else between + 1
+        if between > MOST_BETWEEN:
+            raise Fault(f"{token.where}: more than {MOST_BETWEEN} tokens since the last `;`, `{{` or `}}`")
+
+
+def number_bytes(token):
+    if token.text.isdigit():
+        if int(token.text) > 16777216:
+            raise Fault(f"{token.where}: {token.text} is above 16,777,216; write it with a point")
+        return struct.pack(">BI", 0xF2, int(token.text))
+    return struct.pack(">BI", 0xF1, float_bits(token.text, token.where))
+
+
+def orchestra_bytes(path, tokens, symbols):
+    out = bytearray()
+    for token in tokens:
+        if token.kind == "name":
+            out += struct.pack(">BH", 0xF0, symbols(token.text, token.where))
+        elif token.kind == "number":
+            out += number_bytes(token)
+        else:
+            out.append(NUMBER_OF[token.text])
     out.append(0xFF)
-    if len(out) > 16384:
-        raise Fault(f"{path}: {len(out)} bytes; the panel takes at most 16,384")
-    return bytes(out), fields
+    if len(out) > MOST_BYTES:
+        raise Fault(f"{path}: {len(out):,} bytes; the panel takes at most {MOST_BYTES:,}")
+    return bytes(out)
 
 
-def header_step(header, name, fields, where):
-    """Follows an instrument's header: its name, then its fields."""
-    if header == "name":
-        if name in fields:
-            raise Fault(f"{where}: a second instrument named {name}")
-        fields[name] = 0
-        return (name,)
-    if header:
-        fields[header[0]] += 1
-    return header
+# ---- grammar, names and rates
+
+class Instrument:
+    """An instrument's name, its names with their rates, and which of them score lines may set."""
+
+    def __init__(self, token):
+        self.name, self.where = token.text, token.where
+        self.fields, self.rates, self.imports = 0, {}, set()
 
 
-def number_bytes(text, where):
-    if text.isdigit():
-        if int(text) > 16777216:
-            raise Fault(f"{where}: {text} is above 16,777,216; write it with a point")
-        return struct.pack(">BI", 0xF2, int(text))
-    return struct.pack(">BI", 0xF1, float_bits(text, where))
+class Reader:
+    """Reads the orchestra by its grammar; the rules of names and rates are checked behind it, in the panel's order."""
+
+    def __init__(self, path, tokens):
+        self.path, self.tokens, self.at = path, tokens, 0
+        self.instruments, self.later = [], []
+
+    def place(self):
+        if self.at < len(self.tokens):
+            return self.tokens[self.at].where
+        return f"{self.path}: at the end"
+
+    def found(self):
+        return f"`{self.tokens[self.at].text}`" if self.at < len(self.tokens) else "nothing"
+
+    def is_next(self, *signs):
+        return (self.at < len(self.tokens) and self.tokens[self.at].kind == "sign"
+                and self.tokens[self.at].text in signs)
+
+    def take(self):
+        self.at += 1
+        return self.tokens[self.at - 1]
+
+    def sign(self, text, what):
+        if not self.is_next(text):
+            raise Fault(f"{self.place()}: `{text}` expected {what}, not {self.found()}")
+        return self.take()
+
+    def name(self, what):
+        if self.at < len(self.tokens) and self.tokens[self.at].kind == "name":
+            return self.take()
+        raise Fault(f"{self.place()}: {what} expected, not {self.found()}")
+
+    def orchestra(self):
+        if not self.tokens:
+            raise Fault(f"{self.path}: no instrument")
+        while self.at < len(self.tokens):
+            self.sign("instr", "to begin an instrument")
+            self.instrument()
+        return self.instruments
+
+    def instrument(self):
+        instrument = Instrument(self.name("an instrument's name"))
+        self.instruments.append(instrument)
+        self.sign("(", f"behind `{instrument.name}`")
+        fields = [] if self.is_next(")") else self.names("a field's name")
+        self.sign(")", "behind the fields")
+        instrument.fields = len(fields)
+        self.declare(instrument, fields, I)
+        self.sign("{", f"to begin the body of `{instrument.name}`")
+        while self.is_next("ivar", "ksig", "asig", "imports"):
+            self.declaration(instrument)
+        self.statements(instrument, ())
+        self.sign("}", f"to end `{instrument.name}`, or a statement")
+
+    def names(self, what):
+        names = [self.name(what)]
+        while self.is_next(","):
+            self.take()
+            names.append(self.name(what))
+        return names
+
+    def declaration(self, instrument):
+        kind = self.take().text
+        imported = kind == "imports"
+        if imported:
+            self.sign("ksig", "behind `imports`")
+            kind = "ksig"
+        names = self.names("a name to declare")
+        self.sign(";", "behind the declared names")
+        self.declare(instrument, names, DECLARED_RATE[kind])
+        if imported:
+            instrument.imports.update(token.text for token in names)
+
+    def declare(self, instrument, tokens, rate):
+        for token in tokens:
+            self.later.append((0, self.declared_once, (instrument, token, rate)))
+
+    def declared_once(self, instrument, token, rate):
+        if token.text in instrument.rates:
+            raise Fault(f"{token.where}: `{token.text}` is declared twice in `{instrument.name}`")
+        if len(instrument.rates) == MOST_NAMES:
+            raise Fault(f"{token.where}: `{token.text}` is one name too many; `{instrument.name}` may have {MOST_NAMES}")
+        instrument.rates[token.text] = rate
+
+    def statements(self, instrument, guards):
+        while not self.is_next("}") and self.at < len(self.tokens):
+            if self.is_next("output"):
+                self.output(instrument, guards)
+            elif self.is_next("if"):
+                self.branch(instrument, guards)
+            elif self.tokens[self.at].kind == "name":
+                self.assignment(instrument, guards)
+            elif self.is_next("ivar", "ksig", "asig", "imports"):
+                raise Fault(f"{self.place()}: `{self.tokens[self.at].text}`: a declaration stands before the statements "
+                            "and in no if")
+            else:
+                raise Fault(f"{self.place()}: a statement or `}}` expected, not {self.found()}")
+
+    def assignment(self, instrument, guards):
+        target = self.take()
+        self.sign("=", f"behind `{target.text}`")
+        value = self.expression()
+        self.sign(";", "behind an assignment")
+        self.used(instrument, [target] + value)
+        self.later.append((2, self.assigned, (instrument, target, value, guards)))
+
+    def assigned(self, instrument, target, value, guards):
+        rate = instrument.rates[target.text]
+        for token in value:
+            if instrument.rates[token.text] > rate:
+                raise Fault(f"{token.where}: `{token.text}` has rate {RATE_NAMES[instrument.rates[token.text]]}, faster than "
+                            f"`{target.text}`, which has rate {RATE_NAMES[rate]}")
+        self.guarded(instrument, target, rate, guards)
+
+    def output(self, instrument, guards):
+        word = self.take()
+        self.sign("(", "behind `output`")
+        value = self.expression()
+        self.sign(")", "behind what is put out")
+        self.sign(";", "behind `output (..)`")
+        self.used(instrument, value)
+        self.later.append((2, self.guarded, (instrument, word, A, guards)))
+
+    def branch(self, instrument, guards):
+        self.take()
+        self.sign("(", "behind `if`")
+        guard = self.expression()
+        self.sign(")", "behind the guard")
+        self.used(instrument, guard)
+        self.block(instrument, guards + tuple(guard), "behind the guard")
+        if self.is_next("else"):
+            self.take()
+            self.block(instrument, guards + tuple(guard), "behind `else`")
+
+    def block(self, instrument, guards, what):
+        self.sign("{", what)
+        self.statements(instrument, guards)
+        self.sign("}", "to end the block, or a statement")
+
+    def guarded(self, instrument, token, rate, guards):
+        for guard in guards:
+            if instrument.rates[guard.text] > rate:
+                raise Fault(f"{token.where}: `{token.text}` has rate {RATE_NAMES[rate]}, slower than `{guard.text}` in a guard "
+                            f"around it, which has rate {RATE_NAMES[instrument.rates[guard.text]]}")
+
+    def used(self, instrument, tokens):
+        self.later.append((1, self.all_declared, (instrument, tokens)))
+
+    def all_declared(self, instrument, tokens):
+        for token in tokens:
+            if token.text not in instrument.rates:
+                raise Fault(f"{token.where}: `{token.text}` is not declared in `{instrument.name}`")
+
+    # An expression gives the names in it: its rate is that of the fastest, and i without any.
+
+    def expression(self):
+        names = self.binary(0)
+        if self.is_next("?"):
+            self.take()
+            names += self.expression()
+            self.sign(":", "between the two values of a choice")
+            names += self.expression()
+        return names
+
+    def binary(self, level):
+        if level == len(LEVELS):
+            return self.unary()
+        names = self.binary(level + 1)
+        while self.is_next(*LEVELS[level]):
+            self.take()
+            names += self.binary(level + 1)
+        return names
+
+    def unary(self):
+        while self.is_next("!", "-"):
+            self.take()
+        if self.is_next(*CALLS):
+            return self.call()
+        if self.is_next("("):
+            self.take()
+            names = self.expression()
+            self.sign(")", "to close a bracket")
+            return names
+        if self.at < len(self.tokens) and self.tokens[self.at].kind in ("name", "number"):
+            token = self.take()
+            return [token] if token.kind == "name" else []
+        raise Fault(f"{self.place()}: a value expected, not {self.found()}")
+
+    def call(self):
+        word = self.take()
+        self.sign("(", f"behind `{word.text}`")
+        names = self.expression()
+        for _ in range(1, CALLS[word.text]):
+            self.sign(",", f"between the two values of `{word.text}`")
+            names += self.expression()
+        self.sign(")", f"behind the values of `{word.text}`")
+        return names
+
+    def rules(self):
+        seen = {}
+        for instrument in self.instruments:
+            if instrument.name in seen:
+                raise Fault(f"{instrument.where}: a second instrument named `{instrument.name}`")
+            seen[instrument.name] = instrument
+        if len(self.instruments) > MOST_INSTRUMENTS:
+            raise Fault(f"{self.instruments[MOST_INSTRUMENTS].where}: more than {MOST_INSTRUMENTS} instruments")
+        for stage in range(3):
+            for at, check, arguments in self.later:
+                if at == stage:
+                    check(*arguments)
+        return seen
 
 
-def match_brackets(text, where, opened):
-    if text in "({":
-        opened.append((text, where))
-    elif text in ")}":
-        if not opened:
-            raise Fault(f"{where}: {text} closes nothing")
-        bracket, place = opened.pop()
-        if bracket != "({"[")}".index(text)]:
-            raise Fault(f"{where}: {text} meets the open {bracket} of {place}")
+def orchestra_of(path, symbols, report):
+    """The orchestra's bytes, and its instruments by name."""
+    tokens = tokens_of(path)
+    out = orchestra_bytes(path, tokens, symbols)
+    measured(tokens)
+    reader = Reader(path, tokens)
+    reader.orchestra()
+    warned = set()
+    for token in tokens:
+        if token.kind == "name" and token.text in RESERVED and token.text not in warned:
+            warned.add(token.text)
+            report.warn(token.where, f"`{token.text}` is a reserved word of SAOL; other players refuse it as a name")
+    return out, reader.rules()
 
+
+# ---- the score
 
 class Bits:
     """Bits, most significant first."""
@@ -159,91 +445,111 @@ class Bits:
         return self.value.to_bytes(self.length // 8, "big")
 
 
-def ranged(text, what, low, high, where, also=()):
+def decimal(token, what):
+    if not DECIMAL.match(token.text):
+        raise Fault(f"{token.where}: {what} should be a number, not `{token.text}`")
+    return float_bits(token.text, token.where)
+
+
+def ranged(token, what, low, high, also=()):
     """The bits of a number that has to lie in a range."""
-    if not DECIMAL.match(text):
-        raise Fault(f"{where}: {what} should be a number, not {text!r}")
-    bits = float_bits(text, where)
+    bits = decimal(token, what)
     value = struct.unpack(">f", struct.pack(">I", bits))[0]
     if value in also or (low <= value <= high and bits != 0x80000000):
         return bits
-    raise Fault(f"{where}: {what} {text} is not from {low:,} to {high:,}")
+    raise Fault(f"{token.where}: {what} {token.text} is not from {low:,} to {high:,}")
 
 
-def symbol_of(word, what, symbols, where):
-    if not re.fullmatch(r"[A-Za-z_]\w*", word) or word in SCORE_WORDS:
-        raise Fault(f"{where}: {word!r} is no {what}")
-    return symbols(word, where)
+def symbol_of(token, what, symbols):
+    if not NAME.match(token.text) or token.text in SCORE_WORDS:
+        raise Fault(f"{token.where}: `{token.text}` is no {what}")
+    return symbols(token.text, token.where)
 
 
-def put_line(bits, text, fields, symbols, where):
-    """One score line, bit by bit."""
-    priority = text.startswith("*")
-    text = text[1:] if priority else text
-    label = None
-    if ":" in text:
-        label, text = (part.strip() for part in text.split(":", 1))
-    words = text.split()
-    if len(words) < 2:
-        raise Fault(f"{where}: a line has a time and what is to happen then")
-    bits.put(2, 0b10)
-    bits.put(32, ranged(words[0], "the time", 0, 16384, where))
-    bits.put(1, priority)
-    if words[1] == "end" and len(words) == 2 and label is None:
-        bits.put(3, 4)
-    elif words[1] == "tempo" and len(words) == 3 and label is None:
-        bits.put(3, 5)
-        bits.put(32, ranged(words[2], "the tempo", 1, 960, where))
-    elif len(words) == 5 and words[2] == "control" and label is None:
-        put_control(bits, words, symbols, where)
-    elif len(words) >= 3 and words[1] not in SCORE_WORDS and words[2] != "control":
-        put_instr(bits, label, words, fields, symbols, where)
-    else:
-        raise Fault(f"{where}: not a line of the four kinds")
+class Score:
+    """The score's lines, bit by bit."""
+
+    def __init__(self, path, instruments, symbols, report):
+        self.path, self.instruments, self.symbols, self.report = path, instruments, symbols, report
+        self.bits, self.ended = Bits(), False
+        self.imported = set().union(*(instrument.imports for instrument in instruments.values()))
+
+    def line(self, number, text):
+        where = f"{self.path}:{number}"
+        start = len(text) - len(text.lstrip())
+        priority = text[start] == "*"
+        start += priority
+        label = None
+        if ":" in text:
+            colon = text.index(":")
+            label = Token("word", text[start:colon].strip(), f"{where}:{start + 1}")
+            start = colon + 1
+        words = [Token("word", found.group(), f"{where}:{found.start() + 1}")
+                 for found in re.compile(r"\S+").finditer(text, start)]
+        if len(words) < 2:
+            raise Fault(f"{where}: a line has a time and what is to happen then")
+        self.bits.put(2, 0b10)
+        self.bits.put(32, ranged(words[0], "the time", 0, 16384))
+        self.bits.put(1, priority)
+        kind = words[1].text
+        if kind == "end" and len(words) == 2 and label is None:
+            self.bits.put(3, 4)
+            self.ended = True
+        elif kind == "tempo" and len(words) == 3 and label is None:
+            self.bits.put(3, 5)
+            self.bits.put(32, ranged(words[2], "the tempo", 1, 960))
+        elif len(words) == 5 and words[2].text == "control" and label is None:
+            self.control(words)
+        elif len(words) >= 3 and kind not in SCORE_WORDS and words[2].text != "control":
+            self.instr(label, words)
+        else:
+            raise Fault(f"{where}: not a line of the four kinds")
+
+    def control(self, words):
+        self.bits.put(3, 1)
+        self.bits.put(1, 1)
+        self.bits.put(16, symbol_of(words[1], "label", self.symbols))
+        self.bits.put(16, symbol_of(words[3], "name", self.symbols))
+        self.bits.put(32, decimal(words[4], "the value"))
+        if words[3].text not in self.imported:
+            self.report.warn(words[3].where, f"no instrument imports `{words[3].text}`; the line will change nothing")
+
+    def instr(self, label, words):
+        name, values = words[1], words[3:]
+        if name.text not in self.instruments:
+            raise Fault(f"{name.where}: no instrument `{name.text}` in the orchestra")
+        fields = self.instruments[name.text].fields
+        if len(values) > min(MOST_VALUES, fields):
+            raise Fault(f"{values[min(MOST_VALUES, fields)].where}: {len(values)} values, but `{name.text}` has {fields} fields and a "
+                        f"line at most {MOST_VALUES} values")
+        self.bits.put(3, 0)
+        self.bits.put(1, label is not None)
+        if label is not None:
+            self.bits.put(16, symbol_of(label, "label", self.symbols))
+        self.bits.put(16, self.symbols(name.text, name.where))
+        self.bits.put(32, ranged(words[2], "the duration", 0, 16384, also=(-1,)))
+        self.bits.put(8, len(values))
+        for value in values:
+            self.bits.put(32, decimal(value, "a value"))
 
 
-def put_control(bits, words, symbols, where):
-    bits.put(3, 1)
-    bits.put(1, 1)
-    bits.put(16, symbol_of(words[1], "label", symbols, where))
-    bits.put(16, symbol_of(words[3], "name", symbols, where))
-    bits.put(32, value_bits(words[4], where))
-
-
-def value_bits(text, where):
-    if not DECIMAL.match(text):
-        raise Fault(f"{where}: {text!r} is no number")
-    return float_bits(text, where)
-
-
-def put_instr(bits, label, words, fields, symbols, where):
-    name, values = words[1], words[3:]
-    if name not in fields:
-        raise Fault(f"{where}: no instrument {name} in the orchestra")
-    if len(values) > min(8, fields[name]):
-        raise Fault(f"{where}: {len(values)} values, but {name} has {fields[name]} fields and a line at most 8 values")
-    bits.put(3, 0)
-    bits.put(1, label is not None)
-    if label is not None:
-        bits.put(16, symbol_of(label, "label", symbols, where))
-    bits.put(16, symbols(name, where))
-    bits.put(32, ranged(words[2], "the duration", 0, 16384, where, also=(-1,)))
-    bits.put(8, len(values))
-    for value in values:
-        bits.put(32, value_bits(value, where))
-
-
-def score_of(path, fields, symbols):
+def score_of(path, instruments, symbols, report):
     """The score's bytes and the number of its lines."""
-    lines = [(number, line.strip()) for number, line in lines_of(path) if line.strip()]
-    bits = Bits()
+    lines = [(number, line) for number, line in lines_of(path) if line.strip()]
     if len(lines) > 1048575:
         raise Fault(f"{path}: more than 1,048,575 lines")
-    bits.put(20, len(lines))
+    score = Score(path, instruments, symbols, report)
+    score.bits.put(20, len(lines))
     for number, line in lines:
-        put_line(bits, line, fields, symbols, f"{path}:{number}")
-    return bits.bytes(), len(lines)
+        score.line(number, line)
+    if not score.ended:
+        report.warn(path, "no end line: the piece goes on as long as anything waits or sounds")
+    if len(lines) > MOST_WAITING:
+        report.warn(path, f"{len(lines)} lines do not fit into one stick; the panel lets at most {MOST_WAITING} wait")
+    return score.bits.bytes(), len(lines)
 
+
+# ---- the files
 
 def write_both(files):
     """Writes all files aside first, then puts each in its place."""
@@ -269,17 +575,20 @@ def main(arguments):
         print(__doc__.strip(), file=sys.stderr)
         return 2
     orchestra, score = arguments
+    report, fault = Report(), None
     try:
         symbols = Symbols()
-        tokens, fields = tokens_of(orchestra, symbols)
-        lines, count = score_of(score, fields, symbols)
+        tokens, instruments = orchestra_of(orchestra, symbols, report)
+        lines, count = score_of(score, instruments, symbols, report)
         write_both([(orchestra + ".bin", tokens), (score + ".bin", lines)])
-    except Fault as fault:
-        print(f"assemble: {fault}", file=sys.stderr)
+    except Fault as told:
+        fault = told
+    for warning in report.warnings:
+        print(warning, file=sys.stderr)
+    if fault:
+        print(fault, file=sys.stderr)
         return 1
     print(f"{orchestra}.bin: {len(tokens)} bytes; {score}.bin: {len(lines)} bytes, {count} lines")
-    if count > 64:
-        print(f"note: {count} lines do not fit into one stick; the panel lets at most 64 wait", file=sys.stderr)
     return 0
 
 

@@ -3,16 +3,16 @@
 // A plucked lead. held: how many cycles the string is held before it is damped.
 // bright: 0 gives a soft tone, anything else the hollow tone of a clipped triangle.
 instr lead(pitch, loud, held, bright) {
-    ivar step;
+    ivar grow;
     ksig age, force;
     asig phase, ramp, tone, level;
 
-    step = pitch / 32000;
+    grow = pitch / 32000;
 
     force = age < held ? max(0.35, 1 - age / 60) : 0;
     age = age + 1;
 
-    phase = phase + step;
+    phase = phase + grow;
     if (phase >= 1) {
         phase = phase - 1;
     }
@@ -29,16 +29,16 @@ instr lead(pitch, loud, held, bright) {
 
 // A plucked bass: a triangle that dies away.
 instr bass(pitch, loud) {
-    ivar step;
+    ivar grow;
     ksig force, struck;
     asig phase, level;
 
-    step = pitch / 32000;
+    grow = pitch / 32000;
 
     force = struck ? force * 0.985 : 1;
-    struck = 1;
+    struck = max(struck, 1);
 
-    phase = frac(phase + step);
+    phase = frac(phase + grow);
     level = level + (force - level) * 0.004;
     output((4 * abs(phase - 0.5) - 1) * level * loud);
 }
@@ -46,12 +46,12 @@ instr bass(pitch, loud) {
 // A held tone that score lines make louder and softer through its swell.
 instr pad(pitch) {
     imports ksig swell;
-    ivar step;
+    ivar grow;
     asig phase, ramp, tone, level;
 
-    step = pitch / 32000;
+    grow = pitch / 32000;
 
-    phase = frac(phase + step);
+    phase = frac(phase + grow);
     ramp = 2 * phase - 1;
     tone = 4 * ramp * (1 - abs(ramp));
     level = level + (swell - level) * 0.0001;

@@ -1,32 +1,28 @@
-// Whole files and numbers from the command line.
+// Whole files, and what stands at the name that is to be written.
 
-// Told about a file that is longer than the buffer.
-fn too_long(path: &[u8]) {
-    io::write_all(2, path);
-    io::write_all(2, b": more bytes than the panel takes\n");
+// More than any score that a panel takes.
+pub const SCORE_ROOM: usize = 1048576;
+
+pub fn score_buffer() -> [u8; SCORE_ROOM] {
+    [0; SCORE_ROOM]
 }
 
-// The rest of an open file; a number past any file's length where it cannot be read or is longer than the buffer.
+// An open file's bytes, as many as there is room for; a number past any length where it cannot be read.
 fn taken_in(fd: i32, path: &[u8], buffer: &mut [u8]) -> usize {
     let n = io::read_full(fd, buffer);
     let mut one = [0u8; 1];
-    let more = libc::read(fd, &mut one);
-    if more < 0 {
-        os::fail(path);
-        return usize::MAX;
-    }
-    if 0 < more {
-        too_long(path);
+    if libc::read(fd, &mut one) < 0 {
+        crate::words::fault(path);
         return usize::MAX;
     }
     n
 }
 
-// A file's bytes into a buffer, and how many; on any fault a message and a number past any file's length.
+// A file's bytes into a buffer, as many as there is room for, and how many; on any fault a message and a number past any length.
 pub fn read(path: &[u8], buffer: &mut [u8]) -> usize {
     let fd = os::open_read(path);
     if fd < 0 {
-        os::fail(path);
+        crate::words::fault(path);
         return usize::MAX;
     }
     let n = taken_in(fd, path, buffer);
@@ -34,33 +30,64 @@ pub fn read(path: &[u8], buffer: &mut [u8]) -> usize {
     n
 }
 
-fn is_digit(b: u8) -> bool {
-    if b < b'0' {
+pub fn read_score(path: &[u8], buffer: &mut [u8; SCORE_ROOM]) -> usize {
+    read(path, buffer)
+}
+
+// ---- what stands at a name
+
+fn is_link(path: &[u8]) -> bool {
+    let mut name = io::buffer();
+    ports::put_bytes(&mut name, 0, path);
+    name[4095] = 0;
+    let mut one = [0u8; 1];
+    0 <= libc::readlink(&name, &mut one)
+}
+
+// Only a regular file can be made as long as it is.
+fn is_regular(fd: i32) -> bool {
+    let length = libc::lseek(fd, 0, libc::SEEK_END);
+    libc::ftruncate(fd, length) == 0
+}
+
+// Empty, or the first bytes of a WAV file. No orchestra or score that the panel takes is either.
+fn is_sound(fd: i32) -> bool {
+    let mut first = [0u8; 4];
+    let n = libc::pread(fd, &mut first, 0);
+    if n == 0 {
+        return true;
+    }
+    ports::word_at(&first, 0) == 0x5249_4646
+}
+
+fn is_ours(fd: i32, path: &[u8]) -> bool {
+    if !is_regular(fd) {
+        crate::words::not_regular(path);
         return false;
     }
-    b <= b'9'
+    if !is_sound(fd) {
+        crate::words::not_sound(path);
+        return false;
+    }
+    true
 }
 
-fn digit(b: u8) -> u32 {
-    if is_digit(b) {
-        return (b as u32) % 48;
+// Whether a file of this name may be made or replaced, with a message where not: a new name, an empty file or a WAV
+// file that may be written.
+pub fn may_be_written(path: &[u8]) -> bool {
+    if is_link(path) {
+        crate::words::not_regular(path);
+        return false;
     }
-    0
-}
-
-// A whole number in decimal, of at most nine digits; 0 where there is none.
-pub fn number(text: &[u8]) -> u32 {
-    let mut n: u32 = 0;
-    let mut i: usize = 0;
-    while i < text.len() {
-        if !is_digit(text[i]) {
-            return 0;
+    let fd = os::open_update(path);
+    if fd < 0 {
+        if os::errno() == libc::ENOENT {
+            return true;
         }
-        if 99999999 < n {
-            return 0;
-        }
-        n = n % 100000000 * 10 + digit(text[i]) % 10;
-        i += 1;
+        crate::words::fault(path);
+        return false;
     }
-    n
+    let ours = is_ours(fd, path);
+    libc::close(fd);
+    ours
 }

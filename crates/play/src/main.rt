@@ -1,27 +1,12 @@
-// Plays an orchestra and a score into a WAV file.
+// Plays an orchestra and a score into a WAV file, or as a WAV to standard output.
 mod files;
+mod names;
 mod tape;
 mod words;
 
 use panel::Panel;
 
 const DEFAULT_CEILING: u32 = 32767;
-
-fn usage() {
-    io::write_all(2, b"usage: play ORCHESTRA SCORE OUT.wav [CEILING]\n");
-    io::write_all(
-        2,
-        b"  Plays the score's lines through the orchestra into a WAV file: 32,000 Hz, 16 bits, one channel.\n",
-    );
-    io::write_all(
-        2,
-        b"  CEILING is the loudest sample, from 1 to 32,767; without it 32,767.\n",
-    );
-    io::write_all(
-        2,
-        b"  A piece that does not end is stopped after 10 minutes.\n",
-    );
-}
 
 // The score into a panel, and then the piece.
 fn performed(panel: Panel, path: &[u8], score: &[u8], out: &[u8]) {
@@ -35,14 +20,26 @@ fn performed(panel: Panel, path: &[u8], score: &[u8], out: &[u8]) {
     words::refused_score(path, score.len(), r.line, a);
 }
 
-fn with_score(panel: Panel, path: &[u8], out: &[u8]) {
-    let mut buffer = io::large_buffer();
-    let n = files::read(path, &mut buffer);
-    if n <= 65536 {
+// The first n bytes of a buffer are the score, if it did not fill the buffer.
+fn with_bytes(panel: Panel, path: &[u8], buffer: &[u8], n: usize, out: &[u8]) {
+    if n < buffer.len() {
         performed(panel, path, &buffer[..n], out);
+        return;
     }
+    words::unread_score(path, n);
 }
 
+fn with_buffer(panel: Panel, path: &[u8], buffer: &[u8; files::SCORE_ROOM], n: usize, out: &[u8]) {
+    with_bytes(panel, path, buffer, n, out);
+}
+
+fn with_score(panel: Panel, path: &[u8], out: &[u8]) {
+    let mut buffer = files::score_buffer();
+    let n = files::read_score(path, &mut buffer);
+    with_buffer(panel, path, &buffer, n, out);
+}
+
+// A fresh start refuses a number outside its range only of the ceiling.
 fn with_orchestra(bytes: &[u8], ceiling: u32, path: &[u8], score: &[u8], out: &[u8]) {
     let f = Panel::fresh(bytes, ceiling);
     let a = f.answer;
@@ -51,18 +48,11 @@ fn with_orchestra(bytes: &[u8], ceiling: u32, path: &[u8], score: &[u8], out: &[
         with_score(panel, score, out);
         return;
     }
-    words::refused(path, a);
+    words::refused_start(path, a);
 }
 
+// An orchestra that fills the buffer is far longer than the panel takes, and is refused for its length.
 fn played(ceiling: u32, orchestra: &[u8], score: &[u8], out: &[u8]) {
-    if ceiling < 1 {
-        words::bad_ceiling();
-        return;
-    }
-    if 32767 < ceiling {
-        words::bad_ceiling();
-        return;
-    }
     let mut buffer = io::large_buffer();
     let n = files::read(orchestra, &mut buffer);
     if n <= 65536 {
@@ -77,32 +67,41 @@ fn ceiling() -> u32 {
     }
     let mut text = [0u8; 16];
     let n = os::arg(4, &mut text);
-    files::number(&text[..n])
+    ports::number(&text[..n])
 }
 
 fn with_out(orchestra: &[u8], score: &[u8]) {
     let mut path = io::buffer();
-    let n = os::arg(3, &mut path);
+    let n = names::named(3, &mut path);
+    if n == 0 {
+        return;
+    }
     played(ceiling(), orchestra, score, &path[..n]);
 }
 
 fn with_paths(orchestra: &[u8]) {
     let mut path = io::buffer();
-    let n = os::arg(2, &mut path);
+    let n = names::named(2, &mut path);
+    if n == 0 {
+        return;
+    }
     with_out(orchestra, &path[..n]);
 }
 
 fn main() {
     let given = os::arg_count();
     if given < 4 {
-        usage();
+        words::usage();
         return;
     }
     if 5 < given {
-        usage();
+        words::usage();
         return;
     }
     let mut path = io::buffer();
-    let n = os::arg(1, &mut path);
+    let n = names::named(1, &mut path);
+    if n == 0 {
+        return;
+    }
     with_paths(&path[..n]);
 }

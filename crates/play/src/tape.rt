@@ -1,8 +1,11 @@
-// Cycle after cycle into a WAV file, which gets its name once it is whole.
+// Cycle after cycle into a WAV file, which gets its name once it is whole, or to standard output.
 use panel::Panel;
 
 // 10 minutes.
 const MOST_CYCLES: u32 = 60000;
+
+// The size in the header of a WAV whose length is not known yet.
+const UNKNOWN: u32 = 0xffff_ffff;
 
 struct Tape {
     panel: Panel,
@@ -12,13 +15,21 @@ struct Tape {
     lost: bool,
 }
 
-// The 44 bytes in front of the samples, for a number of cycles.
-fn write_header(fd: i32, cycles: u32) -> bool {
-    let size = cycles % 65536 * 640;
+// Writes, and tells a fault.
+fn written(fd: i32, bytes: &[u8]) -> bool {
+    if io::write_all(fd, bytes) {
+        return true;
+    }
+    crate::words::unwritten();
+    false
+}
+
+// The 44 bytes in front of the samples: `whole` counts those behind it, `size` those of the samples.
+fn write_header(fd: i32, whole: u32, size: u32) -> bool {
     let mut h = [0u8; 44];
     let riff = ports::put_bytes(&mut h, 0, b"RIFF");
-    let whole = ports::put_little_word(&mut h, riff, size + 36);
-    let wave = ports::put_bytes(&mut h, whole, b"WAVEfmt ");
+    let form = ports::put_little_word(&mut h, riff, whole);
+    let wave = ports::put_bytes(&mut h, form, b"WAVEfmt ");
     let format = ports::put_little_word(&mut h, wave, 16);
     let pcm = ports::put_little_half(&mut h, format, 1);
     let channels = ports::put_little_half(&mut h, pcm, 1);
@@ -28,46 +39,47 @@ fn write_header(fd: i32, cycles: u32) -> bool {
     let bits = ports::put_little_half(&mut h, frame, 16);
     let data = ports::put_bytes(&mut h, bits, b"data");
     ports::put_little_word(&mut h, data, size);
-    io::write_all(fd, &h)
+    written(fd, &h)
 }
 
 fn write_block(fd: i32, block: &[i16]) -> bool {
     let mut bytes = [0u8; 640];
     ports::put_little_samples(&mut bytes, 0, block);
-    io::write_all(fd, &bytes)
+    written(fd, &bytes)
 }
 
 fn shown(cycles: u32) {
-    if cycles % 1000 == 0 {
+    if cycles % 100 == 0 {
         crate::words::progress(cycles / 100);
     }
 }
 
-fn one_cycle(t: Tape, fd: i32) -> Tape {
+// Nothing waits and nothing sounds: only silence could follow.
+fn is_over(panel: Panel) -> bool {
+    if 0 < Panel::waiting_lines(panel) {
+        return false;
+    }
+    Panel::sounding_notes(panel) == 0
+}
+
+fn one_cycle(mut t: Tape, fd: i32) -> Tape {
     let mut block = [0i16; 320];
     let old = t.panel;
     let r = Panel::cycle(old, &mut block);
     let a = r.answer;
     let panel = r.panel;
+    t.panel = panel;
     if answer::is_taken(a) {
-        let written = write_block(fd, &block);
         let n = t.cycles % 65536 + 1;
         shown(n);
-        return Tape {
-            panel: panel,
-            cycles: n,
-            sum: ports::checked_sum(t.sum, &block),
-            ended: false,
-            lost: !written,
-        };
+        t.cycles = n;
+        t.sum = ports::checked_sum(t.sum, &block);
+        t.lost = !write_block(fd, &block);
+        t.ended = is_over(panel);
+        return t;
     }
-    Tape {
-        panel: panel,
-        cycles: t.cycles,
-        sum: t.sum,
-        ended: true,
-        lost: false,
-    }
+    t.ended = true;
+    t
 }
 
 fn all_cycles(panel: Panel, fd: i32) -> Tape {
@@ -75,88 +87,112 @@ fn all_cycles(panel: Panel, fd: i32) -> Tape {
         panel: panel,
         cycles: 0,
         sum: 0,
-        ended: false,
+        ended: is_over(panel),
         lost: false,
     };
     let mut left = MOST_CYCLES;
     while left > 0 {
-        t = one_cycle(t, fd);
         if t.ended {
             return t;
         }
         if t.lost {
             return t;
         }
+        t = one_cycle(t, fd);
         left -= 1;
     }
     t
 }
 
-fn summary(t: Tape, out: &[u8]) {
+// What was played, on `fd`.
+fn summary(fd: i32, t: Tape, out: &[u8]) {
     let panel = t.panel;
-    io::write_all(1, out);
-    io::write_all(1, b": ");
-    io::print_decimal(1, t.cycles as u64);
-    io::write_all(1, b" cycles, ");
-    io::print_decimal(1, Panel::missed_notes(panel));
-    io::write_all(1, b" notes missed, checksum ");
-    io::print_hex(1, t.sum as u64, 8);
-    io::write_all(1, b"\n");
+    crate::words::played(fd, out, t.cycles, Panel::missed_notes(panel), t.sum);
+    if !t.ended {
+        crate::words::stopped();
+    }
 }
 
 // The samples, and then the header again with their number.
 fn filled(panel: Panel, fd: i32) -> Tape {
-    let first = write_header(fd, 0);
+    let first = write_header(fd, UNKNOWN, UNKNOWN);
     let mut t = all_cycles(panel, fd);
+    crate::words::progress_over();
     if !first {
         t.lost = true;
     }
-    if libc::lseek(fd, 0, 0) != 0 {
+    t
+}
+
+fn sized(mut t: Tape, fd: i32) -> Tape {
+    let size = t.cycles % 65536 * 640;
+    if libc::lseek(fd, 0, libc::SEEK_SET) != 0 {
         t.lost = true;
     }
-    if !write_header(fd, t.cycles) {
+    if !write_header(fd, size + 36, size) {
+        t.lost = true;
+    }
+    if libc::close(fd) < 0 {
         t.lost = true;
     }
     t
 }
 
 // A whole file gets its name; a faulty one is removed.
-fn closed(t: Tape, part: &[u8], out: &[u8]) {
+fn named(t: Tape, part: &[u8], out: &[u8]) {
     if t.lost {
         os::unlink(part);
         crate::words::lost(out);
         return;
     }
     if os::rename(part, out) < 0 {
-        os::fail(out);
+        crate::words::fault(out);
         os::unlink(part);
         return;
     }
-    if !t.ended {
-        crate::words::stopped();
-    }
-    summary(t, out);
+    summary(1, t, out);
 }
 
+// A file of that name is never taken over: another may be writing it.
 fn recorded_as(panel: Panel, part: &[u8], out: &[u8]) {
-    let fd = os::open_overwrite(part);
+    let fd = os::create(part);
     if fd < 0 {
-        os::fail(part);
+        crate::words::no_part(part);
         return;
     }
-    let mut t = filled(panel, fd);
-    if libc::close(fd) < 0 {
-        t.lost = true;
-    }
-    closed(t, part, out);
+    let t = filled(panel, fd);
+    named(sized(t, fd), part, out);
 }
 
 // The file is first written under its name with ".part" behind it.
-pub fn recorded(panel: Panel, out: &[u8]) {
+fn to_file(panel: Panel, out: &[u8]) {
     let mut part = io::buffer();
     let n = ports::put_bytes(&mut part, 0, out);
     let m = ports::put_bytes(&mut part, n, b".part");
-    if m <= 4096 {
-        recorded_as(panel, &part[..m], out);
+    if m < 4096 {
+        if crate::files::may_be_written(out) {
+            recorded_as(panel, &part[..m], out);
+        }
+        return;
     }
+    crate::words::long_name(out);
+}
+
+// A closed pipe ends the piece quietly.
+fn to_output(panel: Panel) {
+    let t = filled(panel, 1);
+    if t.lost {
+        return;
+    }
+    summary(2, t, b"-");
+}
+
+pub fn recorded(panel: Panel, out: &[u8]) {
+    if out.len() == 1 {
+        if ports::byte_at(out, 0) == b'-' {
+            to_output(panel);
+            return;
+        }
+    }
+    to_file(panel, out);
 }

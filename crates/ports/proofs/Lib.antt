@@ -1,1 +1,4 @@
+pub mod Bytes
+pub mod Putting
+pub mod Reading
 pub mod Samples

@@ -32,6 +32,7 @@ fn explained(fault: Fault, at: u64) {
         Fault::Unknown => told(b"unknown code", at),
         Fault::Outside => told(b"a field outside its range", at),
         Fault::Cut => told(b"the input is cut", at),
+        Fault::Unread => told(b"the input cannot be read", at),
     }
 }
 

@@ -6,6 +6,7 @@ pub enum Fault {
     Unknown,
     Outside,
     Cut,
+    Unread,
 }
 
 pub struct Record {
@@ -24,7 +25,16 @@ pub fn is_whole(f: Fault) -> bool {
         Fault::Unknown => false,
         Fault::Outside => false,
         Fault::Cut => false,
+        Fault::Unread => false,
     }
+}
+
+// Why the input gave no more: it cannot be read, or it has ended.
+fn dry(p: Port) -> Fault {
+    if p.failed {
+        return Fault::Unread;
+    }
+    Fault::Cut
 }
 
 fn is_known(code: u8) -> bool {
@@ -95,7 +105,7 @@ fn number(p: Port, wanted: bool, most: u32, otherwise: u32, input: &mut [u8], ou
         return Field {
             port: q,
             value: 0,
-            fault: Fault::Cut,
+            fault: dry(q),
         };
     }
     if most < v {
@@ -136,7 +146,7 @@ fn items(
 ) -> Record {
     let q = ports::receive(p, input, out, data, size_of(code, count));
     if q.dry {
-        return stopped(q, Fault::Cut, false);
+        return stopped(q, dry(q), false);
     }
     let room = number(q, has_room(code), 8192, 0, input, out);
     let fault = room.fault;
@@ -174,12 +184,20 @@ fn body(p: Port, code: u8, input: &mut [u8], out: &[u8], data: &mut [u8]) -> Rec
     stopped(port, fault, false)
 }
 
+// Before a record: the input's end, which is no fault, or a read that failed.
+fn at_end(p: Port) -> Record {
+    if p.failed {
+        return stopped(p, Fault::Unread, false);
+    }
+    stopped(p, Fault::Whole, true)
+}
+
 // The next record; `ended` where the input ends before one.
 pub fn read(p: Port, input: &mut [u8], out: &[u8], data: &mut [u8]) -> Record {
     let mut one = [0u8; 1];
     let q = ports::receive(p, input, out, &mut one, 1);
     if q.dry {
-        return stopped(q, Fault::Whole, true);
+        return at_end(q);
     }
     let code = ports::byte_at(&one, 0);
     if is_known(code) {

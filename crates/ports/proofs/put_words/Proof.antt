@@ -1,55 +1,21 @@
-use Prim.Native.Nat.{_-_}
-use mathlib.Core.Path.{_≡_}
-use lib.ListN.{length}
 use borrow.Author.Needs.{needs}
+use Prim.Native.Nat.{_-_}
+use lib.ListN.{length}
+use Rattle.ports.specs.Bytes.{bigEndian}
+use Rattle.ports.proofs.Putting.{Putting, starts, again, ends, same-size}
 use Rattle.ports.proofs.put_words.Statement.{statement}
 use Rattle.ports.proofs.put_words.Tie as tie
 
-abbrev Inv-loop : tie.InvT-loop
-Inv-loop out₀ at s next₀ i₀ out next i = length out ≡ length out₀
-
-abbrev μ-loop : tie.MeasureT-loop
-μ-loop out₀ at s next₀ i₀ out next i = length s - i
-
-loop-holds : tie.Need-loop-holds Inv-loop μ-loop
-loop-holds c = search needs
-
-mul-put-word : tie.Need-mul-put-word Inv-loop μ-loop
-mul-put-word c = search needs
-
-shared-slice-read-put-word : tie.Need-shared-slice-read-put-word Inv-loop μ-loop
-shared-slice-read-put-word c = search needs
-
-put-word-requires : tie.Need-put-word-requires Inv-loop μ-loop
-put-word-requires c κs = search needs
-
-add-i : tie.Need-add-i Inv-loop μ-loop
-add-i c = search needs
-
-loop-less : tie.Need-loop-less Inv-loop μ-loop
-loop-less c = search needs
-
-loop-again : tie.Need-loop-again Inv-loop μ-loop
-loop-again c = search needs
-
-same-length : tie.Need-same-length Inv-loop μ-loop
-same-length c = search needs
-
-returns : tie.Need-returns Inv-loop μ-loop
-returns c = search needs
-
 pub put-words-spec : {M : Type 1} → statement M
 put-words-spec =
-    tie.close
-    (tie.spec
-    Inv-loop
-    μ-loop
-    loop-holds
-    mul-put-word
-    shared-slice-read-put-word
-    put-word-requires
-    add-i
-    loop-less
-    loop-again
-    same-length
-    returns)
+    tie.close (tie.spec
+    (λ out₀ at s next₀ i₀ out next i. Putting (bigEndian 4) s out₀ at out next i) (λ out₀ at s next₀ i₀ out next i. length s - i)
+    (λ c. search starts)
+    (λ c. search needs)
+    (λ c. search needs) (λ c κs. search needs) (λ c. search needs) (λ c. search needs)
+    (λ c.
+    let w = c .before .before in
+    let l = w .before .before .before in
+    again _ _ _ _ 0 (l .before .loop .inv) (l .loop-test .taken) (w .put-word .ensures))
+    (λ c. search same-size)
+    (λ c. search ends))
