@@ -1,20 +1,319 @@
-// What all cases use: a fresh panel of one small orchestra, and a line of the report.
+// The calls that a case can name, each on the panel of the piece or on the one that the case before left.
+ghost use lib.ListN.{length};
+ghost use mathlib.Core.Path.{_≡_};
+use crate::text;
+use crate::text::Head;
+use answer::Answer;
 use panel::Panel;
 
-// instr 0 gives 0.5 in every sample; instr 1 has a field and an imported signal.
-pub fn fresh_panel() -> Panel {
-    let r = Panel::fresh(
-        b"\x01\xf0\x00\x00\x0f\x10\x11\x06\x0f\xf1\x3f\x00\x00\x00\x10\x14\x12\x01\xf0\x00\x01\x0f\xf0\x00\x02\x10\x11\x05\x03\xf0\x00\x03\x14\x06\x0f\xf0\x00\x03\x10\x14\x12\xff",
-        32767,
-    );
-    r.panel
+// A fresh panel of the piece, the panel as the last call left it, and the number that came of it.
+pub struct Desk {
+    fresh: Panel,
+    panel: Panel,
+    pub got: u64,
 }
 
-pub fn told(title: &[u8], expected: u64, got: u64) {
-    io::write_all(1, title);
-    io::write_all(1, b": expected ");
-    io::print_decimal(1, expected);
-    io::write_all(1, b", got ");
-    io::print_decimal(1, got);
-    io::write_all(1, b"\n");
+fn number(a: Answer) -> u64 {
+    answer::number(a) as u64
+}
+
+fn left(d: Desk, panel: Panel, got: u64) -> Desk {
+    let fresh = d.fresh;
+    Desk {
+        fresh: fresh,
+        panel: panel,
+        got: got,
+    }
+}
+
+// No piece yet: a refused start's panel stands in.
+pub fn bare() -> Desk {
+    let f = Panel::fresh(b"", 0);
+    let panel = f.panel;
+    Desk {
+        fresh: panel,
+        panel: panel,
+        got: 0,
+    }
+}
+
+fn byte_of(numbers: &[u32], at: usize) -> u8 {
+    if at < numbers.len() {
+        return (numbers[at] % 256) as u8;
+    }
+    0
+}
+
+// The numbers as bytes.
+fn bytes_of(numbers: &[u32]) -> [u8; 512]
+    ensures { λ r. ⌜ 512 ≡ length r ⌝ }
+{
+    let mut bytes = [0u8; 512];
+    let mut i: usize = 0;
+    while i < 512 {
+        bytes[i] = byte_of(numbers, i);
+        i += 1;
+    }
+    bytes
+}
+
+// ---- calls on the panel
+
+fn piece(ceiling: u32, bytes: &[u8]) -> Desk {
+    let f = Panel::fresh(bytes, ceiling);
+    let a = f.answer;
+    let panel = f.panel;
+    Desk {
+        fresh: panel,
+        panel: panel,
+        got: number(a),
+    }
+}
+
+fn fresh(d: Desk, ceiling: u32, bytes: &[u8]) -> Desk {
+    let f = Panel::fresh(bytes, ceiling);
+    let a = f.answer;
+    let panel = f.panel;
+    left(d, panel, number(a))
+}
+
+fn stick(d: Desk, bytes: &[u8]) -> Desk {
+    let panel = d.panel;
+    let r = Panel::load_score(panel, bytes);
+    let a = r.answer;
+    let after = r.panel;
+    left(d, after, number(a))
+}
+
+fn unit(d: Desk, bytes: &[u8]) -> Desk {
+    let panel = d.panel;
+    let r = Panel::receive_unit(panel, bytes);
+    let a = r.answer;
+    let after = r.panel;
+    left(d, after, number(a))
+}
+
+fn keypad(d: Desk, numbers: &[u32]) -> Desk {
+    let panel = d.panel;
+    let r = Panel::enter_line(panel, numbers);
+    let a = r.answer;
+    let after = r.panel;
+    left(d, after, number(a))
+}
+
+fn cycle(d: Desk, samples: usize) -> Desk {
+    let mut block = [0i16; 1024];
+    if samples <= 1024 {
+        let panel = d.panel;
+        let r = Panel::cycle(panel, &mut block[..samples]);
+        let a = r.answer;
+        let after = r.panel;
+        return left(d, after, number(a));
+    }
+    d
+}
+
+// ---- listening, over the next 300 cycles
+
+struct Heard {
+    panel: Panel,
+    silent: u64,
+    sounding: u64,
+}
+
+fn sounds(block: &[i16; 320]) -> bool {
+    block[0] != 0
+}
+
+fn with_cycle(h: Heard) -> Heard {
+    let mut block = [0i16; 320];
+    let before = h.panel;
+    let r = Panel::cycle(before, &mut block);
+    let panel = r.panel;
+    if sounds(&block) {
+        return Heard {
+            panel: panel,
+            silent: h.silent,
+            sounding: h.sounding % 1000 + 1,
+        };
+    }
+    if h.sounding == 0 {
+        return Heard {
+            panel: panel,
+            silent: h.silent % 1000 + 1,
+            sounding: 0,
+        };
+    }
+    Heard {
+        panel: panel,
+        silent: h.silent,
+        sounding: h.sounding,
+    }
+}
+
+fn listened(panel: Panel) -> Heard {
+    let mut h = Heard {
+        panel: panel,
+        silent: 0,
+        sounding: 0,
+    };
+    let mut cycles: u32 = 300;
+    while cycles > 0 {
+        h = with_cycle(h);
+        cycles -= 1;
+    }
+    h
+}
+
+fn silent(d: Desk) -> Desk {
+    let panel = d.panel;
+    let h = listened(panel);
+    left(d, panel, h.silent)
+}
+
+fn sounding(d: Desk) -> Desk {
+    let panel = d.panel;
+    let h = listened(panel);
+    left(d, panel, h.sounding)
+}
+
+fn missed(d: Desk) -> Desk {
+    let panel = d.panel;
+    left(d, panel, Panel::missed_notes(panel))
+}
+
+// ---- the call that a line names
+
+enum Call {
+    Piece,
+    Fresh,
+    Stick,
+    Unit,
+    Keypad,
+    Cycle,
+    Missed,
+    Silent,
+    Sounding,
+    Decode,
+    DecodeUnit,
+    Write,
+    WriteUnit,
+    Unknown,
+}
+
+// The calls on a panel, by name; the others are those on lent areas.
+fn on_panel(text: &[u8], h: Head) -> Call {
+    if text::is_name(text, h, b"piece") {
+        return Call::Piece;
+    }
+    if text::is_name(text, h, b"fresh") {
+        return Call::Fresh;
+    }
+    if text::is_name(text, h, b"stick") {
+        return Call::Stick;
+    }
+    if text::is_name(text, h, b"unit") {
+        return Call::Unit;
+    }
+    if text::is_name(text, h, b"keypad") {
+        return Call::Keypad;
+    }
+    if text::is_name(text, h, b"cycle") {
+        return Call::Cycle;
+    }
+    told_of(text, h)
+}
+
+fn told_of(text: &[u8], h: Head) -> Call {
+    if text::is_name(text, h, b"missed") {
+        return Call::Missed;
+    }
+    if text::is_name(text, h, b"silent") {
+        return Call::Silent;
+    }
+    if text::is_name(text, h, b"sounding") {
+        return Call::Sounding;
+    }
+    on_area(text, h)
+}
+
+fn on_area(text: &[u8], h: Head) -> Call {
+    if text::is_name(text, h, b"decode") {
+        return Call::Decode;
+    }
+    if text::is_name(text, h, b"decode_unit") {
+        return Call::DecodeUnit;
+    }
+    if text::is_name(text, h, b"write") {
+        return Call::Write;
+    }
+    if text::is_name(text, h, b"write_unit") {
+        return Call::WriteUnit;
+    }
+    Call::Unknown
+}
+
+fn ceiling_of(size: usize) -> u32 {
+    (size % 4294967296) as u32
+}
+
+fn got(d: Desk, n: u64) -> Desk {
+    let panel = d.panel;
+    left(d, panel, n)
+}
+
+const NO_CALL: u64 = 255;
+
+fn called(d: Desk, c: Call, size: usize, bytes: &[u8], numbers: &[u32]) -> Desk {
+    match c {
+        Call::Piece => piece(ceiling_of(size), bytes),
+        Call::Fresh => fresh(d, ceiling_of(size), bytes),
+        Call::Stick => stick(d, bytes),
+        Call::Unit => unit(d, bytes),
+        Call::Keypad => keypad(d, numbers),
+        Call::Cycle => cycle(d, size),
+        Call::Missed => missed(d),
+        Call::Silent => silent(d),
+        Call::Sounding => sounding(d),
+        Call::Decode => got(d, crate::areas::decode(bytes, size)),
+        Call::DecodeUnit => got(d, crate::areas::decode_unit(bytes, size)),
+        Call::Write => got(d, crate::areas::write(numbers, size)),
+        Call::WriteUnit => got(d, crate::areas::write_unit(numbers, size)),
+        Call::Unknown => got(d, NO_CALL),
+    }
+}
+
+fn started(d: Desk, goes_on: bool) -> Desk {
+    if goes_on {
+        return d;
+    }
+    let fresh = d.fresh;
+    left(d, fresh, 0)
+}
+
+fn repeated(d: Desk, c: Call, times: u32, size: usize, bytes: &[u8], numbers: &[u32]) -> Desk {
+    let mut e = d;
+    let mut left = times;
+    while left > 0 {
+        e = called(e, c, size, bytes, numbers);
+        left -= 1;
+    }
+    e
+}
+
+pub fn carried_out(d: Desk, text: &[u8], h: Head, numbers: &[u32; 512], count: usize) -> Desk {
+    let all = &numbers[..];
+    let bytes = bytes_of(all);
+    if count <= all.len() && count <= 512 {
+        let e = started(d, h.goes_on);
+        return repeated(
+            e,
+            on_panel(text, h),
+            h.times,
+            h.size,
+            &bytes[..count],
+            &all[..count],
+        );
+    }
+    d
 }
