@@ -1,6 +1,6 @@
--- The panel's cycle call on its core.
-use mathlib.Core.Path.{_≡_, refl, sym, ap, _∙_, subst, subst⁻¹}
-use mathlib.Core.Bool.{Bool, true, false, cond, not}
+-- What a cycle call leaves, of every panel.
+use mathlib.Core.Path.{_≡_, refl, sym, ap, _∙_}
+use mathlib.Core.Bool.{Bool, true, false, not, cond, _&&_}
 use mathlib.Core.List.{List, [], _∷_}
 use Prim.Native.Nat.{ℕ, _≤_}
 use native.Mathlib.Omega.{arith}
@@ -13,22 +13,28 @@ use Rattle.answer.specs.declared.Answer.the-variants as answer
 use Rattle.score_line.specs.declared.Line.{Line}
 use Rattle.synth.specs.declared.Note.{Note}
 use Rattle.players.specs.Lists.{each, keep, over}
-use Rattle.players.specs.Cycle.{Voices, Core, isDue, samples, ends, stepped, stopped, blockOf, capped}
+use Rattle.players.specs.Cycle.{Voices, isDue, samples}
 use Rattle.players.specs.Cycle as cycle
-use Rattle.players.proofs.Lists.{cond-true, cond-false, length-keep}
+use Rattle.players.specs.Holds.{Plays, Holds, settingsOf, laterThan, dueOf, endsBy, marked, capped, blockOf, played}
+use Rattle.players.specs.Calls.{bring, cycle as cycle-call, one, numbered, After, isZero}
+use Rattle.players.specs.History.{Reached, at}
+use Rattle.players.proofs.Lists.{length-keep}
 use Rattle.players.proofs.Loops.{length-over}
-use Rattle.players.proofs.Works.{Turned, off, over as ended-before, finished, played}
 use Rattle.waiting.specs.Admission.{waitingIn}
 use Rattle.sounding.specs.Voices.{Held, noteOf, structOf, notesIn}
 use Rattle.sounding.proofs.Steps.{length-each}
+use Rattle.turning.specs.Steps.{playsOf, laidOver, advanced}
 use Rattle.turning.specs.Turn as turn
+use Rattle.turning.specs.declared.Playing.{Playing}
 use Rattle.turning.specs.declared.State.{State}
-use Rattle.panel.specs.State.{voicesOf, coreOf, endedOf}
+use Rattle.panel.specs.State.{voicesOf, holdsOf, endedOf}
 use Rattle.panel.specs.Calls.{playedOf, cycleOf, blockAfter}
 use Rattle.panel.specs.declared.Panel.{Panel}
-use Rattle.loader.specs.declared.Program.{Program}
 use Rattle.panel.specs.declared.Cycled.{Cycled}
-use Rattle.claims.proofs.Doors.{Fine}
+use Rattle.claims.specs.Claims.{afterOf, reachedOf, findsEnd, Refused, RefusalsChangeNothing}
+use Rattle.claims.proofs.Doors.{differ, Brings, takes, refuses, brings}
+
+-- ---- what is laid over an array is read back
 
 note-struct : (ns : List (cycle.Note Held)) → each noteOf (each structOf ns) ≡ ns
 unfolding each
@@ -41,71 +47,95 @@ notes-back ns old =
     ∙ ap (each noteOf) (take-append-seam (each structOf ns) (drop (length (each structOf ns)) old))
     ∙ note-struct ns
 
-core-with : (s : State) (c : Core Held) → turn.coreOf (turn.withCore s c) ≡ c
-unfolding turn.coreOf turn.withCore
-core-with s c =
+plays-back : (old : Playing) (p : Plays Held) → playsOf (laidOver old p) ≡ p
+plays-back old p =
+    λ i. record { notes = notes-back (p .notes) (old .notes .notes) i; position = p .position; tempo = p .tempo; counts = p .counts; ended = p .ended }
+
+-- ---- the two ways of a cycle that is lent 320 samples
+
+pub holds-ended : (p : Panel) → holdsOf (endedOf p) ≡ record { waits = holdsOf p .waits; plays = marked (holdsOf p .plays) }
+unfolding endedOf turn.stopped marked
+holds-ended p = refl
+
+pub holds-played : (p : Panel) → holdsOf (playedOf p)
+    ≡ record {
+      waits = laterThan (holdsOf p .plays .position) (holdsOf p .waits);
+      plays = capped (played (voicesOf (p .program)) (settingsOf (p .ceiling)) (dueOf (holdsOf p)) (holdsOf p .plays));
+    }
+unfolding playedOf turn.playedOf turn.keptOf advanced
+holds-played p =
+    let later = laterThan (holdsOf p .plays .position) (holdsOf p .waits) in
     λ i. record {
-      lines = take-append-seam (c .lines) (drop (length (c .lines)) (s .queue .lines)) i;
-      notes = notes-back (c .notes) (s .notes .notes) i;
-      position = c .position;
-      tempo = c .tempo;
-      missed = c .missed;
-      ended = c .ended;
+      waits = take-append-seam later (drop (length later) (p .state .queue .lines)) i;
+      plays = plays-back (p .state .playing) (capped (played (voicesOf (p .program)) (settingsOf (p .ceiling)) (dueOf (holdsOf p)) (holdsOf p .plays))) i;
     }
 
-core-stopped : (p : Panel) → coreOf (endedOf p) ≡ stopped (coreOf p)
-unfolding turn.coreOf endedOf turn.stopped stopped
-core-stopped p = refl
+pub reached-ended : (p : Panel) → reachedOf (endedOf p) ≡ reachedOf p
+unfolding endedOf turn.stopped
+reached-ended p = refl
 
-core-end : (p : Panel) (b : Bool) → p .state .ended ≡ b → coreOf p .ended ≡ b
-unfolding turn.coreOf
-core-end p b h = h
-
-played-core : (p : Panel) → coreOf (playedOf p) ≡ capped (stepped (voicesOf (p .program)) (coreOf p))
-unfolding playedOf turn.played
-played-core p = core-with (p .state) (capped (stepped (voicesOf (p .program)) (coreOf p)))
+pub reached-played : (p : Panel) → reachedOf (playedOf p) ≡ at (holdsOf p .plays .position)
+unfolding playedOf turn.playedOf turn.keptOf
+reached-played p = refl
 
 -- a played panel still has its 64 places
-played-long : (v : Voices Held) (s : State) → length (s .queue .lines) ≡ 64 → length (turn.played v s .queue .lines) ≡ 64
-unfolding turn.played turn.withCore capped stepped turn.coreOf
-played-long v s h =
-    let k : Line → Bool = λ (l : Line). not (isDue (s .position) l) in
-    let a = length-keep k (waitingIn (s .queue)) in
-    let b = length-take (s .queue .count) (s .queue .lines) in
-    let c : length (keep k (waitingIn (s .queue))) ≤ length (s .queue .lines) = omega (arith, a, b) in
-    length-over (keep k (waitingIn (s .queue))) (s .queue .lines) c ∙ h
+pub played-long : (p : Panel) → length (p .state .queue .lines) ≡ 64 → length (playedOf p .state .queue .lines) ≡ 64
+unfolding playedOf turn.playedOf turn.keptOf laterThan
+played-long p h =
+    let k : Line → Bool = λ (l : Line). not (isDue (p .state .playing .position) l) in
+    let w = waitingIn (p .state .queue) in
+    let a = length-keep k w in
+    let b = length-take (p .state .queue .count) (p .state .queue .lines) in
+    let c : length (keep k w) ≤ length (p .state .queue .lines) = omega (arith, a, b) in
+    length-over (keep k w) (p .state .queue .lines) c ∙ h
 
-played-keeps : (program : Program) (ceiling : ℕ) (p : Panel) → Fine program ceiling p → Fine program ceiling (playedOf p)
-unfolding playedOf
-played-keeps program ceiling p f = record { long = played-long (voicesOf (p .program)) (p .state) (f .long); has = f .has; locked = f .locked }
+-- ---- what the call leaves
 
-ended-keeps : (program : Program) (ceiling : ℕ) (p : Panel) → Fine program ceiling p → Fine program ceiling (endedOf p)
-unfolding endedOf turn.stopped
-ended-keeps program ceiling p f = record { long = f .long; has = f .has; locked = f .locked }
+pub data Cycles (p : Panel) (b : List ℤ) (a : After Panel) : Type 0 where
+  off : numbered (cycle-call b) ≡ false → a ≡ record { player = p; answers = one 10 0; block = b } → Cycles p b a
+  over-before : numbered (cycle-call b) ≡ true → p .state .playing .ended ≡ true → a ≡ record { player = p; answers = one 9 0; block = b } → Cycles p b a
+  ends : numbered (cycle-call b) ≡ true → p .state .playing .ended ≡ false → endsBy (dueOf (holdsOf p)) (holdsOf p .plays) ≡ true
+      → a ≡ record { player = endedOf p; answers = one 9 0; block = b } → Cycles p b a
+  plays : numbered (cycle-call b) ≡ true → p .state .playing .ended ≡ false → endsBy (dueOf (holdsOf p)) (holdsOf p .plays) ≡ false
+      → a ≡ record { player = playedOf p; answers = one 0 0; block = blockOf (voicesOf (p .program)) (settingsOf (p .ceiling)) (dueOf (holdsOf p)) (holdsOf p .plays) }
+      → Cycles p b a
 
--- what a cycle call leaves
-pub record Turn (program : Program) (ceiling : ℕ) (p : Panel) (lent : List ℤ) (answer : ℕ) (p′ : Panel) (block : List ℤ) : Type 0 where
-  pub turns : Turned (voicesOf (p .program)) (p .ceiling) (eqb (length lent) samples) lent (coreOf p) answer (coreOf p′) block
-  pub fine : Fine program ceiling p′
+pub cycles : (p : Panel) (b : List ℤ) → Cycles p b (afterOf p (cycle-call b))
+unfolding afterOf cycleOf blockAfter
+cycles p b = go (eqb (length b) samples) (p .state .playing .ended) (endsBy (dueOf (holdsOf p)) (holdsOf p .plays)) refl refl refl
+  where
+    sound : List ℤ
+    sound = blockOf (voicesOf (p .program)) (settingsOf (p .ceiling)) (dueOf (holdsOf p)) (holdsOf p .plays)
 
-module _ (program : Program) (ceiling : ℕ) (p : Panel) (f : Fine program ceiling p) (b : List ℤ) where
-  T : Cycled → Type 0
-  T x = Turn program ceiling p b (numberOf (x .answer)) (x .panel) (cond (isTaken (x .answer)) (blockOf (voicesOf (p .program)) (p .ceiling) (coreOf p)) b)
+    out : Bool → Bool → Bool → Cycled
+    out w e d =
+        cond w (cond e (record { panel = p; answer = answer.Ended }) (cond d (record { panel = endedOf p; answer = answer.Ended }) (record { panel = playedOf p; answer = answer.Taken })))
+        (record { panel = p; answer = answer.BlockLength })
 
-  whole : (w : Bool) → eqb (length b) samples ≡ w → T (cycleOf p (length b))
-  unfolding T cycleOf
-  whole false w = subst⁻¹ T (cond-false _ _ w) (record { turns = off w refl refl refl; fine = f })
-  whole true w = go (p .state .ended) refl (ends (coreOf p)) refl
-    where
-      go : (e : Bool) → p .state .ended ≡ e → (d : Bool) → ends (coreOf p) ≡ d → T (cycleOf p (length b))
-      go true h d g = subst⁻¹ T (cond-true _ _ w ∙ cond-true _ _ h) (record { turns = ended-before w (core-end p true h) refl refl refl; fine = f })
-      go false h true g =
-          subst⁻¹ T (cond-true _ _ w ∙ cond-false _ _ h ∙ cond-true _ _ g)
-          (record { turns = finished w (core-end p false h) g refl (core-stopped p) refl; fine = ended-keeps program ceiling p f })
-      go false h false g =
-          subst⁻¹ T (cond-true _ _ w ∙ cond-false _ _ h ∙ cond-false _ _ g)
-          (record { turns = played w (core-end p false h) g refl (played-core p) refl; fine = played-keeps program ceiling p f })
+    go : (w e d : Bool) → eqb (length b) samples ≡ w → p .state .playing .ended ≡ e → endsBy (dueOf (holdsOf p)) (holdsOf p .plays) ≡ d
+        → Cycles p b (record { player = out w e d .panel; answers = one (numberOf (out w e d .answer)) 0; block = cond (isTaken (out w e d .answer)) sound b })
+    go true true d hw he hd = over-before hw he refl
+    go true false true hw he hd = ends hw he hd refl
+    go true false false hw he hd = plays hw he hd refl
+    go false e d hw he hd = off hw refl
 
-  pub cycles : Turn program ceiling p b (numberOf (cycleOf p (length b) .answer)) (cycleOf p (length b) .panel) (blockAfter p b)
-  unfolding T blockAfter
-  cycles = whole (eqb (length b) samples) refl
+-- ---- refusals
+
+pub refusals-change-nothing : RefusalsChangeNothing
+unfolding RefusalsChangeNothing
+refusals-change-nothing p (bring d handed) t = go (brings p d handed)
+  where
+    go : {ls : List Line} → Brings p ls (afterOf p (bring d handed)) → Refused p (bring d handed)
+    go (takes l q e f x) = absurd (differ (sym (ap (λ (a : After Panel). isZero (a .answers)) x) ∙ t))
+    go (refuses n l z x) = record { player = ap (λ (a : After Panel). a .player) x; block = ap (λ (a : After Panel). a .block) x }
+refusals-change-nothing p (cycle-call b) t = go (cycles p b)
+  where
+    found : (w e d : Bool) → numbered (cycle-call b) ≡ w → p .state .playing .ended ≡ e → endsBy (dueOf (holdsOf p)) (holdsOf p .plays) ≡ d
+        → (q : Panel) → q ≡ cond (w && not e && d) (endedOf p) p → q ≡ cond (findsEnd p (cycle-call b)) (endedOf p) p
+    found w e d hw he hd q x = x ∙ (λ i. cond (sym hw i && not (sym he i) && sym hd i) (endedOf p) p)
+
+    go : Cycles p b (afterOf p (cycle-call b)) → Refused p (cycle-call b)
+    go (off w x) = record { player = found false _ _ w refl refl _ (ap (λ (a : After Panel). a .player) x); block = ap (λ (a : After Panel). a .block) x }
+    go (over-before w e x) = record { player = found true true _ w e refl _ (ap (λ (a : After Panel). a .player) x); block = ap (λ (a : After Panel). a .block) x }
+    go (ends w e d x) = record { player = found true false true w e d _ (ap (λ (a : After Panel). a .player) x); block = ap (λ (a : After Panel). a .block) x }
+    go (plays w e d x) = absurd (differ (sym (ap (λ (a : After Panel). isZero (a .answers)) x) ∙ t))

@@ -1,6 +1,6 @@
--- The panel's calls on its core.
-use mathlib.Core.Path.{_≡_, refl, sym, ap, _∙_, subst, subst⁻¹}
-use mathlib.Core.Bool.{Bool, true, false, cond}
+-- What a call at a door leaves, of every panel.
+use mathlib.Core.Path.{_≡_, refl, sym, ap, _∙_, subst⁻¹}
+use mathlib.Core.Bool.{Bool, true, false, not, cond, _&&_}
 use mathlib.Core.List.{List, [], _∷_, _++_, append-assoc, append-nil}
 use Prim.Native.Nat.{ℕ, _+_}
 use native.Mathlib.Omega.{arith}
@@ -8,190 +8,143 @@ use lib.ListN.{length}
 use lib.Dec.{eqb}
 use borrow.Author.Tests.{eqb-true}
 use Rattle.answer.specs.Numbers.{numberOf, isTaken}
-use Rattle.answer.specs.declared.Answer.{Answer}
 use Rattle.answer.specs.declared.Answer.the-variants as answer
-use Rattle.bitstream.specs.Bits.{bitsOf}
-use Rattle.score_line.specs.Reading.{keypadLine}
 use Rattle.score_line.specs.declared.Line.{Line}
-use Rattle.score_line.specs.declared.LineRead.{LineRead}
-use Rattle.score.specs.Score.{scoreOf, unitOf}
-use Rattle.waiting.specs.Admission.{hasTime, admitted, waitingIn}
-use Rattle.waiting.specs.declared.Fields.{Fields}
+use Rattle.score.specs.Score.{Score}
+use Rattle.waiting.specs.Admission.{admitted, pushed, waitingIn}
 use Rattle.waiting.specs.declared.Queue.{Queue}
 use Rattle.waiting.specs.declared.Admitted.{Admitted}
-use Rattle.waiting.proofs.Admission.{refused-same, taken-pushed, taken-room, waiting-pushed, length-pushed}
-use Rattle.players.specs.Cycle.{withLines}
-use Rattle.players.specs.Cycle as cycle
-use Rattle.players.specs.History as history
-use Rattle.players.proofs.Lists.{cond-true, cond-false}
-use Rattle.players.proofs.Count.{steady, AllSteady}
-use Rattle.players.proofs.Works.{Entered, took, refused}
+use Rattle.waiting.specs.declared.Fields.{Fields}
+use Rattle.waiting.proofs.Admission.{taken-pushed, taken-room, waiting-pushed, length-pushed}
 use Rattle.sounding.specs.Voices.{fieldsIn}
 use Rattle.sounding.specs.declared.Instrument.{Instrument}
-use Rattle.entrances.specs.Entrances.{lineIn, stickLine, pushedAll}
-use Rattle.turning.specs.Steps.{soundingIn}
-use Rattle.turning.specs.Turn as turn
-use Rattle.panel.specs.State.{tableOf, withQueue, coreOf}
-use Rattle.panel.specs.Calls.{loadOf, enteredOf, receiveOf, enterOf}
-use Rattle.panel.specs.declared.Panel.{Panel}
-use Rattle.loader.specs.declared.Program.{Program}
+use Rattle.players.specs.Calls.{Door, mustBeTimed, hasTime, reads, bring, one, After, isZero}
+use Rattle.players.proofs.Lists.{cond-true, cond-false}
+use Rattle.entrances.specs.Entrances.{lineIn, pushedAll, broughtIn}
 use Rattle.entrances.specs.declared.Pushed.{Pushed}
-use Rattle.panel.specs.declared.Loaded.{Loaded}
-use Rattle.panel.specs.declared.Entered as entered
-use Rattle.panel.proofs.Entering.{read-refused, read-taken, unit-ended, unit-read, keypad-ended, keypad-read, stick-ended, stick-refused, stick-pushed}
+use Rattle.panel.specs.State.{tableOf, withQueue}
+use Rattle.panel.specs.Calls.{broughtOf, bringOf}
+use Rattle.panel.specs.declared.Panel.{Panel}
+use Rattle.panel.specs.declared.Brought.{Brought}
+use Rattle.claims.specs.Claims.{afterOf, Takes, TakenCalls, DoorsAlike}
 
--- ---- waiting lines
+pub differ : true ≡ false → ⊥
+differ q = let z : _≡_ {A = ℕ} 0 1 = cc in omega arith
 
--- what lines do to a queue: they all wait behind the others, or the old queue stays
-pub data Went (old q : Queue) (ls : List Line) (left : Queue) (answer : Answer) : Type 0 where
-  in-all : isTaken answer ≡ true → waitingIn left ≡ waitingIn q ++ ls → length (left .lines) ≡ 64 → Went old q ls left answer
-  in-none : isTaken answer ≡ false → left ≡ old → Went old q ls left answer
+pub differ′ : false ≡ true → ⊥
+differ′ q = differ (sym q)
 
-module _ (table : List Instrument) where
-  one-line : (q : Queue) (l : Line) → length (q .lines) ≡ 64 → Went q q (l ∷ []) (lineIn table q l .queue) (lineIn table q l .answer)
+-- ---- lines behind those that wait
+
+pub record Behind (q : Queue) (ls : List Line) (q′ : Queue) : Type 0 where
+  pub waits : waitingIn q′ ≡ waitingIn q ++ ls
+  pub long : length (q′ .lines) ≡ 64
+  pub ran : q′ .ran ≡ q .ran
+  pub last : q′ .last ≡ q .last
+
+module _ (timed : Bool) (table : List Instrument) where
+  admits : (q : Queue) (l : Line) (f : Fields) → length (q .lines) ≡ 64 → isTaken (admitted q l f .answer) ≡ true → Behind q (l ∷ []) (admitted q l f .queue)
+  unfolding pushed
+  admits q l f long t =
+      subst⁻¹ (Behind q (l ∷ [])) (taken-pushed q l f t)
+      (record { waits = waiting-pushed q l f long (taken-room q l f t); long = length-pushed q l f ∙ long; ran = refl; last = refl })
+
+  line-took : (q : Queue) (l : Line) → length (q .lines) ≡ 64 → isTaken (lineIn timed table q l .answer) ≡ true → Behind q (l ∷ []) (lineIn timed table q l .queue)
   unfolding lineIn
-  one-line q l long = go (isTaken (admitted q l f .answer)) refl
+  line-took q l long = go (timed && not (hasTime (l .when)))
     where
-      f : Fields
-      f = fieldsIn table (l .event)
+      go : (b : Bool) → isTaken (cond {A = Admitted} b (record { queue = q; answer = answer.NoTime }) (admitted q l (fieldsIn table (l .event))) .answer) ≡ true
+          → Behind q (l ∷ []) (cond {A = Admitted} b (record { queue = q; answer = answer.NoTime }) (admitted q l (fieldsIn table (l .event))) .queue)
+      go true t = absurd (differ′ t)
+      go false t = admits q l (fieldsIn table (l .event)) long t
 
-      go : (b : Bool) → isTaken (admitted q l f .answer) ≡ b → Went q q (l ∷ []) (admitted q l f .queue) (admitted q l f .answer)
-      go true t =
-          let e = taken-pushed q l f t in
-          in-all t (ap waitingIn e ∙ waiting-pushed q l f long (taken-room q l f t)) (ap (λ (x : Queue). length (x .lines)) e ∙ length-pushed q l f ∙ long)
-      go false t = in-none t (refused-same q l f t)
+  -- what pushed lines leave: they all wait behind the others, or the old queue stays
+  pub data Went (old q : Queue) (ls : List Line) (r : Pushed) : Type 0 where
+    in-all : isTaken (r .answer) ≡ true → (length (q .lines) ≡ 64 → Behind q ls (r .queue)) → Went old q ls r
+    in-none : isTaken (r .answer) ≡ false → r .queue ≡ old → Went old q ls r
 
-  stick-one : (q : Queue) (l : Line) → length (q .lines) ≡ 64 → Went q q (l ∷ []) (stickLine table q l .queue) (stickLine table q l .answer)
-  unfolding stickLine
-  stick-one q l long = go (hasTime (l .when))
-    where
-      go : (b : Bool) → Went q q (l ∷ []) (cond b (lineIn table q l) (record { queue = q; answer = answer.NoTime }) .queue)
-          (cond b (lineIn table q l) (record { queue = q; answer = answer.NoTime }) .answer)
-      go true = one-line q l long
-      go false = in-none refl refl
-
-  all-lines : (old q : Queue) (i : ℕ) (ls : List Line) → length (q .lines) ≡ 64
-      → Went old q ls (pushedAll table old q i ls .queue) (pushedAll table old q i ls .answer)
+  all-lines : (old q : Queue) (i : ℕ) (ls : List Line) → Went old q ls (pushedAll timed table old q i ls)
   unfolding pushedAll
-  all-lines old q i [] long = in-all refl (sym (append-nil (waitingIn q))) long
-  all-lines old q i (l ∷ ls) long = go (stickLine table q l) (stick-one q l long) (λ h. all-lines old (stickLine table q l .queue) (i + 1) ls h)
+  all-lines old q i [] = in-all refl (λ long. record { waits = sym (append-nil (waitingIn q)); long = long; ran = refl; last = refl })
+  all-lines old q i (l ∷ ls) =
+      go (lineIn timed table q l) (isTaken (lineIn timed table q l .answer)) refl (line-took q l) (all-lines old (lineIn timed table q l .queue) (i + 1) ls)
     where
-      go : (a : Admitted) → Went q q (l ∷ []) (a .queue) (a .answer)
-          → (length (a .queue .lines) ≡ 64 → Went old (a .queue) ls (pushedAll table old (a .queue) (i + 1) ls .queue) (pushedAll table old (a .queue) (i + 1) ls .answer))
-          → Went old q (l ∷ ls)
-          (cond (isTaken (a .answer)) (pushedAll table old (a .queue) (i + 1) ls) (record { queue = old; answer = a .answer; line = i }) .queue)
-          (cond (isTaken (a .answer)) (pushedAll table old (a .queue) (i + 1) ls) (record { queue = old; answer = a .answer; line = i }) .answer)
-      go a (in-all t w len) r =
-          subst⁻¹ (λ (x : Pushed). Went old q (l ∷ ls) (x .queue) (x .answer)) (cond-true _ _ t) (on (r len))
-        where
-          on : Went old (a .queue) ls (pushedAll table old (a .queue) (i + 1) ls .queue) (pushedAll table old (a .queue) (i + 1) ls .answer)
-              → Went old q (l ∷ ls) (pushedAll table old (a .queue) (i + 1) ls .queue) (pushedAll table old (a .queue) (i + 1) ls .answer)
-          on (in-all t′ w′ len′) = in-all t′ (w′ ∙ ap (λ (x : List Line). x ++ ls) w ∙ append-assoc (waitingIn q) (l ∷ []) ls) len′
-          on (in-none t′ s′) = in-none t′ s′
-      go a (in-none t s) r =
-          subst⁻¹ (λ (x : Pushed). Went old q (l ∷ ls) (x .queue) (x .answer)) (cond-false _ _ t) (in-none t refl)
+      go : (a : Admitted) (b : Bool) → isTaken (a .answer) ≡ b → (length (q .lines) ≡ 64 → isTaken (a .answer) ≡ true → Behind q (l ∷ []) (a .queue))
+          → Went old (a .queue) ls (pushedAll timed table old (a .queue) (i + 1) ls)
+          → Went old q (l ∷ ls) (cond b (pushedAll timed table old (a .queue) (i + 1) ls) (record { queue = old; answer = a .answer; line = i }))
+      go a true e first (in-all t rest) =
+          in-all t
+          (λ long.
+          let x = first long e in
+          let y = rest (x .long) in
+          record {
+            waits = y .waits ∙ ap (λ (ws : List Line). ws ++ ls) (x .waits) ∙ append-assoc (waitingIn q) (l ∷ []) ls;
+            long = y .long;
+            ran = y .ran ∙ x .ran;
+            last = y .last ∙ x .last;
+          })
+      go a true e first (in-none t s) = in-none t s
+      go a false e first r = in-none e refl
 
--- ---- what the panel keeps true of itself
-
-pub record Fine (program : Program) (ceiling : ℕ) (p : Panel) : Type 0 where
-  pub long : length (p .state .queue .lines) ≡ 64
-  pub has : p .program ≡ program
-  pub locked : p .ceiling ≡ ceiling
-
-with-own : (p : Panel) → withQueue p (p .state .queue) ≡ p
-unfolding withQueue
-with-own p = refl
-
-core-queue : (p : Panel) (q : Queue) (ls : List Line) → waitingIn q ≡ waitingIn (p .state .queue) ++ ls → coreOf (withQueue p q) ≡ withLines (coreOf p) ls
-unfolding turn.coreOf withQueue withLines
-core-queue p q ls e =
-    λ i. record {
-      lines = e i;
-      notes = soundingIn (p .state .notes);
-      position = p .state .position;
-      tempo = p .state .tempo;
-      missed = p .state .missed;
-      ended = p .state .ended;
-    }
-
-core-ended : (p : Panel) → p .state .ended ≡ false → coreOf p .ended ≡ false
-unfolding turn.coreOf
-core-ended p h = h
-
--- what a line call leaves
-pub record Door (program : Program) (ceiling : ℕ) (ls : List Line) (p : Panel) (answer : ℕ) (p′ : Panel) : Type 0 where
-  pub enters : Entered ls (coreOf p) answer (coreOf p′)
-  pub fine : Fine program ceiling p′
-  pub same : eqb answer 0 ≡ false → p′ ≡ p
-
-module _ (program : Program) (ceiling : ℕ) (p : Panel) (f : Fine program ceiling p) where
-  shut : (ls : List Line) (a : Answer) → isTaken a ≡ false → Door program ceiling ls p (numberOf a) p
-  shut ls a t = record { enters = refused t refl; fine = f; same = λ _. refl }
-
-  -- queues that went
-  open-door : (ls : List Line) → AllSteady ls → p .state .ended ≡ false → (q : Queue) (a : Answer) → Went (p .state .queue) (p .state .queue) ls q a
-      → Door program ceiling ls p (numberOf a) (withQueue p q)
-  unfolding withQueue
-  open-door ls s h q a (in-all t w len) =
-      record {
-        enters = took (eqb-true (numberOf a) 0 t) (core-ended p h) s (core-queue p q ls w);
-        fine = record { long = len; has = f .has; locked = f .locked };
-        same = λ u. absurd (let z : _≡_ {A = ℕ} 0 1 = cc in omega arith);
-      }
-  open-door ls s h q a (in-none t e) =
-      subst⁻¹ (Door program ceiling ls p (numberOf a)) (ap (withQueue p) e ∙ with-own p) (shut ls a t)
-
-  -- ---- the three entrances
-
-  pub sticks : (b : List ℕ) → AllSteady (scoreOf (bitsOf b) .lines)
-      → Door program ceiling (scoreOf (bitsOf b) .lines) p (numberOf (loadOf p b .answer)) (loadOf p b .panel)
-  sticks b s = go (p .state .ended) refl
+  pub went : (q : Queue) (s : Score) → Went q q (s .lines) (broughtIn timed table q s)
+  unfolding broughtIn
+  went q s = go (isTaken (s .answer)) refl (all-lines q q 0 (s .lines))
     where
-      D : Loaded → Type 0
-      D x = Door program ceiling (scoreOf (bitsOf b) .lines) p (numberOf (x .answer)) (x .panel)
+      go : (b : Bool) → isTaken (s .answer) ≡ b → Went q q (s .lines) (pushedAll timed table q q 0 (s .lines))
+          → Went q q (s .lines) (cond b (pushedAll timed table q q 0 (s .lines)) (record { queue = q; answer = s .answer; line = s .line }))
+      go true e w = w
+      go false e w = in-none e refl
 
-      read : p .state .ended ≡ false → (t : Bool) → isTaken (scoreOf (bitsOf b) .answer) ≡ t → D (loadOf p b)
-      read h true t =
-          subst D (stick-pushed p b h t)
-          (open-door (scoreOf (bitsOf b) .lines) s h _ _ (all-lines (tableOf (p .program)) (p .state .queue) (p .state .queue) 0 (scoreOf (bitsOf b) .lines) (f .long)))
-      read h false t = subst D (stick-refused p b h t) (shut _ (scoreOf (bitsOf b) .answer) t)
+-- ---- what a door leaves: the lines read wait behind the others, or it is refused and the panel is as it was
 
-      go : (e : Bool) → p .state .ended ≡ e → D (loadOf p b)
-      go true h = subst D (stick-ended p b h) (shut _ answer.Ended refl)
-      go false h = read h (isTaken (scoreOf (bitsOf b) .answer)) refl
+pub data Brings (p : Panel) (ls : List Line) (a : After Panel) : Type 0 where
+  takes : (l : ℕ) (q : Queue) → p .state .playing .ended ≡ false → (length (p .state .queue .lines) ≡ 64 → Behind (p .state .queue) ls q)
+      → a ≡ record { player = withQueue p q; answers = one 0 l; block = [] } → Brings p ls a
+  refuses : (n l : ℕ) → eqb n 0 ≡ false → a ≡ record { player = p; answers = one n l; block = [] } → Brings p ls a
 
-  -- a line that was read
-  reads : (r : LineRead) → steady (r .line .event) → p .state .ended ≡ false
-      → Door program ceiling (r .line ∷ []) p (numberOf (enteredOf p r .answer)) (enteredOf p r .panel)
-  reads r s h = go (isTaken (r .answer)) refl
-    where
-      D : entered.Entered → Type 0
-      D x = Door program ceiling (r .line ∷ []) p (numberOf (x .answer)) (x .panel)
+pub brings : (p : Panel) (d : Door) (handed : List ℕ) → Brings p (reads d handed .lines) (afterOf p (bring d handed))
+unfolding afterOf bringOf broughtOf withQueue
+brings p d handed = go (p .state .playing .ended) refl (broughtIn (mustBeTimed d) (tableOf (p .program)) (p .state .queue) (reads d handed)) (went (mustBeTimed d) (tableOf (p .program)) (p .state .queue) (reads d handed))
+  where
+    out : Bool → Pushed → Brought
+    out b r = cond b (record { panel = p; answer = answer.Ended; line = 0 }) (record { panel = withQueue p (r .queue); answer = r .answer; line = r .line })
 
-      go : (t : Bool) → isTaken (r .answer) ≡ t → D (enteredOf p r)
-      go true t =
-          subst D (read-taken p r t _ refl)
-          (open-door (r .line ∷ []) (s, tt) h _ _ (one-line (tableOf (p .program)) (p .state .queue) (r .line) (f .long)))
-      go false t = subst D (read-refused p r t) (shut _ (r .answer) t)
+    go : (b : Bool) → p .state .playing .ended ≡ b → (r : Pushed) → Went (mustBeTimed d) (tableOf (p .program)) (p .state .queue) (p .state .queue) (reads d handed .lines) r
+        → Brings p (reads d handed .lines) (record { player = out b r .panel; answers = one (numberOf (out b r .answer)) (out b r .line); block = [] })
+    go true e r w = refuses 9 0 refl refl
+    go false e r (in-all t f) = takes (r .line) (r .queue) e f (λ i. record { player = withQueue p (r .queue); answers = one (eqb-true (numberOf (r .answer)) 0 t i) (r .line); block = [] })
+    go false e r (in-none t s) = refuses (numberOf (r .answer)) (r .line) t (λ i. record { player = withQueue p (s i); answers = one (numberOf (r .answer)) (r .line); block = [] })
 
-  pub units : (b : List ℕ) → steady (unitOf (bitsOf b) .line .event)
-      → Door program ceiling (unitOf (bitsOf b) .line ∷ []) p (numberOf (receiveOf p b .answer)) (receiveOf p b .panel)
-  units b s = go (p .state .ended) refl
-    where
-      D : entered.Entered → Type 0
-      D x = Door program ceiling (unitOf (bitsOf b) .line ∷ []) p (numberOf (x .answer)) (x .panel)
+pub taken-calls : TakenCalls
+unfolding TakenCalls
+taken-calls p d handed long t = go (brings p d handed)
+  where
+    go : Brings p (reads d handed .lines) (afterOf p (bring d handed)) → Takes p (reads d handed .lines) (afterOf p (bring d handed) .player)
+    go (takes l q e f x) =
+        let b = f long in
+        record { queue = q; left = ap (λ (a : After Panel). a .player) x; waits = b .waits; ran = b .ran; last = b .last }
+    go (refuses n l z x) = absurd (differ (sym t ∙ ap (λ (a : After Panel). isZero (a .answers)) x ∙ z))
 
-      go : (e : Bool) → p .state .ended ≡ e → D (receiveOf p b)
-      go true h = subst D (unit-ended p b h) (shut _ answer.Ended refl)
-      go false h = subst D (unit-read p b h (unitOf (bitsOf b)) refl _ refl) (reads (unitOf (bitsOf b)) s h)
+-- ---- one timed line by any door
 
-  pub keypads : (w : List ℕ) → steady (keypadLine w .line .event)
-      → Door program ceiling (keypadLine w .line ∷ []) p (numberOf (enterOf p w .answer)) (enterOf p w .panel)
-  keypads w s = go (p .state .ended) refl
-    where
-      D : entered.Entered → Type 0
-      D x = Door program ceiling (keypadLine w .line ∷ []) p (numberOf (x .answer)) (x .panel)
+line-alike : (timed : Bool) (table : List Instrument) (q : Queue) (l : Line) → hasTime (l .when) ≡ true → lineIn timed table q l ≡ lineIn false table q l
+unfolding lineIn
+line-alike true table q l h = cond-false _ _ (ap not h)
+line-alike false table q l h = refl
 
-      go : (e : Bool) → p .state .ended ≡ e → D (enterOf p w)
-      go true h = subst D (keypad-ended p w h) (shut _ answer.Ended refl)
-      go false h = subst D (keypad-read p w h (keypadLine w) refl _ refl) (reads (keypadLine w) s h)
+by-door : (p : Panel) (d : Door) (a : List ℕ) (l : Line) → hasTime (l .when) ≡ true → reads d a .answer ≡ answer.Taken → reads d a .lines ≡ l ∷ []
+    → broughtIn (mustBeTimed d) (tableOf (p .program)) (p .state .queue) (reads d a) ≡ pushedAll false (tableOf (p .program)) (p .state .queue) (p .state .queue) 0 (l ∷ [])
+unfolding broughtIn pushedAll
+by-door p d a l h t q =
+    let table = tableOf (p .program) in
+    let queue = p .state .queue in
+    cond-true _ _ (ap isTaken t) ∙ ap (pushedAll (mustBeTimed d) table queue queue 0) q
+    ∙ ap (λ (x : Admitted). cond (isTaken (x .answer)) (record { queue = x .queue; answer = answer.Taken; line = 0 }) (record { queue = queue; answer = x .answer; line = 0 }))
+    (line-alike (mustBeTimed d) table queue l h)
+
+pub doors-alike : DoorsAlike
+unfolding DoorsAlike afterOf bringOf broughtOf
+doors-alike p d e a b l h t q u r =
+    ap (λ (x : Pushed). let y = cond {A = Brought} (p .state .playing .ended) (record { panel = p; answer = answer.Ended; line = 0 }) (record { panel = withQueue p (x .queue); answer = x .answer; line = x .line }) in
+    record { player = y .panel; answers = one (numberOf (y .answer)) (y .line); block = [] })
+    (by-door p d a l h t q ∙ sym (by-door p e b l h u r))

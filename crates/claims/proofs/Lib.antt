@@ -1,6 +1,6 @@
 pub mod Steady
 pub mod Doors
 pub mod Cycles
-pub mod ByTree
-pub mod Proved
-pub mod Refusals
+pub mod Past
+pub mod Answers
+pub mod Fresh

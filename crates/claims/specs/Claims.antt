@@ -1,124 +1,181 @@
--- The tender's conditions 1 and 3 and the cycle of condition 2, for the panel, over its public calls.
+-- What is promised of the panel, over its public calls: of a fresh start, of every call on every panel, and of every list of calls on a
+-- fresh panel (the tender's conditions 1 and 3 and the cycle of condition 2).
 use mathlib.Core.Path.{_≡_}
 use mathlib.Core.Bool.{Bool, true, false, not, cond, _&&_}
-use mathlib.Core.List.{List, [], _∷_}
+use mathlib.Core.List.{List, [], _∷_, _++_}
 use Prim.Native.Nat.{ℕ, _≤_}
 use lib.IntN.{ℤ}
 use lib.ListN.{length}
-use lib.Dec.{eqb}
-use Rattle.answer.specs.Numbers.{numberOf, isTaken}
-use Rattle.bitstream.specs.Bits.{bitsOf}
-use Rattle.score_line.specs.Reading.{keypadLine}
+use Rattle.answer.specs.Numbers.{numberOf}
+use Rattle.answer.specs.declared.Answer.the-variants.{Taken}
 use Rattle.score_line.specs.declared.Line.{Line}
-use Rattle.score.specs.Score.{scoreOf, unitOf}
-use Rattle.waiting.specs.Admission.{hasTime}
-use Rattle.players.specs.Cycle.{samples, ends, blockOf}
-use Rattle.players.specs.Plain.{plainAnswer, plainStep}
-use Rattle.players.specs.History.{Call, stick, unit, keypad, cycle, After, Entrances, PlainAlike, CeilingHolds}
-use Rattle.panel.specs.State.{coreOf, endedOf}
-use Rattle.panel.specs.Calls.{freshOf, loadOf, receiveOf, enterOf, cycleOf, blockAfter}
-use Rattle.panel.specs.declared.Panel.{Panel}
-use Rattle.loader.specs.declared.Program.{Program}
 use Rattle.syntax.specs.Tree.{Instrument}
 use Rattle.orchestra.specs.Verdict.{Accepted}
 use Rattle.voices.specs.Tree.{treeVoices}
-use Rattle.loader.specs.Loading.{loadOf as loadedFrom}
+use Rattle.sounding.specs.Voices.{Held}
+use Rattle.players.specs.Lists.{All}
+use Rattle.players.specs.Holds.{Settings, settingsOf, dueOf, endsBy, blockOf}
+use Rattle.players.specs.Plain.{plainStart}
+use Rattle.players.specs.Calls.{Door, hasTime, reads, Call, bring, cycle, numbered, one, After, Player, isZero, Moment, trace, afterAll}
+use Rattle.players.specs.Condition3.{PlainAlike, WithinCeiling}
+use Rattle.players.specs.History.{Reached, nowhere, at, History, historyOf}
+use Rattle.waiting.specs.Admission.{waitingIn}
+use Rattle.waiting.specs.declared.Queue.{Queue}
+use Rattle.loader_claims.specs.Claims.{StandsFor}
+use Rattle.panel.specs.State.{holdsOf, withQueue, endedOf}
+use Rattle.panel.specs.Calls.{freshOf, bringOf, cycleOf, blockAfter}
+use Rattle.panel.specs.declared.Panel.{Panel}
+use Rattle.claims.specs.Verdict.{Verdict}
+use Rattle.claims.specs.Fresh.{First, checks}
 
--- what each call of the panel leaves
-unfoldable pub afterCall : Panel → Call → After Panel
-afterCall p (stick bytes) = record { player = loadOf p bytes .panel; answer = numberOf (loadOf p bytes .answer); block = [] }
-afterCall p (unit bytes) = record { player = receiveOf p bytes .panel; answer = numberOf (receiveOf p bytes .answer); block = [] }
-afterCall p (keypad words) = record { player = enterOf p words .panel; answer = numberOf (enterOf p words .answer); block = [] }
-afterCall p (cycle block) =
-    record {
-      player = cycleOf p (length block) .panel;
-      answer = numberOf (cycleOf p (length block) .answer);
-      block = blockAfter p block;
-    }
+-- ---- the panel as a player
 
-abbrev pub missedOf : Panel → ℕ
-missedOf p = p .state .missed
+unfoldable pub afterOf : Panel → Call → After Panel
+afterOf p (bring d handed) =
+    let r = bringOf p d handed in
+    record { player = r .panel; answers = one (numberOf (r .answer)) (r .line); block = [] }
+afterOf p (cycle b) =
+    let r = cycleOf p (length b) in
+    record { player = r .panel; answers = one (numberOf (r .answer)) 0; block = blockAfter p b }
 
--- the panel's entrances, and the lines that bytes and numbers hold
-abbrev pub entrances : Entrances Panel
-entrances =
-    record {
-      after = afterCall;
-      missed = missedOf;
-      inStick = λ (bytes : List ℕ). scoreOf (bitsOf bytes) .lines;
-      inUnit = λ (bytes : List ℕ). unitOf (bitsOf bytes) .line ∷ [];
-      inKeypad = λ (words : List ℕ). keypadLine words .line ∷ [];
-    }
+-- the position at the start of the last cycle that answered 0
+abbrev pub reachedOf : Panel → Reached
+reachedOf p = cond (p .state .queue .ran) (at (p .state .queue .last)) nowhere
 
--- the program of an orchestra's bytes
-abbrev pub programOf : List ℕ → Program
-programOf orchestra = loadedFrom orchestra .program
+abbrev pub panel : Player Panel
+panel = record { after = afterOf; counts = λ (p : Panel). holdsOf p .plays .counts }
 
-abbrev pub freshPanel : List ℕ → ℕ → Panel
-freshPanel orchestra ceiling = freshOf orchestra ceiling .panel
+-- ---- a fresh start
 
--- an accepted orchestra and a ceiling from 1 to 32,767
-pub record Lawful (orchestra : List ℕ) (ceiling : ℕ) : Type 0 where
-  pub accepted : isTaken (loadedFrom orchestra .answer) ≡ true
+-- the panel of an accepted orchestra: nothing waits, nothing plays, no cycle has run, and its program stands for the tree
+pub record Begun (orchestra : List ℕ) (ceiling : ℕ) (p : Panel) : Type 0 where
+  pub tree : List Instrument
+  pub accepted : Accepted orchestra tree
+  pub stands : StandsFor tree (p .program)
+  pub limit : p .ceiling ≡ ceiling
+  pub holds : holdsOf p ≡ plainStart (settingsOf ceiling) []
+  pub reached : reachedOf p ≡ nowhere
+
+-- what a call leaves of a panel that has ended: 9, or 10 for a block of another length, and nothing changes
+abbrev pub endedAfter : Panel → Call → After Panel
+endedAfter p (bring d b) = record { player = p; answers = one 9 0; block = [] }
+endedAfter p (cycle b) = record { player = p; answers = one (cond (numbered (cycle b)) 9 10) 0; block = b }
+
+abbrev pub AsEnded : Moment Panel → Type 0
+AsEnded m = m .after ≡ endedAfter (m .before) (m .call)
+
+-- For all bytes and all ceilings: the number is that of the first check that fails, and of no other; 0 comes with a begun panel, and
+-- every other number with a panel on which every list of calls is refused and changes nothing.
+pub record FreshStart (orchestra : List ℕ) (ceiling : ℕ) : Type 1 where
+  pub given : First (checks orchestra ceiling) (numberOf (freshOf orchestra ceiling .answer))
+  pub only : (n : ℕ) → First (checks orchestra ceiling) n → numberOf (freshOf orchestra ceiling .answer) ≡ n
+  pub begun : freshOf orchestra ceiling .answer ≡ Taken → Begun orchestra ceiling (freshOf orchestra ceiling .panel)
+  pub noPanel : (freshOf orchestra ceiling .answer ≡ Taken → ⊥) → (cs : List Call) → All AsEnded (trace panel (freshOf orchestra ceiling .panel) cs)
+
+abbrev pub FreshVerdict : Type 1
+FreshVerdict = (orchestra : List ℕ) (ceiling : ℕ) → FreshStart orchestra ceiling
+
+-- ---- every call on every panel
+
+-- what a door leaves that answers 0: the lines read wait behind the others, and nothing else of the panel changes
+pub record Takes (p : Panel) (ls : List Line) (p′ : Panel) : Type 0 where
+  pub queue : Queue
+  pub left : p′ ≡ withQueue p queue
+  pub waits : waitingIn queue ≡ waitingIn (p .state .queue) ++ ls
+  pub ran : queue .ran ≡ p .state .queue .ran
+  pub last : queue .last ≡ p .state .queue .last
+
+unfoldable pub TakenCalls : Type 0
+TakenCalls =
+    (p : Panel) (d : Door) (handed : List ℕ) → length (p .state .queue .lines) ≡ 64 → isZero (afterOf p (bring d handed) .answers) ≡ true
+    → Takes p (reads d handed .lines) (afterOf p (bring d handed) .player)
+
+-- a cycle call that finds the end
+abbrev pub findsEnd : Panel → Call → Bool
+findsEnd p (bring d handed) = false
+findsEnd p (cycle b) = numbered (cycle b) && not (p .state .playing .ended) && endsBy (dueOf (holdsOf p)) (holdsOf p .plays)
+
+abbrev pub blockIn : Call → List ℤ
+blockIn (bring d handed) = []
+blockIn (cycle b) = b
+
+-- Condition 1: a refusal changes neither the panel nor a lent block, save that the cycle call that finds the end marks it.
+pub record Refused (p : Panel) (c : Call) : Type 0 where
+  pub player : afterOf p c .player ≡ cond (findsEnd p c) (endedOf p) p
+  pub block : afterOf p c .block ≡ blockIn c
+
+unfoldable pub RefusalsChangeNothing : Type 0
+RefusalsChangeNothing = (p : Panel) (c : Call) → isZero (afterOf p c .answers) ≡ false → Refused p c
+
+-- A timed line that two doors read alone as the same line gets the same answer and leaves the same panel through both.
+unfoldable pub DoorsAlike : Type 0
+DoorsAlike =
+    (p : Panel) (d e : Door) (a b : List ℕ) (l : Line) → hasTime (l .when) ≡ true →
+    reads d a .answer ≡ Taken → reads d a .lines ≡ l ∷ [] → reads e b .answer ≡ Taken → reads e b .lines ≡ l ∷ [] →
+    afterOf p (bring d a) ≡ afterOf p (bring e b)
+
+-- ---- every list of calls on a fresh panel
+
+-- an accepted orchestra, as this tree, and a lawful ceiling
+pub record Given (orchestra : List ℕ) (is : List Instrument) (ceiling : ℕ) : Type 0 where
+  pub accepted : Accepted orchestra is
   pub low : 1 ≤ ceiling
   pub high : ceiling ≤ 32767
 
--- the panel after a list of calls
-unfoldable pub afterAll : Panel → List Call → Panel
-afterAll p [] = p
-afterAll p (c ∷ cs) = afterAll (afterCall p c .player) cs
+abbrev pub fresh : List ℕ → ℕ → Panel
+fresh orchestra ceiling = freshOf orchestra ceiling .panel
 
--- A cycle call does the cycle that document 01 defines, steps 1 to 8 or the end at step 1, to what the panel holds: this gives its
--- answer, what the panel holds afterwards and, where it answers 0, the block. The notes do what the tree means.
-pub record IsCycle (is : List Instrument) (ceiling : ℕ) (p : Panel) (a : After Panel) : Type 0 where
-  pub answer : a .answer ≡ plainAnswer (coreOf p)
-  pub held : coreOf (a .player) ≡ plainStep (treeVoices is) (coreOf p)
-  pub block : a .answer ≡ 0 → a .block ≡ blockOf (treeVoices is) ceiling (coreOf p)
+-- the settings of each cycle: constant until they can be changed
+abbrev pub settings : ℕ → ℕ → Settings
+settings ceiling k = settingsOf ceiling
 
--- Condition 2, every cycle of sound. For any accepted orchestra, whose tree is `is`, any ceiling and any list of calls on a fresh
--- panel, whatever is handed in, timed or not, late or not: the next cycle call lent 320 samples is that cycle.
+module _ (orchestra : List ℕ) (is : List Instrument) (ceiling : ℕ) where
+  -- what a list of calls leaves by its history, and the panel after it
+  abbrev pub past : List Call → History Held
+  past cs = historyOf (treeVoices is) (settings ceiling) (trace panel (fresh orchestra ceiling) cs)
+
+  abbrev pub panelAfter : List Call → Panel
+  panelAfter cs = afterAll panel (fresh orchestra ceiling) cs
+
+  -- Condition 2, every cycle of sound: whatever was handed in, timed or not, late or not, the panel holds what its history says,
+  pub record HoldsPast (cs : List Call) : Type 0 where
+    pub holds : holdsOf (panelAfter cs) ≡ past cs .holds
+    pub reached : reachedOf (panelAfter cs) ≡ past cs .reached
+
+  -- and a cycle call that answers 0 leaves the block of document 01's cycle, with what the tree means.
+  abbrev pub BlockByPast : List Call → List ℤ → Type 0
+  BlockByPast cs lent =
+      isZero (afterOf (panelAfter cs) (cycle lent) .answers) ≡ true
+      → afterOf (panelAfter cs) (cycle lent) .block
+      ≡ blockOf (treeVoices is) (settingsOf ceiling) (dueOf (past cs .holds)) (past cs .holds .plays)
+
+  -- Each call answers once, with the number that its history gives, and is given each number exactly then.
+  pub record Answered (cs : List Call) (c : Call) : Type 0 where
+    pub number : ℕ
+    pub line : ℕ
+    pub answers : afterOf (panelAfter cs) c .answers ≡ one number line
+    pub given : Verdict is (past cs) c number line
+
+  abbrev pub VerdictGiven : List Call → Call → Type 0
+  VerdictGiven cs c = (number line : ℕ) → Verdict is (past cs) c number line → afterOf (panelAfter cs) c .answers ≡ one number line
+
 unfoldable pub CycleByTree : Type 0
 CycleByTree =
-    (orchestra : List ℕ) (is : List Instrument) (ceiling : ℕ) → Accepted orchestra is → 1 ≤ ceiling → ceiling ≤ 32767 →
-    (cs : List Call) (block : List ℤ) → length block ≡ samples →
-    let p = afterAll (freshPanel orchestra ceiling) cs in
-    IsCycle is ceiling p (afterCall p (cycle block))
+    (orchestra : List ℕ) (is : List Instrument) (ceiling : ℕ) → Given orchestra is ceiling → (cs : List Call) →
+    HoldsPast orchestra is ceiling cs × ((lent : List ℤ) → BlockByPast orchestra is ceiling cs lent)
 
--- Condition 3, first half. For any accepted orchestra, whose tree is `is`, any ceiling and any list of calls on a fresh panel: if every
--- line taken is timed and in time, each cycle lent 320 samples gives the answer and the block of the plain player, whose notes do what
--- the tree means, and after every call the missed notes are its.
+unfoldable pub CallVerdict : Type 0
+CallVerdict =
+    (orchestra : List ℕ) (is : List Instrument) (ceiling : ℕ) → Given orchestra is ceiling → (cs : List Call) (c : Call) →
+    Answered orchestra is ceiling cs c × VerdictGiven orchestra is ceiling cs c
+
+-- Condition 3, first half and second half.
 unfoldable pub Condition3 : Type 0
 Condition3 =
-    (orchestra : List ℕ) (is : List Instrument) (ceiling : ℕ) → Accepted orchestra is → 1 ≤ ceiling → ceiling ≤ 32767 →
-    PlainAlike entrances (treeVoices is) ceiling (freshPanel orchestra ceiling)
+    (orchestra : List ℕ) (is : List Instrument) (ceiling : ℕ) → Given orchestra is ceiling →
+    PlainAlike panel (treeVoices is) (settings ceiling) (fresh orchestra ceiling)
 
--- Condition 3, second half. For every list of calls no sample that a cycle gives lies above the ceiling or below its negative.
 unfoldable pub CeilingBinds : Type 0
 CeilingBinds =
-    (orchestra : List ℕ) (ceiling : ℕ) → Lawful orchestra ceiling → CeilingHolds entrances ceiling (freshPanel orchestra ceiling)
-
--- a cycle call that finds the end: it is lent 320 samples, the piece is not yet ended, and step 1 ends it
-unfoldable pub findsEnd : Panel → List ℤ → Bool
-findsEnd p block = eqb (length block) samples && not (p .state .ended) && ends (coreOf p)
-
--- what a refused call leaves: the panel as it was, save that the cycle call that finds the end marks the piece ended, and the lent
--- block as it was
-abbrev pub Unchanged : Panel → Call → Type 0
-Unchanged p (stick bytes) = afterCall p (stick bytes) .player ≡ p
-Unchanged p (unit bytes) = afterCall p (unit bytes) .player ≡ p
-Unchanged p (keypad words) = afterCall p (keypad words) .player ≡ p
-Unchanged p (cycle block) =
-    (afterCall p (cycle block) .player ≡ cond (findsEnd p block) (endedOf p) p) × (afterCall p (cycle block) .block ≡ block)
-
--- Condition 1, of every call on every panel: a refusal changes neither the panel nor a lent block, save that mark.
-unfoldable pub RefusalsChangeNothing : Type 0
-RefusalsChangeNothing = (p : Panel) (c : Call) → eqb (afterCall p c .answer) 0 ≡ false → Unchanged p c
-
--- One timed line by each of the three entrances: read whole by all three, it gets the same answer and leaves the same panel.
-unfoldable pub EntrancesAlike : Type 0
-EntrancesAlike =
-    (p : Panel) (l : Line) (score bytes words : List ℕ) → hasTime (l .when) ≡ true →
-    isTaken (scoreOf (bitsOf score) .answer) ≡ true → scoreOf (bitsOf score) .lines ≡ l ∷ [] →
-    isTaken (unitOf (bitsOf bytes) .answer) ≡ true → unitOf (bitsOf bytes) .line ≡ l →
-    isTaken (keypadLine words .answer) ≡ true → keypadLine words .line ≡ l →
-    (afterCall p (stick score) ≡ afterCall p (unit bytes)) × (afterCall p (unit bytes) ≡ afterCall p (keypad words))
+    (orchestra : List ℕ) (is : List Instrument) (ceiling : ℕ) → Given orchestra is ceiling → (cs : List Call) →
+    All (WithinCeiling (settings ceiling)) (trace panel (fresh orchestra ceiling) cs)

@@ -1,66 +1,182 @@
-// What goes into the waiting lines: a line of any entrance, or a whole stick (document 01, "Order at an entrance").
+// What the doors bring into the waiting lines: what was handed in is read whole, then all its lines go in or none (document 01, "Order at
+// an entrance").
 use answer::Answer;
+use score_line::Event;
 use score_line::Line;
+use score_line::LineRead;
+use score_line::When;
 use sounding::Instrument;
 use waiting::Admitted;
 use waiting::Queue;
 ghost use mathlib.Core.Path.{_≡_};
-ghost use mathlib.Core.Bool.{true};
+ghost use mathlib.Core.Bool.{true, false, not, _&&_};
+ghost use Prim.Native.Nat.{min};
 ghost use lib.ListN.{take};
 ghost use Rattle.answer.specs.Numbers.{isTaken};
 ghost use Rattle.bitstream.specs.Bits.{bitsOf};
 ghost use Rattle.score.specs.Score.{scoreOf};
-ghost use Rattle.entrances.specs.Entrances.{lineIn, stickLine, pushedAll, stickIn};
+ghost use Rattle.players.specs.Calls.{mustBeTimed, hasTime, single, reads};
+ghost use Rattle.players.specs.Calls as door;
+ghost use Rattle.entrances.specs.Entrances.{emptyLine, handedOf, scoreIn, lineIn, pushedAll, broughtIn};
 
-// What a stick makes of the waiting lines; `line` is the number of the line that a refusal is about.
+// What was handed in at a door, read: the first fault and its line's number, or the lines. 64 lines can wait at most, so that no more
+// than 65 are handed over; the last of them is still judged by its own faults before the room is. `timed` says that each needs a time.
+pub struct Handed {
+    lines: [Line; 65],
+    count: usize,
+    timed: bool,
+    answer: Answer,
+    line: usize,
+}
+
+// What the lines make of the waiting ones; `line` is the number of the line that a refusal is about.
 pub struct Pushed {
     pub queue: Queue,
     pub answer: Answer,
     pub line: usize,
 }
 
-// The one admission, with the fields of the line's instrument.
-pub fn line_in(table: [Instrument; 8], n: usize, q: Queue, l: Line) -> Admitted
-    ensures { λ r. ⌜ r ≡ lineIn (take n table) q l ⌝ }
+// A line for places that hold none.
+pub fn empty_line() -> Line
+    ensures { λ r. ⌜ r ≡ emptyLine ⌝ }
 {
+    Line {
+        when: When::Untimed,
+        priority: false,
+        event: Event::End,
+        count: 0,
+        values: [0.0f32; 8],
+    }
+}
+
+fn within(n: usize, most: usize) -> usize
+    ensures { λ r. ⌜ r ≡ min n most ⌝ }
+{
+    if n < most { n } else { most }
+}
+
+// The lines of a score that is known to be whole.
+fn gather(s: &[u8]) -> Handed
+    requires { ⌜ isTaken (scoreOf (bitsOf (now s)) .answer) ≡ true ⌝ }
+    ensures { λ r. ⌜ r ≡ handedOf true (scoreOf (bitsOf (now (s .entry)))) ⌝ }
+{
+    let none = empty_line();
+    let mut lines = [none; 65];
+    let mut c = score::first(s);
+    let m = within(c.left, 65);
+    let mut i: usize = 0;
+    while i < m {
+        let step = score::next(s, c);
+        let l = step.line;
+        lines[i] = l;
+        c = step.rest;
+        i += 1;
+    }
+    Handed {
+        timed: true,
+        answer: Answer::Taken,
+        line: 0,
+        lines: lines,
+        count: i,
+    }
+}
+
+// A stick: a whole score, whose lines must be timed.
+pub fn stick(s: &[u8]) -> Handed
+    ensures { λ r. ⌜ r ≡ handedOf (mustBeTimed door.stick) (reads door.stick (now (s .entry))) ⌝ }
+{
+    let read = score::read_score(s);
+    let answer = read.answer;
+    if answer::is_taken(answer) {
+        return gather(s);
+    }
+    let none = empty_line();
+    Handed {
+        timed: true,
+        answer: answer,
+        line: read.line,
+        lines: [none; 65],
+        count: 0,
+    }
+}
+
+// A line that was read on its own.
+fn alone(read: LineRead) -> Handed
+    ensures { λ r. ⌜ r ≡ handedOf false (single read) ⌝ }
+{
+    let answer = read.answer;
+    let l = read.line;
+    let none = empty_line();
+    let mut lines = [none; 65];
+    let mut count: usize = 0;
+    if answer::is_taken(answer) {
+        lines[0] = l;
+        count = 1;
+    }
+    Handed {
+        timed: false,
+        answer: answer,
+        line: 0,
+        lines: lines,
+        count: count,
+    }
+}
+
+// An access unit.
+pub fn unit(s: &[u8]) -> Handed
+    ensures { λ r. ⌜ r ≡ handedOf (mustBeTimed door.unit) (reads door.unit (now (s .entry))) ⌝ }
+{
+    alone(score::read_unit(s))
+}
+
+// A keypad line.
+pub fn keypad(words: &[u32]) -> Handed
+    ensures { λ r. ⌜ r ≡ handedOf (mustBeTimed door.keypad) (reads door.keypad (now (words .entry))) ⌝ }
+{
+    alone(score_line::keypad_line(words))
+}
+
+fn lacks_time(l: Line, timed: bool) -> bool
+    ensures { λ r. ⌜ r ≡ (timed && not (hasTime (l .when))) ⌝ }
+{
+    if timed { !waiting::is_timed(l) } else { false }
+}
+
+// One line: 6 where it needs a time and has none, then the one admission, with the fields of the line's instrument.
+fn line_in(table: [Instrument; 8], n: usize, q: Queue, l: Line, timed: bool) -> Admitted
+    ensures { λ r. ⌜ r ≡ lineIn timed (take n table) q l ⌝ }
+{
+    if lacks_time(l, timed) {
+        return Admitted {
+            queue: q,
+            answer: Answer::NoTime,
+        };
+    }
     waiting::admit(q, l, sounding::fields_for(table, n, l))
 }
 
-// A line of a stick has to have a time.
-fn stick_line(table: [Instrument; 8], n: usize, q: Queue, l: Line) -> Admitted
-    ensures { λ r. ⌜ r ≡ stickLine (take n table) q l ⌝ }
+// The lines into a copy of the waiting ones, so that earlier lines count as waiting.
+fn push_lines(table: [Instrument; 8], n: usize, old: Queue, h: Handed) -> Pushed
+    ensures { λ r. ⌜ r ≡ pushedAll (h .timed) (take n table) old old 0 (take (h .count) (h .lines)) ⌝ }
 {
-    if waiting::is_timed(l) {
-        return line_in(table, n, q, l);
-    }
-    Admitted {
-        queue: q,
-        answer: Answer::NoTime,
-    }
-}
-
-// The lines of a score that was read whole, into a copy of the waiting lines.
-fn push_lines(table: [Instrument; 8], n: usize, old: Queue, s: &[u8]) -> Pushed
-    requires { ⌜ isTaken (scoreOf (bitsOf (now s)) .answer) ≡ true ⌝ }
-    ensures { λ r. ⌜ r ≡ pushedAll (take n table) old old 0 (scoreOf (bitsOf (now (s .entry))) .lines) ⌝ }
-{
+    let lines = h.lines;
+    let timed = h.timed;
+    let m = within(h.count, 65);
     let mut q = old;
-    let mut c = score::first(s);
-    let total = c.left;
-    while 0 < c.left {
-        let step = score::next(s, c);
-        let l = step.line;
-        let a = stick_line(table, n, q, l);
+    let mut i: usize = 0;
+    while i < m {
+        let l = lines[i];
+        let a = line_in(table, n, q, l, timed);
         let answer = a.answer;
         if !answer::is_taken(answer) {
             return Pushed {
                 queue: old,
                 answer: answer,
-                line: total - c.left,
+                line: i,
             };
         }
         q = a.queue;
-        c = step.rest;
+        i += 1;
     }
     Pushed {
         queue: q,
@@ -69,18 +185,17 @@ fn push_lines(table: [Instrument; 8], n: usize, old: Queue, s: &[u8]) -> Pushed
     }
 }
 
-// A stick: read whole first, then all its lines or none.
-pub fn stick_in(table: [Instrument; 8], n: usize, q: Queue, s: &[u8]) -> Pushed
-    ensures { λ r. ⌜ r ≡ stickIn (take n table) q (scoreOf (bitsOf (now (s .entry)))) ⌝ }
+// What was handed in, into the waiting lines: all its lines or none.
+pub fn bring_in(table: [Instrument; 8], n: usize, q: Queue, h: Handed) -> Pushed
+    ensures { λ r. ⌜ r ≡ broughtIn (h .timed) (take n table) q (scoreIn h) ⌝ }
 {
-    let read = score::read_score(s);
-    let answer = read.answer;
-    if !answer::is_taken(answer) {
-        return Pushed {
-            queue: q,
-            answer: answer,
-            line: read.line,
-        };
+    let answer = h.answer;
+    if answer::is_taken(answer) {
+        return push_lines(table, n, q, h);
     }
-    push_lines(table, n, q, s)
+    Pushed {
+        queue: q,
+        answer: answer,
+        line: h.line,
+    }
 }

@@ -4,13 +4,11 @@ use mathlib.Core.List.{List}
 use Prim.Native.Nat.{ℕ}
 use lib.ListN.{take, replicate}
 use lib.Ieee.{binary32, ofBits}
-use Rattle.score_line.specs.declared.When.the-variants.{Untimed}
-use Rattle.score_line.specs.declared.Event.the-variants.{End}
-use Rattle.score_line.specs.declared.Line.{Line}
 use Rattle.synth.specs.declared.Note.{Note}
 use Rattle.waiting.specs.declared.Queue.{Queue}
-use Rattle.players.specs.Cycle.{Voices, Core}
-use Rattle.players.specs.Plain.{startingTempo}
+use Rattle.players.specs.Cycle.{Voices}
+use Rattle.players.specs.Holds.{Holds, sixty}
+use Rattle.entrances.specs.Entrances.{emptyLine}
 use Rattle.sounding.specs.Voices.{Held, voices}
 use Rattle.sounding.specs.declared.Instrument.{Instrument}
 use Rattle.turning.specs.Turn as turn
@@ -26,9 +24,9 @@ tableOf g = take (g .count) (g .table)
 abbrev pub voicesOf : Program → Voices Held
 voicesOf g = voices (tableOf g) (g .code) (g .vals)
 
--- what a cycle works on
-abbrev pub coreOf : Panel → Core Held
-coreOf p = turn.coreOf (p .state)
+-- what waits and what plays
+abbrev pub holdsOf : Panel → Holds Held
+holdsOf p = turn.holdsOf (p .state)
 
 -- the panel in another state: its ceiling and its program stay
 abbrev pub withState : Panel → State → Panel
@@ -36,25 +34,13 @@ withState p s = record { state = s; ceiling = p .ceiling; program = p .program }
 
 -- the panel with other waiting lines
 unfoldable pub withQueue : Panel → Queue → Panel
-withQueue p q =
-    withState p
-    (record {
-      queue = q;
-      notes = p .state .notes;
-      position = p .state .position;
-      tempo = p .state .tempo;
-      missed = p .state .missed;
-      ended = p .state .ended;
-    })
+withQueue p q = withState p (record { queue = q; playing = p .state .playing })
 
 -- the panel marked as ended
 unfoldable pub endedOf : Panel → Panel
-endedOf p = withState p (turn.stopped (p .state))
+endedOf p = withState p (record { queue = p .state .queue; playing = turn.stopped (p .state .playing) })
 
 -- ---- a fresh start
-
-unfoldable pub emptyLine : Line
-emptyLine = record { when = Untimed; priority = false; event = End; count = 0; values = replicate 8 (ofBits binary32 0) }
 
 unfoldable pub emptyNote : Note
 emptyNote =
@@ -66,11 +52,7 @@ startOf program ceiling ended =
     record {
       state = record {
         queue = record { lines = replicate 64 emptyLine; count = 0; ran = false; last = 0 };
-        notes = record { notes = replicate 16 emptyNote; count = 0 };
-        position = 0;
-        tempo = startingTempo;
-        missed = 0;
-        ended = ended;
+        playing = record { notes = record { notes = replicate 16 emptyNote; count = 0 }; position = 0; tempo = sixty; missed = 0; ended = ended };
       };
       ceiling = ceiling;
       program = program;

@@ -1,12 +1,10 @@
 // The panel: its state by value, the fresh start, the three entrances and the cycle (document 01).
 use answer::Answer;
+use entrances::Handed;
 use loader::Program;
-use score_line::Event;
-use score_line::Line;
-use score_line::LineRead;
-use score_line::When;
 use sounding::Notes;
 use synth::Note;
+use turning::Playing;
 use turning::State;
 use waiting::Queue;
 ghost use mathlib.Core.Path.{_≡_};
@@ -14,7 +12,9 @@ ghost use mathlib.Core.List.{[]};
 ghost use lib.ListN.{length};
 ghost use Rattle.panel.specs.State.{startOf};
 ghost use Rattle.loader.specs.Loading.{loadOf as loadedFrom};
-ghost use Rattle.panel.specs.Calls.{noPanel, freshOf, loadOf, enteredOf, receiveOf, enterOf, cycleOf, blockAfter};
+ghost use Rattle.players.specs.Calls.{stick, unit, keypad};
+ghost use Rattle.entrances.specs.Entrances.{scoreIn};
+ghost use Rattle.panel.specs.Calls.{noPanel, freshOf, broughtOf, bringOf, cycleOf, blockAfter};
 
 // What the calls change, beside what a fresh start fixes.
 pub struct Panel {
@@ -28,16 +28,11 @@ pub struct Fresh {
     pub answer: Answer,
 }
 
-// What a stick leaves; `line` is the number of the line that a refusal is about.
-pub struct Loaded {
+// What a call at any door leaves; `line` is the number of the line that a refusal is about.
+pub struct Brought {
     pub panel: Panel,
     pub answer: Answer,
     pub line: usize,
-}
-
-pub struct Entered {
-    pub panel: Panel,
-    pub answer: Answer,
 }
 
 pub struct Cycled {
@@ -45,29 +40,29 @@ pub struct Cycled {
     pub answer: Answer,
 }
 
-// A line that was read goes to the one admission, whichever entrance it came by.
-fn take_in(mut p: Panel, read: LineRead) -> Entered
-    ensures { λ r. ⌜ r ≡ enteredOf p read ⌝ }
+// What was handed in at a door: 9 first, then all its lines or none.
+fn bring(mut p: Panel, h: Handed) -> Brought
+    ensures { λ r. ⌜ r ≡ broughtOf p (h .timed) (scoreIn h) ⌝ }
 {
-    let answer = read.answer;
-    if !answer::is_taken(answer) {
-        return Entered {
+    if p.state.playing.ended {
+        return Brought {
             panel: p,
-            answer: answer,
+            answer: Answer::Ended,
+            line: 0,
         };
     }
     let table = p.program.table;
     let mut state = p.state;
     let q = state.queue;
-    let l = read.line;
-    let a = entrances::line_in(table, p.program.count, q, l);
-    let left = a.queue;
-    let given = a.answer;
+    let r = entrances::bring_in(table, p.program.count, q, h);
+    let left = r.queue;
+    let given = r.answer;
     state.queue = left;
     p.state = state;
-    Entered {
+    Brought {
         panel: p,
         answer: given,
+        line: r.line,
     }
 }
 
@@ -75,13 +70,7 @@ fn take_in(mut p: Panel, read: LineRead) -> Entered
 fn start(program: Program, ceiling: u16, ended: bool) -> Panel
     ensures { λ r. ⌜ r ≡ startOf program ceiling ended ⌝ }
 {
-    let line = Line {
-        when: When::Untimed,
-        priority: false,
-        event: Event::End,
-        count: 0,
-        values: [0.0f32; 8],
-    };
+    let line = entrances::empty_line();
     let note = Note {
         values: [0.0f32; 16],
         labelled: false,
@@ -100,14 +89,16 @@ fn start(program: Program, ceiling: u16, ended: bool) -> Panel
                 ran: false,
                 last: 0,
             },
-            notes: Notes {
-                notes: notes,
-                count: 0,
+            playing: Playing {
+                notes: Notes {
+                    notes: notes,
+                    count: 0,
+                },
+                position: 0,
+                tempo: Panel::STARTING_TEMPO,
+                missed: 0,
+                ended: ended,
             },
-            position: 0,
-            tempo: Panel::STARTING_TEMPO,
-            missed: 0,
-            ended: ended,
         },
         ceiling: ceiling,
         program: program,
@@ -159,55 +150,24 @@ impl Panel {
     }
 
     // A stick: the whole score, or nothing of it.
-    pub fn load_score(mut self, s: &[u8]) -> Loaded
-        ensures { λ r. ⌜ r ≡ loadOf self (now (s .entry)) ⌝ }
+    pub fn load_score(self, s: &[u8]) -> Brought
+        ensures { λ r. ⌜ r ≡ bringOf self stick (now (s .entry)) ⌝ }
     {
-        if self.state.ended {
-            return Loaded {
-                panel: self,
-                answer: Answer::Ended,
-                line: 0,
-            };
-        }
-        let table = self.program.table;
-        let mut state = self.state;
-        let q = state.queue;
-        let r = entrances::stick_in(table, self.program.count, q, s);
-        let left = r.queue;
-        let given = r.answer;
-        state.queue = left;
-        self.state = state;
-        Loaded {
-            panel: self,
-            answer: given,
-            line: r.line,
-        }
+        bring(self, entrances::stick(s))
     }
 
     // An access unit.
-    pub fn receive_unit(self, s: &[u8]) -> Entered
-        ensures { λ r. ⌜ r ≡ receiveOf self (now (s .entry)) ⌝ }
+    pub fn receive_unit(self, s: &[u8]) -> Brought
+        ensures { λ r. ⌜ r ≡ bringOf self unit (now (s .entry)) ⌝ }
     {
-        if self.state.ended {
-            return Entered {
-                panel: self,
-                answer: Answer::Ended,
-            };
-        }
-        take_in(self, score::read_unit(s))
+        bring(self, entrances::unit(s))
     }
 
     // A keypad line.
-    pub fn enter_line(self, words: &[u32]) -> Entered
-        ensures { λ r. ⌜ r ≡ enterOf self (now (words .entry)) ⌝ }
+    pub fn enter_line(self, words: &[u32]) -> Brought
+        ensures { λ r. ⌜ r ≡ bringOf self keypad (now (words .entry)) ⌝ }
     {
-        if self.state.ended {
-            return Entered {
-                panel: self,
-                answer: Answer::Ended,
-            };
-        }
-        take_in(self, score_line::keypad_line(words))
+        bring(self, entrances::keypad(words))
     }
 
     // A cycle of sound into a block of 320 samples.
@@ -221,7 +181,7 @@ impl Panel {
                 answer: Answer::BlockLength,
             };
         }
-        if self.state.ended {
+        if self.state.playing.ended {
             return Cycled {
                 panel: self,
                 answer: Answer::Ended,
@@ -239,7 +199,7 @@ impl Panel {
             block,
         );
         self.state = next;
-        if next.ended {
+        if next.playing.ended {
             return Cycled {
                 panel: self,
                 answer: Answer::Ended,
@@ -252,9 +212,9 @@ impl Panel {
     }
 
     pub fn missed_notes(self) -> u64
-        ensures { λ r. ⌜ r ≡ self .state .missed ⌝ }
+        ensures { λ r. ⌜ r ≡ self .state .playing .missed ⌝ }
     {
-        self.state.missed
+        self.state.playing.missed
     }
 
     pub fn waiting_lines(self) -> usize
@@ -264,20 +224,20 @@ impl Panel {
     }
 
     pub fn sounding_notes(self) -> usize
-        ensures { λ r. ⌜ r ≡ self .state .notes .count ⌝ }
+        ensures { λ r. ⌜ r ≡ self .state .playing .notes .count ⌝ }
     {
-        self.state.notes.count
+        self.state.playing.notes.count
     }
 
     pub fn has_ended(self) -> bool
-        ensures { λ r. ⌜ r ≡ self .state .ended ⌝ }
+        ensures { λ r. ⌜ r ≡ self .state .playing .ended ⌝ }
     {
-        self.state.ended
+        self.state.playing.ended
     }
 
     pub fn position_in_ticks(self) -> u64
-        ensures { λ r. ⌜ r ≡ self .state .position ⌝ }
+        ensures { λ r. ⌜ r ≡ self .state .playing .position ⌝ }
     {
-        self.state.position
+        self.state.playing.position
     }
 }

@@ -1,284 +1,302 @@
--- Condition 3, first half, for every player that works.
+-- Condition 3, first half, for every player that follows its history.
 use mathlib.Core.Path.{_≡_, refl, sym, ap, _∙_, subst, subst⁻¹}
 use mathlib.Core.Bool.{Bool, true, false, _&&_, cond}
 use mathlib.Core.List.{List, [], _∷_, _++_}
-use Prim.Native.Nat.{ℕ, suc, _+_, _≤_}
+use Prim.Native.Nat.{ℕ, suc, _≤_}
 use native.Mathlib.Omega.{arith}
 use native.Mathlib.Nat.{le-refl}
 use lib.IntN.{ℤ}
 use lib.ListN.{length}
 use lib.Dec.{eqb}
-use borrow.Author.Tests.{eqb-false}
 use Rattle.score_line.specs.declared.Line.{Line}
-use Rattle.players.specs.Cycle.{Voices, Core, samples, ends, stepped, stopped, blockOf, withLines, capped}
-use Rattle.players.specs.Plain.{plainStart, plainStep, plainAnswer, plainAt, answerAt, blockAt, startingTempo}
-use Rattle.players.specs.History.{Call, stick, unit, keypad, cycle, After, Entrances, Last, none, at, numbered, counted, linesOf, taken, InTime, Agrees, PlainAlike}
-use Rattle.players.proofs.Lists.{cond-true, cond-false, all-append}
-use Rattle.players.proofs.Join.{AllAbove, with-none, with-with, ends-join, block-join, step-join}
-use Rattle.players.proofs.Count.{AllSteady, Slow, within-limit, cap-none, slow-stepped, starting}
-use Rattle.players.proofs.Works.{Entered, took, refused, Turned, off, over, finished, played, Works}
+use Rattle.players.specs.Lists.{All}
+use Rattle.players.specs.Cycle.{Voices}
+use Rattle.players.specs.Holds.{Settings, Counts, Holds, behind, marked, dueOf, endsBy, answerOf, blockOf, played, cycled}
+use Rattle.players.specs.Plain.{plainStart, plainAt, answerAt, blockAt}
+use Rattle.players.specs.Calls.{Call, bring, cycle, Answer, one, After, Player, numbered, takenOf, linesOf, isZero, Last, latest, none, Moment, takenIn, cyclesWith, lastWith, allTaken, momentOf, traceFrom}
+use Rattle.players.specs.Condition3.{InTime, AsPlain, PlainAlike}
+use Rattle.players.specs.History.{History, unbegun, withCycle, withMoment}
+use Rattle.players.proofs.Lists.{cond-true, cond-false}
+use Rattle.players.proofs.Join.{AllAbove, behind-none, behind-behind, ends-join, block-join, plays-join}
 use Rattle.players.proofs.Later.{later}
 
 differ : true ≡ false → ⊥
 differ q = let z : _≡_ {A = ℕ} 0 1 = cc in omega arith
 
-differ′ : false ≡ true → ⊥
-differ′ q = differ (sym q)
+-- a numbered call brings no line
+no-line : (c : Call) (given : List Answer) → numbered c ≡ true → takenOf (linesOf c) given ≡ []
+no-line (bring d handed) given q = absurd (differ (sym q))
+no-line (cycle b) [] q = refl
+no-line (cycle b) (a ∷ given) q = go (eqb (a .number) 0)
+  where
+    go : (z : Bool) → cond {A = List Line} z [] [] ++ [] ≡ []
+    go true = refl
+    go false = refl
 
--- ---- the plain player against a core; f are the lines still to come
+-- ---- the plain player against what is held; f are the lines still to come
 
--- it is the core with these lines behind its own
-pub record Match {S : Type 0} (v : Voices S) (ls : List Line) (k : ℕ) (c : Core S) (f : List Line) : Type 0 where
-  pub runs : c .ended ≡ false
-  pub slow : Slow c
-  pub same : plainAt v ls k ≡ withLines c f
+-- it holds the same with these lines behind
+record Match {S : Type 0} (v : Voices S) (settings : ℕ → Settings) (ls : List Line) (k : ℕ) (h : Holds S) (f : List Line) : Type 0 where
+  runs : h .plays .ended ≡ false
+  same : plainAt v settings ls k ≡ behind f h
 
 -- both have ended
-pub record Over {S : Type 0} (v : Voices S) (ls : List Line) (k : ℕ) (c : Core S) : Type 0 where
-  pub here : c .ended ≡ true
-  pub plain : plainAt v ls k .ended ≡ true
-  pub same : c .missed ≡ plainAt v ls k .missed
+record Over {S : Type 0} (v : Voices S) (settings : ℕ → Settings) (ls : List Line) (k : ℕ) (h : Holds S) : Type 0 where
+  here : h .plays .ended ≡ true
+  plain : plainAt v settings ls k .plays .ended ≡ true
+  same : h .plays .counts ≡ plainAt v settings ls k .plays .counts
 
-module _ {S : Type 0} (v : Voices S) (ls : List Line) (k : ℕ) (c : Core S) where
-  match-missed : (f : List Line) → Match v ls k c f → c .missed ≡ plainAt v ls k .missed
-  unfolding withLines
-  match-missed f m = ap (λ (d : Core S). d .missed) (sym (m .same))
+module _ {S : Type 0} (v : Voices S) (settings : ℕ → Settings) (ls : List Line) (k : ℕ) (h : Holds S) where
+  played-runs : played v (settings k) (dueOf h) (h .plays) .ended ≡ false
+  unfolding played
+  played-runs = refl
 
-  match-ended : (f : List Line) → Match v ls k c f → plainAt v ls k .ended ≡ false
-  unfolding withLines
-  match-ended f m = ap (λ (d : Core S). d .ended) (m .same) ∙ m .runs
+  match-counts : (f : List Line) → Match v settings ls k h f → h .plays .counts ≡ plainAt v settings ls k .plays .counts
+  unfolding behind
+  match-counts f m = ap (λ (d : Holds S). d .plays .counts) (sym (m .same))
 
-  match-took : (xs f : List Line) → AllSteady xs → Match v ls k c (xs ++ f) → Match v ls k (withLines c xs) f
-  unfolding withLines
-  match-took xs f s m =
-      record {
-        runs = m .runs;
-        slow = record { few = m .slow .few; lines = all-append _ (c .lines) xs (m .slow .lines) s; tempo = m .slow .tempo };
-        same = m .same ∙ sym (with-with c xs f);
-      }
+  match-ended : (f : List Line) → Match v settings ls k h f → plainAt v settings ls k .plays .ended ≡ false
+  unfolding behind
+  match-ended f m = ap (λ (d : Holds S). d .plays .ended) (m .same) ∙ m .runs
 
-  stopped-ended : stopped c .ended ≡ true
-  unfolding stopped
-  stopped-ended = refl
+  match-place : (f : List Line) → Match v settings ls k h f → plainAt v settings ls k .plays .position ≡ h .plays .position
+  unfolding behind
+  match-place f m = ap (λ (d : Holds S). d .plays .position) (m .same)
+
+  match-took : (xs f : List Line) → Match v settings ls k h (xs ++ f) → Match v settings ls k (behind xs h) f
+  unfolding behind
+  match-took xs f m = record { runs = m .runs; same = m .same ∙ sym (behind-behind h xs f) }
 
   -- step 1 ends the piece for both
-  match-ends : Match v ls k c [] → ends c ≡ true
-      → (answerAt v ls k ≡ 9) × Over v ls (suc k) (stopped c)
-  unfolding answerAt plainAnswer plainAt plainStep stopped
-  match-ends m h =
-      let q : plainAt v ls k ≡ c = m .same ∙ with-none c in
-      let r = match-ended [] m in
-      let d : ends (plainAt v ls k) ≡ true = ap ends q ∙ h in
-      let st : plainStep v (plainAt v ls k) ≡ stopped (plainAt v ls k) = cond-false _ _ r ∙ cond-true _ _ d in (
-        cond-false _ _ r ∙ cond-true _ _ d,
+  match-ends : Match v settings ls k h [] → endsBy (dueOf h) (h .plays) ≡ true
+      → (answerAt v settings ls k ≡ answerOf h) × Over v settings ls (suc k) (cycled v (settings k) h)
+  unfolding answerAt answerOf plainAt cycled marked
+  match-ends m e =
+      let q : plainAt v settings ls k ≡ h = m .same ∙ behind-none h in
+      let st : cycled v (settings k) h ≡ record { waits = h .waits; plays = marked (h .plays) } = cond-false _ _ (m .runs) ∙ cond-true _ _ e in (
+        ap answerOf q,
         record {
-          here = refl;
-          plain = ap (λ (d : Core S). d .ended) st;
-          same = sym (ap (λ (d : Core S). d .missed) st ∙ ap (λ (d : Core S). d .missed) q);
+          here = ap (λ (d : Holds S). d .plays .ended) st;
+          plain = ap (λ (d : Holds S). cycled v (settings k) d .plays .ended) q ∙ ap (λ (d : Holds S). d .plays .ended) st;
+          same = ap (λ (d : Holds S). cycled v (settings k) d .plays .counts) (sym q);
         },
       )
-
-  match-place : (f : List Line) → Match v ls k c f → plainAt v ls k .position ≡ c .position
-  unfolding withLines
-  match-place f m = ap (λ (d : Core S). d .position) (m .same)
-
-  stepped-runs : stepped v c .ended ≡ false
-  unfolding stepped
-  stepped-runs = refl
 
   -- both play
-  match-plays : (ceiling : ℕ) (f : List Line) → length (c .lines) ≤ 64 → Match v ls k c f
-      → AllAbove (plainAt v ls k .position) f → ends c ≡ false
-      → (answerAt v ls k ≡ 0) × (blockAt v ceiling ls k ≡ blockOf v ceiling c)
-      × Match v ls (suc k) (capped (stepped v c)) f
-  unfolding answerAt plainAnswer blockAt plainAt plainStep
-  match-plays ceiling f short m h e =
-      let near = within-limit c e in
-      let h′ : AllAbove (c .position) f = subst (λ (n : ℕ). AllAbove n f) (match-place f m) h in
+  match-plays : (f : List Line) → Match v settings ls k h f → AllAbove (plainAt v settings ls k .plays .position) f → endsBy (dueOf h) (h .plays) ≡ false
+      → (answerAt v settings ls k ≡ answerOf h) × (blockAt v settings ls k ≡ blockOf v (settings k) (dueOf h) (h .plays))
+      × Match v settings ls (suc k) (cycled v (settings k) h) f
+  unfolding answerAt answerOf blockAt plainAt cycled
+  match-plays f m a e =
+      let a′ : AllAbove (h .plays .position) f = subst (λ (n : ℕ). AllAbove n f) (match-place f m) a in
       let r = match-ended f m in
-      let g : ends (plainAt v ls k) ≡ false = ap ends (m .same) ∙ ends-join v c f h′ ∙ e in
-      let st : plainStep v (plainAt v ls k) ≡ stepped v (plainAt v ls k) = cond-false _ _ r ∙ cond-false _ _ g in
-      let cap = cap-none v c short (m .slow) near in (
-        cond-false _ _ r ∙ cond-false _ _ g,
-        ap (blockOf v ceiling) (m .same) ∙ block-join v c f h′ ceiling,
+      let g : endsBy (dueOf (plainAt v settings ls k)) (plainAt v settings ls k .plays) ≡ false =
+      ap (λ (d : Holds S). endsBy (dueOf d) (d .plays)) (m .same) ∙ ends-join h f a′ ∙ e in (
+        (cond-false _ _ r ∙ cond-false _ _ g) ∙ sym (cond-false _ _ (m .runs) ∙ cond-false _ _ e),
+        ap (λ (d : Holds S). blockOf v (settings k) (dueOf d) (d .plays)) (m .same) ∙ block-join h f a′ v (settings k),
         record {
-          runs = ap (λ (d : Core S). d .ended) cap ∙ stepped-runs;
-          slow = subst⁻¹ Slow cap (slow-stepped v c short (m .slow) near);
-          same = st ∙ ap (stepped v) (m .same) ∙ step-join v c f h′ ∙ ap (λ (d : Core S). withLines d f) (sym cap);
+          runs = ap (λ (d : Holds S). d .plays .ended) (cond-false _ _ (m .runs) ∙ cond-false _ _ e) ∙ played-runs;
+          same = ap (cycled v (settings k)) (m .same) ∙ plays-join h f a′ v (settings k) (m .runs) e;
         },
       )
 
-  over-next : Over v ls k c → (answerAt v ls k ≡ 9) × Over v ls (suc k) c
-  unfolding answerAt plainAnswer plainAt plainStep
+  over-next : Over v settings ls k h → (answerAt v settings ls k ≡ answerOf h) × Over v settings ls (suc k) (cycled v (settings k) h)
+  unfolding answerAt answerOf plainAt cycled
   over-next o =
-      let st : plainStep v (plainAt v ls k) ≡ plainAt v ls k = cond-true _ _ (o .plain) in (
-        cond-true _ _ (o .plain),
+      let here : cycled v (settings k) h ≡ h = cond-true _ _ (o .here) in
+      let plain : cycled v (settings k) (plainAt v settings ls k) ≡ plainAt v settings ls k = cond-true _ _ (o .plain) in (
+        cond-true _ _ (o .plain) ∙ sym (cond-true _ _ (o .here)),
         record {
-          here = o .here;
-          plain = ap (λ (d : Core S). d .ended) st ∙ o .plain;
-          same = o .same ∙ ap (λ (d : Core S). d .missed) (sym st);
+          here = ap (λ (d : Holds S). d .plays .ended) here ∙ o .here;
+          plain = ap (λ (d : Holds S). d .plays .ended) plain ∙ o .plain;
+          same = ap (λ (d : Holds S). d .plays .counts) here ∙ o .same ∙ ap (λ (d : Holds S). d .plays .counts) (sym plain);
         },
       )
 
--- ---- all calls
+-- ---- players that follow their history
 
-module _ {P S : Type 0} (e : Entrances P) (v : Voices S) (ceiling : ℕ) (core : P → Core S) (Fine : P → Type 0)
-    (w : Works e v ceiling core Fine) where
-  -- after the end no line is taken
-  not-entered : (xs : List Line) (c : Core S) (answer : ℕ) (left : Core S) → c .ended ≡ true → Entered xs c answer left
-      → (eqb answer 0 ≡ false) × (left ≡ c)
-  not-entered xs c answer left h (took q r s t) = absurd (differ (sym h ∙ r))
-  not-entered xs c answer left h (refused q t) = (q, t)
+module _ {P S : Type 0} (e : Player P) (v : Voices S) (settings : ℕ → Settings) where
+  -- at a moment the player answers, sounds and counts as its history before it says, and takes no line after the end
+  pub record Follows (h : History S) (m : Moment P) : Type 0 where
+    pub answer : numbered (m .call) ≡ true → m .after .answers ≡ one (answerOf (h .holds)) 0
+    pub block : numbered (m .call) ≡ true → isZero (m .after .answers) ≡ true
+        → m .after .block ≡ blockOf v (settings (m .cycles)) (dueOf (h .holds)) (h .holds .plays)
+    pub counts : e .counts (m .after .player) ≡ withMoment v settings h m .holds .plays .counts
+    pub over : h .holds .plays .ended ≡ true → takenIn m ≡ []
 
-  -- a call once the piece has ended: refused, and the core stays
-  Stays : P → After P → Type 0
-  Stays p a = (eqb (a .answer) 0 ≡ false) × (core (a .player) ≡ core p)
+  abbrev pub AllFollow : History S → List (Moment P) → Type 0
+  AllFollow h [] = Unit {0}
+  AllFollow h (m ∷ ms) = Follows h m × AllFollow (withMoment v settings h m) ms
 
-  not-turned : (whole : Bool) (b : List ℤ) (c : Core S) (answer : ℕ) (left : Core S) (block : List ℤ) → c .ended ≡ true
-      → Turned v ceiling whole b c answer left block → (eqb answer 0 ≡ false) × (left ≡ c) × (whole ≡ true → answer ≡ 9)
-  not-turned whole b c answer left block h (off q r s t) = (ap (λ (n : ℕ). eqb n 0) r, s, λ u. absurd (differ (sym u ∙ q)))
-  not-turned whole b c answer left block h (over q r s t u) = (ap (λ (n : ℕ). eqb n 0) s, t, λ _. s)
-  not-turned whole b c answer left block h (finished q r s t u x) = absurd (differ (sym h ∙ r))
-  not-turned whole b c answer left block h (played q r s t u x) = absurd (differ (sym h ∙ r))
+  -- ---- step 1, while the piece runs
 
-  stays : (p : P) (c : Call) → Fine p → core p .ended ≡ true → Stays p (e .after p c) × (numbered c ≡ true → e .after p c .answer ≡ 9)
-  unfolding Stays
-  stays p (stick b) f h = (not-entered _ _ _ _ h (w .sticks p b f), λ q. absurd (differ′ q))
-  stays p (unit b) f h = (not-entered _ _ _ _ h (w .units p b f), λ q. absurd (differ′ q))
-  stays p (keypad b) f h = (not-entered _ _ _ _ h (w .keypads p b f), λ q. absurd (differ′ q))
-  stays p (cycle b) f h =
-      let t = not-turned _ _ _ _ _ _ h (w .turns p b f) in
-      ((t .0, t .1), t .2)
+  module _ (h : Holds S) (r : h .plays .ended ≡ false) where
+    marks-end : (k : ℕ) → endsBy (dueOf h) (h .plays) ≡ true → cycled v (settings k) h .plays .ended ≡ true
+    unfolding cycled marked
+    marks-end k t = ap (λ (d : Holds S). d .plays .ended) (cond-false _ _ r ∙ cond-true _ _ t)
 
-  ended-taken : (cs : List Call) (p : P) → Fine p → core p .ended ≡ true → taken e p cs ≡ []
-  unfolding taken Stays
-  ended-taken [] p f h = refl
-  ended-taken (c ∷ cs) p f h =
-      let s = stays p c f h .0 in
-      ap (λ (l : List Line). l ++ taken e (e .after p c .player) cs) (cond-false (linesOf e c) [] (s .0))
-      ∙ ended-taken cs (e .after p c .player) (w .keeps p c f) (ap (λ (d : Core S). d .ended) (s .1) ∙ h)
+    end-nine : endsBy (dueOf h) (h .plays) ≡ true → answerOf h ≡ 9
+    unfolding answerOf
+    end-nine t = cond-false _ _ r ∙ cond-true _ _ t
 
-  over-counted : (ls : List Line) (k : ℕ) (c : Core S) (b : Bool) → Over v ls k c → Over v ls (cond b (suc k) k) c
-  over-counted ls k c true o = over-next v ls k c o .1
-  over-counted ls k c false o = o
+    play-zero : endsBy (dueOf h) (h .plays) ≡ false → answerOf h ≡ 0
+    unfolding answerOf
+    play-zero t = cond-false _ _ r ∙ cond-false _ _ t
 
-  afterwards : (ls : List Line) (cs : List Call) (p : P) (k : ℕ) → Fine p → Over v ls k (core p) → Agrees e v ceiling ls k p cs
-  unfolding Agrees Stays
-  afterwards ls [] p k f o = tt
-  afterwards ls (c ∷ cs) p k f o =
-      let a = e .after p c in
-      let s = stays p c f (o .here) in
-      let n = w .keeps p c f in
-      let o′ : Over v ls (counted c k) (core (a .player)) =
-      subst⁻¹ (Over v ls (counted c k)) (s .0 .1) (over-counted ls k (core p) (numbered c) o) in (
-        (λ q. (s .1 q ∙ sym (over-next v ls k (core p) o .0), λ z. absurd (eqb-false 9 0 refl (sym (s .1 q) ∙ z)))),
-        w .counts (a .player) n ∙ o′ .same,
-        afterwards ls cs (a .player) (counted c k) n o′,
-      )
+  -- ---- after the end
 
-  -- ---- while the piece runs
+  cycle-ended : (k : ℕ) (h : Holds S) → h .plays .ended ≡ true → cycled v (settings k) h .plays .ended ≡ true
+  unfolding cycled
+  cycle-ended k h q = ap (λ (d : Holds S). d .plays .ended) (cond-true _ _ q) ∙ q
 
-  Goes : List Line → List Call → Type 0
-  Goes ls cs =
-      (p : P) (k : ℕ) (z : Last) → Fine p → Match v ls k (core p) (taken e p cs) → InTime e v ls k z p cs → Agrees e v ceiling ls k p cs
-
-  module _ (ls : List Line) (cs : List Call) (rec : Goes ls cs) (p : P) (k : ℕ) (z : Last) where
-    entered : (xs : List Line) (a : After P) → Fine (a .player) → Entered xs (core p) (a .answer) (core (a .player))
-        → Match v ls k (core p) (cond (eqb (a .answer) 0) xs [] ++ taken e (a .player) cs) → InTime e v ls k z (a .player) cs
-        → (e .missed (a .player) ≡ plainAt v ls k .missed) × Agrees e v ceiling ls k (a .player) cs
-    unfolding Goes
-    entered xs a n (took q r s t) m i =
-        let m₁ : Match v ls k (core p) (xs ++ taken e (a .player) cs) =
-        subst (λ (l : List Line). Match v ls k (core p) (l ++ taken e (a .player) cs)) (cond-true xs [] (ap (λ (x : ℕ). eqb x 0) q)) m in
-        let m₂ : Match v ls k (core (a .player)) (taken e (a .player) cs) =
-        subst⁻¹ (λ (d : Core S). Match v ls k d (taken e (a .player) cs)) t (match-took v ls k (core p) xs _ s m₁) in
-        (w .counts (a .player) n ∙ match-missed v ls k _ _ m₂, rec (a .player) k z n m₂ i)
-    entered xs a n (refused q t) m i =
-        let m₁ : Match v ls k (core p) (taken e (a .player) cs) =
-        subst (λ (l : List Line). Match v ls k (core p) (l ++ taken e (a .player) cs)) (cond-false xs [] q) m in
-        let m₂ : Match v ls k (core (a .player)) (taken e (a .player) cs) =
-        subst⁻¹ (λ (d : Core S). Match v ls k d (taken e (a .player) cs)) t m₁ in
-        (w .counts (a .player) n ∙ match-missed v ls k _ _ m₂, rec (a .player) k z n m₂ i)
-
-    -- what is claimed of a cycle call; `whole` says that it is lent 320 samples
-    Claim : Bool → After P → Type 0
-    Claim whole a =
-        (whole ≡ true → (a .answer ≡ answerAt v ls k) × (a .answer ≡ 0 → a .block ≡ blockAt v ceiling ls k))
-        × (e .missed (a .player) ≡ plainAt v ls (cond whole (suc k) k) .missed)
-        × Agrees e v ceiling ls (cond whole (suc k) k) (a .player) cs
-
-    turned : (whole : Bool) (b : List ℤ) (a : After P) → Fine p → Fine (a .player)
-        → Turned v ceiling whole b (core p) (a .answer) (core (a .player)) (a .block)
-        → Match v ls k (core p) (taken e (a .player) cs)
-        → InTime e v ls (cond whole (suc k) k) (cond (whole && eqb (a .answer) 0) (at k) z) (a .player) cs
-        → Claim whole a
-    unfolding Goes Claim
-    turned true b a f n (off q r s t) m i = absurd (differ q)
-    turned false b a f n (off q r s t) m i =
-        let m′ : Match v ls k (core (a .player)) (taken e (a .player) cs) =
-        subst⁻¹ (λ (d : Core S). Match v ls k d (taken e (a .player) cs)) s m in
-        (λ u. absurd (differ′ u), w .counts (a .player) n ∙ match-missed v ls k _ _ m′, rec (a .player) k z n m′ i)
-    turned whole b a f n (over q r s t u) m i = absurd (differ (sym r ∙ m .runs))
-    turned false b a f n (finished q r h s t u) m i = absurd (differ′ q)
-    turned true b a f n (finished q r h s t u) m i =
-        let none-left = ended-taken cs (a .player) n (ap (λ (d : Core S). d .ended) t ∙ stopped-ended v ls k (core p)) in
-        let x = match-ends v ls k (core p) (subst (Match v ls k (core p)) none-left m) h in
-        let o : Over v ls (suc k) (core (a .player)) = subst⁻¹ (Over v ls (suc k)) t (x .1) in (
-          λ _. (s ∙ sym (x .0), λ y. absurd (eqb-false 9 0 refl (sym s ∙ y))),
-          w .counts (a .player) n ∙ o .same,
-          afterwards ls cs (a .player) (suc k) n o,
-        )
-    turned false b a f n (played q r h s t u) m i = absurd (differ′ q)
-    turned true b a f n (played q r h s t u) m i =
-        let i′ : InTime e v ls (suc k) (at k) (a .player) cs =
-        subst (λ (y : Last). InTime e v ls (suc k) y (a .player) cs) (cond-true (at k) z (ap (λ (y : ℕ). eqb y 0) s)) i in
-        let x = match-plays v ls k (core p) ceiling (taken e (a .player) cs) (w .few p f) m
-        (later e v ls k cs (a .player) k (suc k) (le-refl _) (omega arith) i′) h in
-        let m′ : Match v ls (suc k) (core (a .player)) (taken e (a .player) cs) =
-        subst⁻¹ (λ (d : Core S). Match v ls (suc k) d (taken e (a .player) cs)) t (x .2) in (
-          λ _. (s ∙ sym (x .0), λ _. u ∙ sym (x .1)),
-          w .counts (a .player) n ∙ match-missed v ls (suc k) _ _ m′,
-          rec (a .player) (suc k) (at k) n m′ i′,
-        )
-
-  goes : (ls : List Line) (cs : List Call) → Goes ls cs
-  unfolding Goes Agrees InTime taken Claim
-  goes ls [] = λ p k z f m i. tt
-  goes ls (stick b ∷ cs) =
-      λ p k z f m i.
-      let r = entered ls cs (goes ls cs) p k z (e .inStick b) (e .after p (stick b)) (w .keeps p (stick b) f) (w .sticks p b f) m (i .1) in
-      (λ q. absurd (differ′ q), r .0, r .1)
-  goes ls (unit b ∷ cs) =
-      λ p k z f m i.
-      let r = entered ls cs (goes ls cs) p k z (e .inUnit b) (e .after p (unit b)) (w .keeps p (unit b) f) (w .units p b f) m (i .1) in
-      (λ q. absurd (differ′ q), r .0, r .1)
-  goes ls (keypad b ∷ cs) =
-      λ p k z f m i.
-      let r = entered ls cs (goes ls cs) p k z (e .inKeypad b) (e .after p (keypad b)) (w .keeps p (keypad b) f) (w .keypads p b f) m (i .1) in
-      (λ q. absurd (differ′ q), r .0, r .1)
-  goes ls (cycle b ∷ cs) =
-      λ p k z f m i.
-      turned ls cs (goes ls cs) p k z (eqb (length b) samples) b (e .after p (cycle b)) f (w .keeps p (cycle b) f) (w .turns p b f)
-      (nothing p k b m) (i .1)
+  still-ended : (h : History S) (m : Moment P) → h .holds .plays .ended ≡ true → withMoment v settings h m .holds .plays .ended ≡ true
+  unfolding behind
+  still-ended h m q = go (numbered (m .call))
     where
-      -- a cycle call brings no line
-      nothing : (p : P) (k : ℕ) (b : List ℤ)
-          → Match v ls k (core p) (cond (eqb (e .after p (cycle b) .answer) 0) [] [] ++ taken e (e .after p (cycle b) .player) cs)
-          → Match v ls k (core p) (taken e (e .after p (cycle b) .player) cs)
-      nothing p k b m = go (eqb (e .after p (cycle b) .answer) 0) m
+      go : (b : Bool) → cond b (withCycle v settings (m .cycles) h) (record { holds = behind (takenIn m) (h .holds); reached = h .reached }) .holds .plays .ended ≡ true
+      go true = cycle-ended (m .cycles) (h .holds) q
+      go false = q
+
+  ended-taken : (h : History S) (ms : List (Moment P)) → AllFollow h ms → h .holds .plays .ended ≡ true → allTaken ms ≡ []
+  unfolding allTaken
+  ended-taken h [] f q = refl
+  ended-taken h (m ∷ ms) f q =
+      ap (λ (l : List Line). l ++ allTaken ms) (f .0 .over q) ∙ ended-taken (withMoment v settings h m) ms (f .1) (still-ended h m q)
+
+  module _ (ls : List Line) where
+    -- what a numbered call shows, from the plain player's cycle
+    as-plain : (h : History S) (m : Moment P) → Follows h m → (numbered (m .call) ≡ true → answerAt v settings ls (m .cycles) ≡ answerOf (h .holds))
+        → (numbered (m .call) ≡ true → isZero (m .after .answers) ≡ true
+        → blockAt v settings ls (m .cycles) ≡ blockOf v (settings (m .cycles)) (dueOf (h .holds)) (h .holds .plays))
+        → withMoment v settings h m .holds .plays .counts ≡ plainAt v settings ls (cyclesWith m) .plays .counts → AsPlain e v settings ls m
+    as-plain h m f a b c =
+        record {
+          answer = λ q. f .answer q ∙ ap (λ (n : ℕ). one n 0) (sym (a q));
+          block = λ q z. f .block q z ∙ sym (b q z);
+          counts = f .counts ∙ c;
+        }
+
+    -- an answer of 9 is not 0
+    nine : (h : History S) (m : Moment P) → Follows h m → answerOf (h .holds) ≡ 9 → numbered (m .call) ≡ true → isZero (m .after .answers) ≡ true → ⊥
+    nine h m f n q z = differ (sym z ∙ ap isZero (f .answer q) ∙ ap (λ (x : ℕ). eqb x 0) n)
+
+    over-step : (h : History S) (m : Moment P) → Follows h m → Over v settings ls (m .cycles) (h .holds)
+        → (b : Bool) → numbered (m .call) ≡ b → Over v settings ls (cyclesWith m) (withMoment v settings h m .holds)
+    over-step h m f o true q =
+        subst⁻¹ (λ (x : ℕ). Over v settings ls x (withMoment v settings h m .holds)) (cond-true _ _ q)
+        (subst⁻¹ (λ (x : History S). Over v settings ls (suc (m .cycles)) (x .holds)) (cond-true _ _ q) (over-next v settings ls (m .cycles) (h .holds) o .1))
+    over-step h m f o false q =
+        subst⁻¹ (λ (x : ℕ). Over v settings ls x (withMoment v settings h m .holds)) (cond-false _ _ q)
+        (subst⁻¹ (λ (x : History S). Over v settings ls (m .cycles) (x .holds)) (cond-false _ _ q)
+        (subst⁻¹ (Over v settings ls (m .cycles)) (ap (λ (l : List Line). behind l (h .holds)) (f .over (o .here)) ∙ behind-none (h .holds)) o))
+
+    ended-nine : (h : Holds S) → h .plays .ended ≡ true → answerOf h ≡ 9
+    unfolding answerOf
+    ended-nine h q = cond-true _ _ q
+
+    afterwards : (cs : List Call) (k : ℕ) (z : Last) (p : P) (h : History S) → AllFollow h (traceFrom e k z p cs) → Over v settings ls k (h .holds)
+        → All (AsPlain e v settings ls) (traceFrom e k z p cs)
+    unfolding traceFrom
+    afterwards [] k z p h f o = tt
+    afterwards (c ∷ cs) k z p h f o =
+        let m = momentOf e k z p c in
+        let o′ = over-step h m (f .0) o (numbered c) refl in (
+          as-plain h m (f .0) (λ q. over-next v settings ls k (h .holds) o .0)
+              (λ q y. absurd (nine h m (f .0) (ended-nine (h .holds) (o .here)) q y)) (o′ .same),
+          afterwards cs (cyclesWith m) (lastWith m) (e .after p c .player) (withMoment v settings h m) (f .1) o′,
+        )
+
+    -- ---- while the piece runs
+
+    Goes : List Call → Type 0
+    Goes cs =
+        (k : ℕ) (z : Last) (p : P) (h : History S) → AllFollow h (traceFrom e k z p cs)
+        → Match v settings ls k (h .holds) (allTaken (traceFrom e k z p cs)) → All (InTime e v settings ls) (traceFrom e k z p cs)
+        → All (AsPlain e v settings ls) (traceFrom e k z p cs)
+
+    -- one call, and then the others
+    module _ (c : Call) (cs : List Call) (rec : Goes cs) (k : ℕ) (z : Last) (p : P) (h : History S) where
+      abbrev m : Moment P
+      m = momentOf e k z p c
+
+      abbrev rest : List (Moment P)
+      rest = traceFrom e (cyclesWith m) (lastWith m) (e .after p c .player) cs
+
+      abbrev h′ : History S
+      h′ = withMoment v settings h m
+
+      module _ (f : Follows h m) (fs : AllFollow h′ rest) (is : All (InTime e v settings ls) rest) where
+        -- it is at a door, or of another length
+        unnumbered : numbered c ≡ false → Match v settings ls k (h .holds) (takenIn m ++ allTaken rest)
+            → AsPlain e v settings ls m × All (AsPlain e v settings ls) rest
+        unfolding Goes
+        unnumbered q x =
+            let y = match-took v settings ls k (h .holds) (takenIn m) (allTaken rest) x in
+            let x′ : Match v settings ls (cyclesWith m) (h′ .holds) (allTaken rest) =
+            subst⁻¹ (λ (n : ℕ). Match v settings ls n (h′ .holds) (allTaken rest)) (cond-false _ _ q)
+            (subst⁻¹ (λ (d : History S). Match v settings ls k (d .holds) (allTaken rest)) (cond-false _ _ q) y) in (
+              as-plain h m f (λ w. absurd (differ (sym w ∙ q))) (λ w. absurd (differ (sym w ∙ q))) (match-counts v settings ls _ (h′ .holds) _ x′),
+              rec _ _ _ h′ fs x′ is,
+            )
+
+        -- it finds the end
+        finds-end : numbered c ≡ true → Match v settings ls k (h .holds) (allTaken rest) → endsBy (dueOf (h .holds)) (h .holds .plays) ≡ true
+            → AsPlain e v settings ls m × All (AsPlain e v settings ls) rest
+        finds-end q x t =
+            let is-next : h′ ≡ withCycle v settings k h = cond-true _ _ q in
+            let ended : h′ .holds .plays .ended ≡ true = ap (λ (d : History S). d .holds .plays .ended) is-next ∙ marks-end (h .holds) (x .runs) k t in
+            let y = match-ends v settings ls k (h .holds) (subst (Match v settings ls k (h .holds)) (ended-taken h′ rest fs ended) x) t in
+            let o : Over v settings ls (cyclesWith m) (h′ .holds) =
+            subst⁻¹ (λ (n : ℕ). Over v settings ls n (h′ .holds)) (cond-true _ _ q)
+            (subst⁻¹ (λ (d : History S). Over v settings ls (suc k) (d .holds)) is-next (y .1)) in (
+              as-plain h m f (λ w. y .0) (λ w u. absurd (nine h m f (end-nine (h .holds) (x .runs) t) w u)) (o .same),
+              afterwards cs _ _ _ h′ fs o,
+            )
+
+        -- it plays
+        plays : numbered c ≡ true → Match v settings ls k (h .holds) (allTaken rest) → endsBy (dueOf (h .holds)) (h .holds .plays) ≡ false
+            → AsPlain e v settings ls m × All (AsPlain e v settings ls) rest
+        unfolding Goes
+        plays q x t =
+            let zero : isZero (e .after p c .answers) ≡ true = ap isZero (f .answer q) ∙ ap (λ (n : ℕ). eqb n 0) (play-zero (h .holds) (x .runs) t) in
+            let last-is : lastWith m ≡ latest k = cond-true _ _ (both q zero) in
+            let above : AllAbove (plainAt v settings ls k .plays .position) (allTaken rest) =
+            subst⁻¹ (λ (y : Last). All (InTime e v settings ls) (traceFrom e (cyclesWith m) y (e .after p c .player) cs) → AllAbove (plainAt v settings ls k .plays .position) (allTaken (traceFrom e (cyclesWith m) y (e .after p c .player) cs))) last-is
+            (later e v settings ls k cs (e .after p c .player) k (cyclesWith m) (le-refl _) (more (numbered c))) is in
+            let y = match-plays v settings ls k (h .holds) (allTaken rest) x above t in
+            let x′ : Match v settings ls (cyclesWith m) (h′ .holds) (allTaken rest) =
+            subst⁻¹ (λ (n : ℕ). Match v settings ls n (h′ .holds) (allTaken rest)) (cond-true _ _ q)
+            (subst⁻¹ (λ (d : History S). Match v settings ls (suc k) (d .holds) (allTaken rest)) (cond-true _ _ q) (y .2)) in (
+              as-plain h m f (λ w. y .0) (λ w u. y .1) (match-counts v settings ls _ (h′ .holds) _ x′),
+              rec _ _ _ h′ fs x′ is,
+            )
+          where
+            both : {a b : Bool} → a ≡ true → b ≡ true → (a && b) ≡ true
+            both a b = rw (a, b) refl
+
+            more : (b : Bool) → k ≤ cond b (suc k) k
+            more true = omega arith
+            more false = omega arith
+
+      next : AllFollow h (m ∷ rest) → Match v settings ls k (h .holds) (takenIn m ++ allTaken rest) → All (InTime e v settings ls) (m ∷ rest)
+          → All (AsPlain e v settings ls) (m ∷ rest)
+      next f x i = by-kind (numbered c) (endsBy (dueOf (h .holds)) (h .holds .plays)) refl refl
         where
-          go : (t : Bool) → Match v ls k (core p) (cond t [] [] ++ taken e (e .after p (cycle b) .player) cs)
-              → Match v ls k (core p) (taken e (e .after p (cycle b) .player) cs)
-          go true m = m
-          go false m = m
+          -- a numbered call brings no line
+          bare : numbered c ≡ true → Match v settings ls k (h .holds) (allTaken rest)
+          bare q = subst (λ (l : List Line). Match v settings ls k (h .holds) (l ++ allTaken rest)) (no-line c (e .after p c .answers) q) x
 
-  start : (ls : List Line) → Match v ls 0 (plainStart []) ls
-  unfolding plainStart plainAt withLines startingTempo
-  start ls = record { runs = refl; slow = record { few = omega arith; lines = tt; tempo = omega (arith, starting) }; same = refl }
+          by-kind : (b d : Bool) → numbered c ≡ b → endsBy (dueOf (h .holds)) (h .holds .plays) ≡ d → All (AsPlain e v settings ls) (m ∷ rest)
+          by-kind false d q t = unnumbered (f .0) (f .1) (i .1) q x
+          by-kind true true q t = finds-end (f .0) (f .1) (i .1) q (bare q) t
+          by-kind true false q t = plays (f .0) (f .1) (i .1) q (bare q) t
 
-  -- a player that works, at its start, agrees with the plain player
-  pub plain-alike : (p : P) → Fine p → core p ≡ plainStart [] → PlainAlike e v ceiling p
-  unfolding PlainAlike Goes
-  plain-alike p f s cs i =
-      let ls = taken e p cs in
-      goes ls cs p 0 none f (subst⁻¹ (λ (c : Core S). Match v ls 0 c ls) s (start ls)) i
+    goes : (cs : List Call) → Goes cs
+    unfolding Goes traceFrom allTaken
+    goes [] = λ k z p h f x i. tt
+    goes (c ∷ cs) = λ k z p h f x i. next c cs (goes cs) k z p h f x i
+
+  -- a player that follows its history from its start agrees with the plain player
+  pub plain-alike : (p : P) → ((cs : List Call) → AllFollow (unbegun (settings 0)) (traceFrom e 0 none p cs)) → PlainAlike e v settings p
+  unfolding PlainAlike Goes plainAt behind plainStart
+  plain-alike p f cs i = goes (allTaken (traceFrom e 0 none p cs)) cs 0 none p (unbegun (settings 0)) (f cs) (record { runs = refl; same = refl }) i

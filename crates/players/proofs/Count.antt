@@ -13,8 +13,8 @@ use Rattle.score_line.specs.declared.Event.{Event}
 use Rattle.score_line.specs.declared.Event.the-variants.{Instr, Control, End, Tempo}
 use Rattle.score_line.specs.declared.Line.{Line}
 use Rattle.players.specs.Lists.{keep, fold, All}
-use Rattle.players.specs.Cycle.{Voices, Core, Note, Started, isDue, earlier, insert, ordered, dueOf, ends, farthest, tempoFrom, lastTempo, mostNotes, joinedBy, startedBy, started, startedIn, born, stepped, capped}
-use Rattle.players.specs.Plain.{startingTempo}
+use Rattle.players.specs.Cycle.{Voices, Note, Started, isDue, earlier, insert, ordered, farthest, tempoFrom, lastTempo, joinedBy, startedBy, started, born}
+use Rattle.players.specs.Holds.{Settings, Plays, Holds, sixty, dueAt, laterThan, dueOf, endsBy, capped, startedOf, played}
 use Rattle.players.proofs.Lists.{length-keep, all-keep}
 
 -- a tempo of at least 1: 1,024 ticks a cycle or more
@@ -68,94 +68,98 @@ last-steady t (l ∷ ls) h f = last-steady (tempoFrom t (l .event)) ls (go (l .e
     go End s = h
     go (Tempo u) s = s
 
-module _ {S : Type 0} (c : Core S) where
-  due-few : length (dueOf c) ≤ length (c .lines)
-  unfolding dueOf ordered
+module _ {S : Type 0} (h : Holds S) where
+  due-few : length (dueOf h) ≤ length (h .waits)
+  unfolding dueAt ordered
   due-few =
-      let a = length-onto [] (keep (isDue (c .position)) (c .lines)) in
-      let b = length-keep (isDue (c .position)) (c .lines) in
+      let a = length-onto [] (keep (isDue (h .plays .position)) (h .waits)) in
+      let b = length-keep (isDue (h .plays .position)) (h .waits) in
       omega (arith, a, b)
 
-  due-all : (P : Line → Type 0) → All P (c .lines) → All P (dueOf c)
-  unfolding dueOf ordered
-  due-all P h = all-onto P [] (keep (isDue (c .position)) (c .lines)) tt (all-keep (isDue (c .position)) P (c .lines) h)
+  due-all : (P : Line → Type 0) → All P (h .waits) → All P (dueOf h)
+  unfolding dueAt ordered
+  due-all P f = all-onto P [] (keep (isDue (h .plays .position)) (h .waits)) tt (all-keep (isDue (h .plays .position)) P (h .waits) f)
 
 -- ---- each line misses one note at most
 
-module _ {S : Type 0} (v : Voices S) where
-  join-least : (s : Started S) (n : Note S) → joinedBy s n .missed ≤ s .missed + 1
+module _ {S : Type 0} (v : Voices S) (most : ℕ) where
+  join-least : (s : Started S) (n : Note S) → joinedBy most s n .missed ≤ s .missed + 1
   unfolding joinedBy
-  join-least s n = go (ltb (length (s .notes)) mostNotes)
+  join-least s n = go (ltb (length (s .notes)) most)
     where
       go : (b : Bool) → cond {A = Started S} b (record { notes = s .notes ++ (n ∷ []); missed = s .missed }) (record { notes = s .notes; missed = s .missed + 1 }) .missed ≤ s .missed + 1
       go true = omega arith
       go false = omega arith
 
-  start-least : (pos : ℕ) (l : Line) (s : Started S) (x : Event) → startedBy v pos l s x .missed ≤ s .missed + 1
+  start-least : (pos : ℕ) (l : Line) (s : Started S) (x : Event) → startedBy v most pos l s x .missed ≤ s .missed + 1
   start-least pos l s (Instr label i d) = join-least s (born v pos l label i d)
   start-least pos l s (Control label x value) = omega arith
   start-least pos l s End = omega arith
   start-least pos l s (Tempo t) = omega arith
 
   fold-least : (pos : ℕ) (s : Started S) (ls : List Line)
-      → fold (λ (s : Started S) (l : Line). startedBy v pos l s (l .event)) s ls .missed ≤ s .missed + length ls
+      → fold (λ (s : Started S) (l : Line). startedBy v most pos l s (l .event)) s ls .missed ≤ s .missed + length ls
   unfolding fold
   fold-least pos s [] = omega arith
   fold-least pos s (l ∷ ls) =
       let a = start-least pos l s (l .event) in
-      let r = fold-least pos (startedBy v pos l s (l .event)) ls in
+      let r = fold-least pos (startedBy v most pos l s (l .event)) ls in
       omega (arith, a, r)
 
-  missed-least : (c : Core S) → startedIn v c .missed ≤ length (c .lines)
-  unfolding startedIn started
-  missed-least c =
-      let a = fold-least (c .position) (record { notes = c .notes; missed = 0 }) (dueOf c) in
-      let b = due-few c in
+module _ {S : Type 0} (v : Voices S) (s : Settings) where
+  missed-least : (h : Holds S) → startedOf v s (dueOf h) (h .plays) .missed ≤ length (h .waits)
+  unfolding startedOf started
+  missed-least h =
+      let a = fold-least v (s .mostNotes) (h .plays .position) (record { notes = h .plays .notes; missed = 0 }) (dueOf h) in
+      let b = due-few h in
       omega (arith, a, b)
 
 -- ---- the invariant
 
 -- few notes missed for the position reached, and every tempo at least 1
-pub record Slow {S : Type 0} (c : Core S) : Type 0 where
-  pub few : c .missed * 16 ≤ c .position
-  pub lines : AllSteady (c .lines)
-  pub tempo : 1024 ≤ cycleIn (c .tempo)
+pub record Slow {S : Type 0} (h : Holds S) : Type 0 where
+  pub few : h .plays .counts .missed * 16 ≤ h .plays .position
+  pub lines : AllSteady (h .waits)
+  pub tempo : 1024 ≤ cycleIn (h .plays .tempo)
 
 or-left : (a b : Bool) → (a || b) ≡ false → a ≡ false
 or-left true b h = h
 or-left false b h = refl
 
-pub within-limit : {S : Type 0} (c : Core S) → ends c ≡ false → c .position ≤ farthest
-unfolding ends
-within-limit c e = ltb-false farthest (c .position) (or-left (ltb farthest (c .position)) _ e)
+pub within-limit : {S : Type 0} (due : List Line) (p : Plays S) → endsBy due p ≡ false → p .position ≤ farthest
+unfolding endsBy
+within-limit due p e = ltb-false farthest (p .position) (or-left (ltb farthest (p .position)) _ e)
 
-module _ {S : Type 0} (v : Voices S) (c : Core S) (short : length (c .lines) ≤ 64) (s : Slow c) (near : c .position ≤ farthest) where
-  pub cap-none : capped (stepped v c) ≡ stepped v c
-  unfolding capped stepped
+module _ {S : Type 0} (v : Voices S) (s : Settings) (h : Holds S) (short : length (h .waits) ≤ 64) (slow : Slow h)
+    (near : h .plays .position ≤ farthest) where
+  pub cap-none : capped (played v s (dueOf h) (h .plays)) ≡ played v s (dueOf h) (h .plays)
+  unfolding capped played
   cap-none =
-      let m = missed-least v c in
-      let e : min (c .missed + startedIn v c .missed) 18446744073709551615 ≡ c .missed + startedIn v c .missed = omega (arith, m, s .few, near, short) in
+      let p = h .plays in
+      let m = missed-least v s h in
+      let e : min (p .counts .missed + startedOf v s (dueOf h) p .missed) 18446744073709551615 ≡ p .counts .missed + startedOf v s (dueOf h) p .missed =
+      omega (arith, m, slow .few, near, short) in
       λ i. record {
-        lines = stepped v c .lines;
-        notes = stepped v c .notes;
-        position = stepped v c .position;
-        tempo = stepped v c .tempo;
-        missed = e i;
+        notes = played v s (dueOf h) p .notes;
+        position = played v s (dueOf h) p .position;
+        tempo = played v s (dueOf h) p .tempo;
+        counts = record { missed = e i };
         ended = false;
       }
 
-  pub slow-stepped : Slow (stepped v c)
-  unfolding stepped
-  slow-stepped =
-      let m = missed-least v c in
-      let t : 1024 ≤ cycleIn (lastTempo (c .tempo) (dueOf c)) = last-steady (c .tempo) (dueOf c) (s .tempo) (due-all c _ (s .lines)) in
+  pub slow-played : Slow (record { waits = laterThan (h .plays .position) (h .waits); plays = played v s (dueOf h) (h .plays) })
+  unfolding played laterThan
+  slow-played =
+      let p = h .plays in
+      let m = missed-least v s h in
+      let t : 1024 ≤ cycleIn (lastTempo (p .tempo) (dueOf h)) = last-steady (p .tempo) (dueOf h) (slow .tempo) (due-all h _ (slow .lines)) in
       record {
-        few = omega (arith, m, t, s .few, short);
-        lines = all-keep (λ (l : Line). not (isDue (c .position) l)) (λ (l : Line). steady (l .event)) (c .lines) (s .lines);
+        few = omega (arith, m, t, slow .few, short);
+        lines = all-keep (λ (l : Line). not (isDue (p .position) l)) (λ (l : Line). steady (l .event)) (h .waits) (slow .lines);
         tempo = t;
       }
 
 -- the starting tempo is steady
-pub starting : 1024 ≤ cycleIn startingTempo
-unfolding startingTempo cycleIn cycleOf ofBits ofFields le lt eq span climb size odd
+pub starting : 1024 ≤ cycleIn sixty
+unfolding sixty cycleIn cycleOf ofBits ofFields le lt eq span climb size odd
 starting = omega arith

@@ -1,18 +1,18 @@
--- Lines that are not due yet commute with a cycle: a core with such lines behind its own steps as the core does, and they still wait.
-use mathlib.Core.Path.{_≡_, refl, ap, _∙_}
-use mathlib.Core.Bool.{Bool, false, not, _||_}
+-- Lines that are not due yet commute with a cycle: with such lines behind the others it does what it does without them, and they still wait.
+use mathlib.Core.Path.{_≡_, refl, sym, ap, _∙_}
+use mathlib.Core.Bool.{Bool, false, not}
 use mathlib.Core.List.{List, [], _∷_, _++_, append-assoc, append-nil}
-use Prim.Native.Nat.{ℕ, _+_, _≤_}
+use Prim.Native.Nat.{ℕ, _≤_}
 use native.Mathlib.Omega.{arith}
-use lib.Dec.{ltb}
 use borrow.Author.Tests.{lt-leb}
-use Rattle.timebase.specs.Time.{ticksIn, cycleIn}
+use Rattle.timebase.specs.Time.{ticksIn}
 use Rattle.score_line.specs.declared.When.{When}
 use Rattle.score_line.specs.declared.When.the-variants.{Timed, Untimed}
 use Rattle.score_line.specs.declared.Line.{Line}
 use Rattle.players.specs.Lists.{keep, All}
-use Rattle.players.specs.Cycle.{Voices, Core, dueWhen, isDue, ordered, dueOf, anyEnd, ends, farthest, lastTempo, started, startedIn, controlled, runAll, limited, bandOf, blockOf, goesOn, stepped, withLines}
-use Rattle.players.specs.History.{above}
+use Rattle.players.specs.Cycle.{Voices, dueWhen, isDue, ordered}
+use Rattle.players.specs.Holds.{Settings, Holds, behind, dueAt, laterThan, dueOf, endsBy, blockOf, played, cycled}
+use Rattle.players.specs.Condition3.{above}
 use Rattle.players.proofs.Lists.{cond-true, cond-false, keep-append}
 
 -- every line's ticks are above a position
@@ -40,65 +40,42 @@ keep-all position (l ∷ ls) h =
     ∙ ap (λ (t : List Line). l ∷ t) (keep-all position ls (h .1))
 
 module _ {S : Type 0} where
-  pub with-none : (c : Core S) → withLines c [] ≡ c
-  unfolding withLines
-  with-none c =
-      λ i. record {
-        lines = append-nil (c .lines) i;
-        notes = c .notes;
-        position = c .position;
-        tempo = c .tempo;
-        missed = c .missed;
-        ended = c .ended;
-      }
+  pub behind-none : (h : Holds S) → behind [] h ≡ h
+  unfolding behind
+  behind-none h = λ i. record { waits = append-nil (h .waits) i; plays = h .plays }
 
-  pub with-with : (c : Core S) (xs ys : List Line) → withLines (withLines c xs) ys ≡ withLines c (xs ++ ys)
-  unfolding withLines
-  with-with c xs ys =
-      λ i. record {
-        lines = append-assoc (c .lines) xs ys i;
-        notes = c .notes;
-        position = c .position;
-        tempo = c .tempo;
-        missed = c .missed;
-        ended = c .ended;
-      }
+  pub behind-behind : (h : Holds S) (xs ys : List Line) → behind ys (behind xs h) ≡ behind (xs ++ ys) h
+  unfolding behind
+  behind-behind h xs ys = λ i. record { waits = append-assoc (h .waits) xs ys i; plays = h .plays }
 
-module _ {S : Type 0} (v : Voices S) (c : Core S) (f : List Line) (h : AllAbove (c .position) f) where
-  due-join : dueOf (withLines c f) ≡ dueOf c
-  unfolding dueOf withLines
+module _ {S : Type 0} (h : Holds S) (f : List Line) (a : AllAbove (h .plays .position) f) where
+  due-join : dueOf (behind f h) ≡ dueOf h
+  unfolding dueAt behind
   due-join =
       ap ordered
-      (keep-append (isDue (c .position)) (c .lines) f
-      ∙ ap (λ (t : List Line). keep (isDue (c .position)) (c .lines) ++ t) (keep-none (c .position) f h)
+      (keep-append (isDue (h .plays .position)) (h .waits) f
+      ∙ ap (λ (t : List Line). keep (isDue (h .plays .position)) (h .waits) ++ t) (keep-none (h .plays .position) f a)
       ∙ append-nil _)
 
-  pub ends-join : ends (withLines c f) ≡ ends c
-  unfolding ends withLines
-  ends-join = ap (λ (ls : List Line). ltb farthest (c .position) || anyEnd ls) due-join
+  later-join : laterThan (h .plays .position) (h .waits ++ f) ≡ laterThan (h .plays .position) (h .waits) ++ f
+  unfolding laterThan
+  later-join =
+      let k : Line → Bool = λ (l : Line). not (isDue (h .plays .position) l) in
+      keep-append k (h .waits) f ∙ ap (λ (t : List Line). keep k (h .waits) ++ t) (keep-all (h .plays .position) f a)
 
-  started-join : startedIn v (withLines c f) ≡ startedIn v c
-  unfolding startedIn withLines
-  started-join = ap (started v (c .position) (c .notes)) due-join
+  pub ends-join : endsBy (dueOf (behind f h)) (behind f h .plays) ≡ endsBy (dueOf h) (h .plays)
+  unfolding behind
+  ends-join = ap (λ (due : List Line). endsBy due (h .plays)) due-join
 
-  band-join : bandOf v (withLines c f) ≡ bandOf v c
-  unfolding bandOf
-  band-join = λ i. runAll v (controlled v (started-join i .notes) (due-join i))
+  module _ (v : Voices S) (s : Settings) where
+    pub block-join : blockOf v s (dueOf (behind f h)) (behind f h .plays) ≡ blockOf v s (dueOf h) (h .plays)
+    unfolding behind
+    block-join = ap (λ (due : List Line). blockOf v s due (h .plays)) due-join
 
-  pub block-join : (ceiling : ℕ) → blockOf v ceiling (withLines c f) ≡ blockOf v ceiling c
-  unfolding blockOf
-  block-join ceiling = λ i. limited ceiling (band-join i .mix)
-
-  pub step-join : stepped v (withLines c f) ≡ withLines (stepped v c) f
-  unfolding stepped withLines
-  step-join =
-      let k : Line → Bool = λ (l : Line). not (isDue (c .position) l) in
-      let t : lastTempo (c .tempo) (dueOf (withLines c f)) ≡ lastTempo (c .tempo) (dueOf c) = ap (lastTempo (c .tempo)) due-join in
-      λ i. record {
-        lines = (keep-append k (c .lines) f ∙ ap (λ (t : List Line). keep k (c .lines) ++ t) (keep-all (c .position) f h)) i;
-        notes = keep (goesOn (c .position)) (band-join i .notes);
-        position = c .position + cycleIn (t i);
-        tempo = t i;
-        missed = c .missed + started-join i .missed;
-        ended = false;
-      }
+    -- a cycle that plays
+    pub plays-join : h .plays .ended ≡ false → endsBy (dueOf h) (h .plays) ≡ false → cycled v s (behind f h) ≡ behind f (cycled v s h)
+    unfolding cycled behind
+    plays-join r e =
+        cond-false _ _ r ∙ cond-false _ _ (ends-join ∙ e)
+        ∙ (λ i. record { waits = later-join i; plays = played v s (due-join i) (h .plays) })
+        ∙ sym (ap (behind f) (cond-false _ _ r ∙ cond-false _ _ e))

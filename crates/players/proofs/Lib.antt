@@ -1,7 +1,6 @@
 pub mod Lists
 pub mod Join
 pub mod Count
-pub mod Works
 pub mod Later
 pub mod Alike
 pub mod Ceiling

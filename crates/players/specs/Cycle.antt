@@ -1,13 +1,13 @@
 -- Document 01, "One cycle, in order", over lists. What the notes do is a parameter, the voices, so that the panel and the plain
 -- player share this one definition.
-use mathlib.Core.Bool.{Bool, true, false, not, _&&_, _||_, cond}
+use mathlib.Core.Bool.{Bool, true, false, _&&_, _||_, cond}
 use mathlib.Core.List.{List, [], _∷_, _++_}
-use Prim.Native.Nat.{ℕ, _+_, min}
+use Prim.Native.Nat.{ℕ, _+_}
 use lib.IntN.{ℤ}
 use lib.ListN.{length, replicate, take}
 use lib.Dec.{ltb, leb, eqb}
 use lib.Ieee.{Float, binary32, lt, eq, ofBits}
-use Rattle.timebase.specs.Time.{ticksIn, cycleIn, endless as withoutEnd}
+use Rattle.timebase.specs.Time.{ticksIn, endless as withoutEnd}
 use Rattle.float32.specs.Limit.{sampleOf}
 use Rattle.score_line.specs.declared.When.{When}
 use Rattle.score_line.specs.declared.When.the-variants.{Timed, Untimed}
@@ -16,7 +16,7 @@ use Rattle.score_line.specs.declared.Label.the-variants.{Unlabelled, Labelled}
 use Rattle.score_line.specs.declared.Event.{Event}
 use Rattle.score_line.specs.declared.Event.the-variants.{Instr, Control, End, Tempo}
 use Rattle.score_line.specs.declared.Line.{Line}
-use Rattle.players.specs.Lists.{keep, fold, each}
+use Rattle.players.specs.Lists.{fold, each}
 
 -- ---- the voices
 
@@ -43,19 +43,6 @@ pub record Note (S : Type 0) : Type 0 where
   pub endless : Bool
   pub end : ℕ
   pub state : S
-
--- what a player holds between two cycles
-pub record Core (S : Type 0) : Type 0 where
-  -- the waiting lines, in order of arrival
-  pub lines : List Line
-  -- the sounding notes, oldest first
-  pub notes : List (Note S)
-  pub position : ℕ
-  pub tempo : Float
-  -- how many notes were missed
-  pub missed : ℕ
-  -- whether the piece is ended
-  pub ended : Bool
 
 -- ---- due lines
 
@@ -121,10 +108,6 @@ pub record Band (S : Type 0) : Type 0 where
   pub notes : List (Note S)
   pub mix : List Float
 
--- most notes that sound at once
-abbrev pub mostNotes : ℕ
-mostNotes = 16
-
 -- samples a cycle
 abbrev pub samples : ℕ
 samples = 320
@@ -145,18 +128,10 @@ module _ {S : Type 0} where
   abbrev pub withState : Note S → S → Note S
   withState n s = record { labelled = n .labelled; label = n .label; endless = n .endless; end = n .end; state = s }
 
-  -- the due lines, in order
-  unfoldable pub dueOf : Core S → List Line
-  dueOf c = ordered (keep (isDue (c .position)) (c .lines))
-
-  -- step 1: an end line is due, or the position is past the limit
-  unfoldable pub ends : Core S → Bool
-  ends c = ltb farthest (c .position) || anyEnd (dueOf c)
-
-  -- one note more; with 16 sounding, one more missed
-  unfoldable pub joinedBy : Started S → Note S → Started S
-  joinedBy s n =
-      cond (ltb (length (s .notes)) mostNotes)
+  -- one note more; with the most notes sounding, one more missed
+  unfoldable pub joinedBy : ℕ → Started S → Note S → Started S
+  joinedBy most s n =
+      cond (ltb (length (s .notes)) most)
       (record { notes = s .notes ++ (n ∷ []); missed = s .missed })
       (record { notes = s .notes; missed = s .missed + 1 })
 
@@ -176,16 +151,16 @@ module _ {S : Type 0} (v : Voices S) where
         state = v .birth instrument (take (l .count) (l .values));
       }
 
-  abbrev pub startedBy : ℕ → Line → Started S → Event → Started S
-  startedBy pos l s (Instr label i d) = joinedBy s (born pos l label i d)
-  startedBy pos l s (Control label x value) = s
-  startedBy pos l s End = s
-  startedBy pos l s (Tempo t) = s
+  abbrev pub startedBy : ℕ → ℕ → Line → Started S → Event → Started S
+  startedBy most pos l s (Instr label i d) = joinedBy most s (born pos l label i d)
+  startedBy most pos l s (Control label x value) = s
+  startedBy most pos l s End = s
+  startedBy most pos l s (Tempo t) = s
 
-  -- step 3: each instr line starts a note
-  unfoldable pub started : ℕ → List (Note S) → List Line → Started S
-  started pos ns ls =
-      fold (λ (s : Started S) (l : Line). startedBy pos l s (l .event)) (record { notes = ns; missed = 0 }) ls
+  -- step 3: each instr line starts a note, as long as fewer than the most sound
+  unfoldable pub started : ℕ → ℕ → List (Note S) → List Line → Started S
+  started most pos ns ls =
+      fold (λ (s : Started S) (l : Line). startedBy most pos l s (l .event)) (record { notes = ns; missed = 0 }) ls
 
   -- a control line's effect on one note: on a note with that label, and on no other
   unfoldable pub controlledBy : ℕ → ℕ → Float → Note S → Note S
@@ -216,65 +191,3 @@ module _ {S : Type 0} (v : Voices S) where
   -- each sample starts at +0
   unfoldable pub runAll : List (Note S) → Band S
   runAll ns = runFrom ns (replicate samples (ofBits binary32 0))
-
-  -- ---- one cycle of a player
-
-  unfoldable pub startedIn : Core S → Started S
-  startedIn c = started (c .position) (c .notes) (dueOf c)
-
-  -- steps 3 to 5
-  unfoldable pub bandOf : Core S → Band S
-  bandOf c = runAll (controlled (startedIn c .notes) (dueOf c))
-
-  -- step 6: the block of limited samples
-  unfoldable pub blockOf : ℕ → Core S → List ℤ
-  blockOf ceiling c = limited ceiling (bandOf c .mix)
-
-  -- steps 2 to 8: each due line is used once, the notes that are over are removed, the position grows
-  unfoldable pub stepped : Core S → Core S
-  stepped c =
-      record {
-        lines = keep (λ (l : Line). not (isDue (c .position) l)) (c .lines);
-        notes = keep (goesOn (c .position)) (bandOf c .notes);
-        position = c .position + cycleIn (lastTempo (c .tempo) (dueOf c));
-        tempo = lastTempo (c .tempo) (dueOf c);
-        missed = c .missed + startedIn c .missed;
-        ended = false;
-      }
-
-module _ {S : Type 0} where
-  -- the piece is ended: nothing else changes
-  unfoldable pub stopped : Core S → Core S
-  stopped c =
-      record {
-        lines = c .lines;
-        notes = c .notes;
-        position = c .position;
-        tempo = c .tempo;
-        missed = c .missed;
-        ended = true;
-      }
-
-  -- more lines behind those that wait
-  unfoldable pub withLines : Core S → List Line → Core S
-  withLines c ls =
-      record {
-        lines = c .lines ++ ls;
-        notes = c .notes;
-        position = c .position;
-        tempo = c .tempo;
-        missed = c .missed;
-        ended = c .ended;
-      }
-
-  -- the count of missed notes as far as 64 bits go
-  unfoldable pub capped : Core S → Core S
-  capped c =
-      record {
-        lines = c .lines;
-        notes = c .notes;
-        position = c .position;
-        tempo = c .tempo;
-        missed = min (c .missed) 18446744073709551615;
-        ended = c .ended;
-      }

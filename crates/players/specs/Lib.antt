@@ -1,4 +1,7 @@
 pub mod Lists
 pub mod Cycle
+pub mod Holds
 pub mod Plain
+pub mod Calls
+pub mod Condition3
 pub mod History

@@ -15,6 +15,7 @@ use Rattle.score_line.specs.declared.Event.the-variants.{Instr, Control, End, T
 use Rattle.score_line.specs.declared.Line.{Line}
 use Rattle.players.specs.Lists.{each, fold, keep}
 use Rattle.players.specs.Cycle.{Band, born, joinedBy, startedBy, withState, runFrom, controlledBy, controlEvent, controlled, goesOn}
+use Rattle.players.specs.Holds.{sixteen}
 use Rattle.players.specs.Cycle as cycle
 use Rattle.synth.specs.Passes.{sums, played}
 use Rattle.synth.specs.declared.Note.{Note}
@@ -158,11 +159,11 @@ module _ (table : List Instrument) (code : List ℕ) (vals : List Float) where
   pub start-instr : (position : ℕ) (l : Line) (s s′ : cycle.Started Held) (e : Event) (label : Label) (name : ℕ) (duration : Float)
       → e ≡ Instr label name duration → (f : Found) → f ≡ foundIn name table
       → (n : Note) → n ≡ bornNote code vals (f .instrument) l position label name duration
-      → s′ ≡ joinedBy s (noteOf n) → s′ ≡ startedBy (voices table code vals) position l s e
+      → s′ ≡ joinedBy sixteen s (noteOf n) → s′ ≡ startedBy (voices table code vals) sixteen position l s e
   start-instr position l s s′ e label name duration ee f ef n en q =
-      q ∙ ap (joinedBy s) (ap noteOf (en ∙ ap (λ (g : Found). bornNote code vals (g .instrument) l position label name duration) ef)
+      q ∙ ap (joinedBy sixteen s) (ap noteOf (en ∙ ap (λ (g : Found). bornNote code vals (g .instrument) l position label name duration) ef)
       ∙ born-same position l label name duration)
-      ∙ ap (startedBy (voices table code vals) position l s) (sym ee)
+      ∙ ap (startedBy (voices table code vals) sixteen position l s) (sym ee)
 
 -- ---- step 7
 

@@ -12,7 +12,8 @@ use lib.ListN.{length, take, drop, getD, set, length-take}
 use lib.Seq.{take-suc, take-suc-set, drop-cons, take-all, length-take-le, getD-take}
 use borrow.Author.Tests.{lt-ltb, le-ltb}
 use Rattle.players.specs.Lists.{each}
-use Rattle.players.specs.Cycle.{joinedBy, mostNotes}
+use Rattle.players.specs.Cycle.{joinedBy}
+use Rattle.players.specs.Holds.{sixteen}
 use Rattle.players.specs.Cycle as cycle
 use Rattle.players.proofs.Lists.{cond-true, cond-false}
 use Rattle.synth.specs.declared.Note.{Note}
@@ -103,20 +104,20 @@ module _ (ns : List Note) (k m : ℕ) (x : Note) (long : length ns ≡ 16) where
   count-in : k ≤ 16 → length (notesIn ns k) ≡ k
   count-in h = length-each noteOf (take k ns) ∙ length-take-le k ns (omega arith)
 
-  pub room : k < 16 → startedIn (set ns k x) (k + 1) m ≡ joinedBy (startedIn ns k m) (noteOf x)
+  pub room : k < 16 → startedIn (set ns k x) (k + 1) m ≡ joinedBy sixteen (startedIn ns k m) (noteOf x)
   unfolding joinedBy
   room h =
       let c = count-in (omega arith) in
       let q : notesIn (set ns k x) (k + 1) ≡ notesIn ns k ++ (noteOf x ∷ []) =
       rw (add-one, take-suc-set ns k x (omega arith)) (each-append noteOf (take k ns) (x ∷ []) ∙ ap (λ (l : List (cycle.Note Held)). notesIn ns k ++ l) (each-one noteOf x)) in
       ap (λ (l : List (cycle.Note Held)). record { notes = l; missed = m }) q
-      ∙ sym (cond-true _ _ (lt-ltb (length (notesIn ns k)) mostNotes (omega (arith, c))))
+      ∙ sym (cond-true _ _ (lt-ltb (length (notesIn ns k)) sixteen (omega (arith, c))))
 
-  pub full : 16 ≤ k → k ≤ 16 → startedIn ns k (m + 1) ≡ joinedBy (startedIn ns k m) (noteOf x)
+  pub full : 16 ≤ k → k ≤ 16 → startedIn ns k (m + 1) ≡ joinedBy sixteen (startedIn ns k m) (noteOf x)
   unfolding joinedBy
   full h g =
       let c = count-in g in
-      sym (cond-false _ _ (le-ltb (length (notesIn ns k)) mostNotes (omega (arith, c))))
+      sym (cond-false _ _ (le-ltb (length (notesIn ns k)) sixteen (omega (arith, c))))
 
 -- ---- a loop up to a count that stays within the array
 

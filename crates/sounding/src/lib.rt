@@ -13,6 +13,7 @@ ghost use lib.Ieee.{binary32, fits};
 ghost use lib.ListN.{length, take};
 ghost use Rattle.players.specs.Lists.{keep, each, over};
 ghost use Rattle.players.specs.Cycle.{goesOn, joinedBy, startedBy, started, isLabelled, labelNumber, runFrom};
+ghost use Rattle.players.specs.Holds.{sixteen};
 ghost use Rattle.synth.specs.Passes.{freshOf};
 ghost use Rattle.synth.specs.Room.{numbersIn};
 ghost use Rattle.sounding.specs.Voices.{voices, foundIn, fieldsIn, named, noteOf, notesIn, startedIn, bornNote, controlledNote, controlledIn, controlsIn, controlledAll, ranNote, ranMix, goesOnIn};
@@ -202,7 +203,7 @@ fn note_of<'a>(
 // One note more, or one more missed where 16 sound.
 fn with_note(v: Started, n: Note) -> Started
     requires { ⌜ (v .count ≤ 16) × (v .missed < 1000) ⌝ }
-    ensures { λ r. ⌜ (r .count ≤ 16) × (r .missed ≤ v .missed + 1) × (startedIn (r .notes) (r .count) (r .missed) ≡ joinedBy (startedIn (v .notes) (v .count) (v .missed)) (noteOf n)) ⌝ }
+    ensures { λ r. ⌜ (r .count ≤ 16) × (r .missed ≤ v .missed + 1) × (startedIn (r .notes) (r .count) (r .missed) ≡ joinedBy sixteen (startedIn (v .notes) (v .count) (v .missed)) (noteOf n)) ⌝ }
 {
     let k = v.count;
     let m = v.missed;
@@ -233,7 +234,7 @@ fn start_line<'a>(
     position: u64,
 ) -> Started
     requires { ⌜ (v .count ≤ 16) × (v .missed < 1000) × (position ≤ 1000000000000) ⌝ }
-    ensures { λ r. ⌜ (r .count ≤ 16) × (r .missed ≤ v .missed + 1) × (startedIn (r .notes) (r .count) (r .missed) ≡ startedBy (voices (take n table) (now (code .entry)) (now (vals .entry))) position l (startedIn (v .notes) (v .count) (v .missed)) (l .event)) ⌝ }
+    ensures { λ r. ⌜ (r .count ≤ 16) × (r .missed ≤ v .missed + 1) × (startedIn (r .notes) (r .count) (r .missed) ≡ startedBy (voices (take n table) (now (code .entry)) (now (vals .entry))) sixteen position l (startedIn (v .notes) (v .count) (v .missed)) (l .event)) ⌝ }
 {
     let e = l.event;
     match e {
@@ -272,7 +273,7 @@ pub fn start_notes<'a>(
     position: u64,
 ) -> Started
     requires { ⌜ position ≤ 1000000000000 ⌝ }
-    ensures { λ r. ⌜ (r .count ≤ 16) × (r .missed ≤ 64) × (startedIn (r .notes) (r .count) (r .missed) ≡ started (voices (take n table) (now (code .entry)) (now (vals .entry))) position (notesIn notes sounding) (take m lines)) ⌝ }
+    ensures { λ r. ⌜ (r .count ≤ 16) × (r .missed ≤ 64) × (startedIn (r .notes) (r .count) (r .missed) ≡ started (voices (take n table) (now (code .entry)) (now (vals .entry))) sixteen position (notesIn notes sounding) (take m lines)) ⌝ }
 {
     let w = within(m, 64);
     let mut v = Started {

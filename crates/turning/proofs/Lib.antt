@@ -1,4 +1,3 @@
 pub mod Steps
-pub mod Advancing
 pub mod Turning
 pub mod Samples

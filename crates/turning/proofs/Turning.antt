@@ -1,19 +1,24 @@
 -- Step 1 and the two ways through a cycle.
 use mathlib.Core.Path.{_≡_, refl, sym, ap, _∙_}
-use mathlib.Core.Bool.{Bool, true, false, cond, _||_}
+use mathlib.Core.Bool.{Bool, true, false, not, cond, _||_}
 use mathlib.Core.List.{List}
 use Prim.Native.Nat.{ℕ, _≤_, _<_}
 use lib.IntN.{ℤ}
+use lib.ListN.{length}
 use lib.Dec.{ltb}
 use borrow.Author.Tests.{ltb-false, lt-ltb, le-ltb}
 use Rattle.limiter.specs.Block as block
 use Rattle.score_line.specs.declared.Line.{Line}
-use Rattle.players.specs.Lists.{keep}
-use Rattle.players.specs.Cycle.{Voices, farthest, isDue, ordered, dueOf, anyEnd, ends, bandOf, stepped, capped}
+use Rattle.players.specs.Lists.{keep, over}
+use Rattle.players.specs.Cycle.{Voices, farthest, isDue, ordered, anyEnd}
+use Rattle.players.specs.Holds.{settingsOf, dueAt, laterThan, dueOf, endsBy, bandOf, capped, played}
 use Rattle.players.proofs.Lists.{cond-true, cond-false}
 use Rattle.waiting.specs.Admission.{waitingIn}
+use Rattle.waiting.specs.declared.Queue.{Queue}
 use Rattle.sounding.specs.Voices.{Held}
-use Rattle.turning.specs.Turn.{coreOf, withCore, stopped, played, turned, blockAfter}
+use Rattle.turning.specs.Steps.{playsOf, advanced}
+use Rattle.turning.specs.Turn.{holdsOf, endsNow, stopped, keptOf, playedOf, turned, blockAfter}
+use Rattle.turning.specs.declared.Playing.{Playing}
 use Rattle.turning.specs.declared.State.{State}
 
 -- ---- step 1
@@ -21,7 +26,7 @@ use Rattle.turning.specs.declared.State.{State}
 pub over-far : (position : ℕ) (due : List Line) → 1000000000000 < position → true ≡ (ltb farthest position || anyEnd due)
 over-far position due h = ap (λ (t : Bool). t || anyEnd due) (sym (lt-ltb farthest position h))
 
-pub over-near : (position : ℕ) (due : List Line) → position ≤ 1000000000000 → (b : Bool) → b ≡ anyEnd due → b ≡ (ltb farthest position || anyEnd due)
+pub over-near : (position : ℕ) (due : List Line) → position ≤ farthest → (b : Bool) → b ≡ anyEnd due → b ≡ (ltb farthest position || anyEnd due)
 over-near position due h b e = e ∙ ap (λ (t : Bool). t || anyEnd due) (sym (le-ltb farthest position h))
 
 -- what is not over is at or before the limit
@@ -29,52 +34,66 @@ neither : (a b : Bool) → (a || b) ≡ false → a ≡ false
 neither true b h = h
 neither false b h = refl
 
-pub near-law : (position : ℕ) (b : Bool) → (ltb farthest position || b) ≡ false → position ≤ 1000000000000
+pub near-law : (position : ℕ) (b : Bool) → (ltb farthest position || b) ≡ false → position ≤ farthest
 near-law position b h = ltb-false farthest position (neither (ltb farthest position) b h)
 
-module _ (s : State) (due : List Line) (is : due ≡ ordered (keep (isDue (s .position)) (waitingIn (s .queue)))) where
-  pub due-law : due ≡ dueOf (coreOf s)
-  unfolding dueOf coreOf
+module _ (v : Voices Held) (ceiling : ℕ) (s : State) (due : List Line) (is : due ≡ ordered (keep (isDue (s .playing .position)) (waitingIn (s .queue))))
+    (b : Bool) (q : b ≡ (ltb farthest (s .playing .position) || anyEnd due)) where
+  due-law : due ≡ dueOf (holdsOf s)
+  unfolding dueAt
   due-law = is
 
-  ends-law : (ltb farthest (s .position) || anyEnd due) ≡ ends (coreOf s)
-  unfolding ends coreOf
-  ends-law = ap (λ (d : List Line). ltb farthest (s .position) || anyEnd d) due-law
+  ends-law : b ≡ endsNow s
+  unfolding endsBy
+  ends-law = q ∙ ap (λ (d : List Line). ltb farthest (s .playing .position) || anyEnd d) due-law
 
-  module _ (v : Voices Held) (b : Bool) (q : b ≡ (ltb farthest (s .position) || anyEnd due)) where
-    pub turn-stops : b ≡ true → stopped s ≡ turned v s
-    unfolding turned
-    turn-stops t = sym (cond-true _ _ (sym (q ∙ ends-law) ∙ t))
+  pub turn-stops : b ≡ true → record { queue = s .queue; playing = stopped (s .playing) } ≡ turned v (settingsOf ceiling) s
+  unfolding turned
+  turn-stops t = sym (cond-true _ _ (sym ends-law ∙ t))
 
-    pub turn-plays : b ≡ false → (s′ : State) → s′ ≡ played v s → s′ ≡ turned v s
-    unfolding turned
-    turn-plays t s′ e = e ∙ sym (cond-false _ _ (sym (q ∙ ends-law) ∙ t))
+  pub turn-plays : b ≡ false → (p : Playing) → p ≡ advanced v (settingsOf ceiling) due (s .playing) → (k : Queue) → k ≡ keptOf (s .playing .position) (s .queue)
+      → record { queue = k; playing = p } ≡ turned v (settingsOf ceiling) s
+  unfolding turned playedOf
+  turn-plays t p e k f =
+      (λ i. record { queue = f i; playing = (e ∙ ap (λ (d : List Line). advanced v (settingsOf ceiling) d (s .playing)) due-law) i })
+      ∙ sym (cond-false _ _ (sym ends-law ∙ t))
 
-    module _ (ceiling : ℕ) (lent : List ℤ) where
-      pub block-stays : b ≡ true → lent ≡ blockAfter v ceiling s lent
-      unfolding blockAfter
-      block-stays t = sym (cond-true _ _ (sym (q ∙ ends-law) ∙ t))
+  module _ (lent : List ℤ) where
+    pub block-stays : b ≡ true → lent ≡ blockAfter v (settingsOf ceiling) s lent
+    unfolding blockAfter
+    block-stays t = sym (cond-true _ _ (sym ends-law ∙ t))
 
-      pub block-plays : b ≡ false → (left : List ℤ) → left ≡ block.limited ceiling (bandOf v (coreOf s) .mix) lent → left ≡ blockAfter v ceiling s lent
-      unfolding blockAfter
-      block-plays t left e = e ∙ sym (cond-false _ _ (sym (q ∙ ends-law) ∙ t))
+    pub block-plays : b ≡ false → (left : List ℤ) → left ≡ block.limited ceiling (bandOf v (settingsOf ceiling) due (playsOf (s .playing)) .mix) lent
+        → left ≡ blockAfter v (settingsOf ceiling) s lent
+    unfolding blockAfter
+    block-plays t left e =
+        e ∙ ap (λ (d : List Line). block.limited ceiling (bandOf v (settingsOf ceiling) d (playsOf (s .playing)) .mix) lent) due-law
+        ∙ sym (cond-false _ _ (sym ends-law ∙ t))
+
+-- ---- what waits
+
+pub keep-law : (position : ℕ) (q : Queue) (kl : List Line) (kc : ℕ)
+    → kc ≡ length (keep (λ (l : Line). not (isDue position l)) (waitingIn q)) → kl ≡ over (keep (λ (l : Line). not (isDue position l)) (waitingIn q)) (q .lines)
+    → record { lines = kl; count = kc; ran = true; last = position } ≡ keptOf position q
+unfolding keptOf laterThan
+keep-law position q kl kc e f = λ i. record { lines = f i; count = e i; ran = true; last = position }
 
 -- ---- for callers: the mark of the end tells which way it went
 
-module _ (v : Voices Held) (s s′ : State) (e : s′ ≡ turned v s) where
-  marked : (b : Bool) → cond b (stopped s) (played v s) .ended ≡ b
-  unfolding stopped played withCore capped stepped
+module _ (v : Voices Held) (ceiling : ℕ) (s s′ : State) (e : s′ ≡ turned v (settingsOf ceiling) s) where
+  marked : (b : Bool) → cond b (record { queue = s .queue; playing = stopped (s .playing) }) (playedOf v (settingsOf ceiling) s) .playing .ended ≡ b
+  unfolding stopped playedOf advanced capped played
   marked true = refl
   marked false = refl
 
-  pub ended-law : ends (coreOf s) ≡ s′ .ended
+  pub ended-law : endsNow s ≡ s′ .playing .ended
   unfolding turned
-  ended-law = sym (marked (ends (coreOf s))) ∙ ap (λ (x : State). x .ended) (sym e)
+  ended-law = sym (marked (endsNow s)) ∙ ap (λ (x : State). x .playing .ended) (sym e)
 
-  pub has-stopped : s′ .ended ≡ true → s′ ≡ stopped s
+  pub has-stopped : s′ .playing .ended ≡ true → s′ ≡ record { queue = s .queue; playing = stopped (s .playing) }
   unfolding turned
   has-stopped t = e ∙ cond-true _ _ (ended-law ∙ t)
 
-  pub has-played : s′ .ended ≡ false → s′ ≡ played v s
+  pub has-played : s′ .playing .ended ≡ false → s′ ≡ playedOf v (settingsOf ceiling) s
   unfolding turned
   has-played t = e ∙ cond-false _ _ (ended-law ∙ t)

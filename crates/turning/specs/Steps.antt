@@ -1,32 +1,47 @@
--- Steps 3 to 7 on the sounding notes.
+-- Steps 2 to 8 on what plays, as the panel keeps it.
 use mathlib.Core.List.{List}
-use Prim.Native.Nat.{ℕ, _+_, min}
 use lib.ListN.{length}
 use Rattle.score_line.specs.declared.Line.{Line}
-use Rattle.players.specs.Lists.{each, keep, over}
-use Rattle.players.specs.Cycle.{Voices, Band, started, controlled, runAll, goesOn}
+use Rattle.players.specs.Lists.{each, over}
+use Rattle.players.specs.Cycle.{Voices}
 use Rattle.players.specs.Cycle as cycle
+use Rattle.players.specs.Holds.{Settings, Plays, capped, played}
 use Rattle.sounding.specs.Voices.{Held, notesIn, structOf}
 use Rattle.sounding.specs.declared.Notes.{Notes}
 use Rattle.turning.specs.declared.Performed.{Performed}
+use Rattle.turning.specs.declared.Playing.{Playing}
 
 -- the notes that sound
 abbrev pub soundingIn : Notes → List (cycle.Note Held)
 soundingIn n = notesIn (n .notes) (n .count)
 
--- steps 3 to 5: the notes after their run, and the mix
-abbrev pub bandFrom : Voices Held → ℕ → List (cycle.Note Held) → List Line → Band Held
-bandFrom v position ns due = runAll v (controlled v (started v position ns due .notes) due)
-
--- step 7: the notes that go on
-abbrev pub going : Voices Held → ℕ → List (cycle.Note Held) → List Line → List (cycle.Note Held)
-going v position ns due = keep (goesOn position) (bandFrom v position ns due .notes)
-
--- the notes that go on, laid over the array, and the count of missed notes, which stops at the largest number
-unfoldable pub performedOf : Voices Held → ℕ → Notes → List Line → ℕ → Performed
-performedOf v position old due missed =
-    let ns = going v position (soundingIn old) due in
+-- what plays, its notes as a list
+abbrev pub playsOf : Playing → Plays Held
+playsOf p =
     record {
-      notes = record { notes = over (each structOf ns) (old .notes); count = length ns };
-      missed = min (missed + started v position (soundingIn old) due .missed) 18446744073709551615;
+      notes = soundingIn (p .notes);
+      position = p .position;
+      tempo = p .tempo;
+      counts = record { missed = p .missed };
+      ended = p .ended;
     }
+
+-- what plays now, laid over what played before: the array keeps what the notes do not reach
+abbrev pub laidOver : Playing → Plays Held → Playing
+laidOver old p =
+    record {
+      notes = record { notes = over (each structOf (p .notes)) (old .notes .notes); count = length (p .notes) };
+      position = p .position;
+      tempo = p .tempo;
+      missed = p .counts .missed;
+      ended = p .ended;
+    }
+
+-- steps 2 to 8
+unfoldable pub advanced : Voices Held → Settings → List Line → Playing → Playing
+advanced v s due p = laidOver p (capped (played v s due (playsOf p)))
+
+-- steps 3 to 7: the notes and the count of missed notes
+unfoldable pub performedOf : Voices Held → Settings → List Line → Playing → Performed
+unfolding advanced
+performedOf v s due p = record { notes = advanced v s due p .notes; missed = advanced v s due p .missed }

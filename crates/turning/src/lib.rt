@@ -9,19 +9,25 @@ ghost use Prim.Native.Nat.{_≤_, _+_, min};
 ghost use lib.Dec.{ltb};
 ghost use lib.ListN.{take};
 ghost use Rattle.limiter.specs.Block.{limited};
-ghost use Rattle.players.specs.Cycle.{farthest, anyEnd, dueOf, bandOf, runAll};
+ghost use Rattle.players.specs.Cycle.{farthest, anyEnd, runAll};
+ghost use Rattle.players.specs.Holds.{settingsOf, bandOf};
 ghost use Rattle.sounding.specs.Voices.{voices};
-ghost use Rattle.turning.specs.Steps.{soundingIn, bandFrom, performedOf};
-ghost use Rattle.turning.specs.Turn.{coreOf, played, turned, blockAfter};
+ghost use Rattle.turning.specs.Steps.{soundingIn, playsOf, performedOf, advanced};
+ghost use Rattle.turning.specs.Turn.{keptOf, turned, blockAfter};
 
-// What the calls change: the waiting lines, the sounding notes, position, tempo, missed notes and the mark of the end.
-pub struct State {
-    pub queue: Queue,
+// What plays: the sounding notes, position, tempo, missed notes and the mark of the end.
+pub struct Playing {
     pub notes: Notes,
     pub position: u64,
     pub tempo: f32,
     pub missed: u64,
     pub ended: bool,
+}
+
+// What the calls change: the waiting lines, and what plays.
+pub struct State {
+    pub queue: Queue,
+    pub playing: Playing,
 }
 
 // Step 1: an end line is due, or the position is past the limit.
@@ -83,17 +89,17 @@ fn perform<'a>(
     n: usize,
     code: &'a [u64],
     vals: &'a [f32],
-    old: Notes,
+    p: Playing,
     due: Lines,
-    position: u64,
-    missed: u64,
     ceiling: u16,
     block: &mut [i16],
 ) -> Performed
-    requires { ⌜ position ≤ 1000000000000 ⌝ }
-    ensures notes { λ r. ⌜ r ≡ performedOf (voices (take n table) (now (code .entry)) (now (vals .entry))) position old (take (due .count) (due .lines)) missed ⌝ }
-    ensures block { λ r. ⌜ now (block .exit) ≡ limited ceiling (bandFrom (voices (take n table) (now (code .entry)) (now (vals .entry))) position (soundingIn old) (take (due .count) (due .lines)) .mix) (now (block .entry)) ⌝ }
+    requires { ⌜ p .position ≤ farthest ⌝ }
+    ensures notes { λ r. ⌜ r ≡ performedOf (voices (take n table) (now (code .entry)) (now (vals .entry))) (settingsOf ceiling) (take (due .count) (due .lines)) p ⌝ }
+    ensures block { λ r. ⌜ now (block .exit) ≡ limited ceiling (bandOf (voices (take n table) (now (code .entry)) (now (vals .entry))) (settingsOf ceiling) (take (due .count) (due .lines)) (playsOf p) .mix) (now (block .entry)) ⌝ }
 {
+    let old = p.notes;
+    let position = p.position;
     let notes = old.notes;
     let lines = due.lines;
     let v = sounding::start_notes(
@@ -128,59 +134,52 @@ fn perform<'a>(
             notes: out,
             count: g.count,
         },
-        missed: counted(missed, v.missed),
+        missed: counted(p.missed, v.missed),
     }
 }
 
-// Steps 2 to 8, for the due lines in order.
+// Steps 2 to 8 on what plays, for the due lines in order.
 fn advance<'a>(
     table: [Instrument; 8],
     n: usize,
     code: &'a [u64],
     vals: &'a [f32],
-    s: State,
+    p: Playing,
     due: Lines,
     ceiling: u16,
     block: &mut [i16],
-) -> State
-    requires { ⌜ (s .position ≤ 1000000000000) × (take (due .count) (due .lines) ≡ dueOf (coreOf s)) ⌝ }
-    ensures state { λ r. ⌜ r ≡ played (voices (take n table) (now (code .entry)) (now (vals .entry))) s ⌝ }
-    ensures block { λ r. ⌜ now (block .exit) ≡ limited ceiling (bandOf (voices (take n table) (now (code .entry)) (now (vals .entry))) (coreOf s) .mix) (now (block .entry)) ⌝ }
+) -> Playing
+    requires { ⌜ p .position ≤ farthest ⌝ }
+    ensures playing { λ r. ⌜ r ≡ advanced (voices (take n table) (now (code .entry)) (now (vals .entry))) (settingsOf ceiling) (take (due .count) (due .lines)) p ⌝ }
+    ensures block { λ r. ⌜ now (block .exit) ≡ limited ceiling (bandOf (voices (take n table) (now (code .entry)) (now (vals .entry))) (settingsOf ceiling) (take (due .count) (due .lines)) (playsOf p) .mix) (now (block .entry)) ⌝ }
 {
-    let position = s.position;
-    let q = s.queue;
-    let lines = q.lines;
-    let notes = s.notes;
-    let now = due.lines;
-    let tempo = waiting::tempo_after(now, due.count, s.tempo);
-    let t = perform(
-        table,
-        n,
-        code,
-        vals,
-        notes,
-        due,
-        position,
-        s.missed,
-        ceiling,
-        block,
-    );
-    let heard = t.notes;
-    let k = waiting::kept(lines, q.count, position);
-    let rest = k.lines;
+    let position = p.position;
+    let lines = due.lines;
+    let tempo = waiting::tempo_after(lines, due.count, p.tempo);
+    let t = perform(table, n, code, vals, p, due, ceiling, block);
+    let notes = t.notes;
     let step = timebase::ticks_per_cycle(tempo);
-    State {
-        queue: Queue {
-            lines: rest,
-            count: k.count,
-            ran: true,
-            last: position,
-        },
-        notes: heard,
+    Playing {
+        notes: notes,
         position: position + step,
         tempo: tempo,
         missed: t.missed,
         ended: false,
+    }
+}
+
+// The lines that are not due stay; a cycle has run at this position.
+fn keep_waiting(q: Queue, position: u64) -> Queue
+    ensures { λ r. ⌜ r ≡ keptOf position q ⌝ }
+{
+    let lines = q.lines;
+    let k = waiting::kept(lines, q.count, position);
+    let rest = k.lines;
+    Queue {
+        lines: rest,
+        count: k.count,
+        ran: true,
+        last: position,
     }
 }
 
@@ -194,15 +193,22 @@ pub fn turn<'a>(
     ceiling: u16,
     block: &mut [i16],
 ) -> State
-    ensures state { λ r. ⌜ r ≡ turned (voices (take n table) (now (code .entry)) (now (vals .entry))) s ⌝ }
-    ensures block { λ r. ⌜ now (block .exit) ≡ blockAfter (voices (take n table) (now (code .entry)) (now (vals .entry))) ceiling s (now (block .entry)) ⌝ }
+    ensures state { λ r. ⌜ r ≡ turned (voices (take n table) (now (code .entry)) (now (vals .entry))) (settingsOf ceiling) s ⌝ }
+    ensures block { λ r. ⌜ now (block .exit) ≡ blockAfter (voices (take n table) (now (code .entry)) (now (vals .entry))) (settingsOf ceiling) s (now (block .entry)) ⌝ }
 {
     let q = s.queue;
+    let mut p = s.playing;
+    let position = p.position;
     let lines = q.lines;
-    let due = waiting::due_lines(lines, q.count, s.position);
-    if is_over(s.position, due) {
-        s.ended = true;
+    let due = waiting::due_lines(lines, q.count, position);
+    if is_over(position, due) {
+        p.ended = true;
+        s.playing = p;
         return s;
     }
-    advance(table, n, code, vals, s, due, ceiling, block)
+    let next = advance(table, n, code, vals, p, due, ceiling, block);
+    State {
+        queue: keep_waiting(q, position),
+        playing: next,
+    }
 }

@@ -1,6 +1,6 @@
 -- Voices that do the same to every note they have made give the same cycle, and so the same plain player.
 use mathlib.Core.Path.{_≡_, refl, ap, _∙_}
-use mathlib.Core.Bool.{Bool, true, false, not, cond, _&&_}
+use mathlib.Core.Bool.{Bool, true, false, cond, _&&_}
 use mathlib.Core.List.{List, [], _∷_, _++_}
 use Prim.Native.Nat.{ℕ, zero, suc, _+_}
 use lib.Dec.{ltb, eqb}
@@ -14,8 +14,9 @@ use Rattle.score_line.specs.declared.Event.the-variants.{Instr, Control, End, T
 use Rattle.score_line.specs.declared.Line.{Line}
 use Rattle.lowered.specs.Statements.{AllFit}
 use Rattle.players.specs.Lists.{keep, fold, each, All}
-use Rattle.players.specs.Cycle.{Voices, Ran, Note, Core, Started, Band, mostNotes, samples, isDue, isLabelled, labelNumber, withState, joinedBy, born, startedBy, started, controlledBy, controlEvent, controlled, runFrom, runAll, dueOf, ends, lastTempo, startedIn, bandOf, blockOf, limited, goesOn, stepped, stopped}
-use Rattle.players.specs.Plain.{plainStart, plainStep, plainAt, plainAnswer, answerAt, blockAt}
+use Rattle.players.specs.Cycle.{Voices, Ran, Note, Started, Band, samples, isLabelled, labelNumber, withState, joinedBy, born, startedBy, started, controlledBy, controlEvent, controlled, runFrom, runAll, lastTempo, limited, goesOn}
+use Rattle.players.specs.Holds.{Settings, Plays, Holds, laterThan, dueOf, endsBy, marked, answerOf, startedOf, bandOf, blockOf, played, cycled}
+use Rattle.players.specs.Plain.{plainStart, plainAt, answerAt, blockAt}
 use Rattle.players.proofs.Lists.{all-keep, all-append}
 
 module _ {S : Type 0} (Good : S → Type 0) where
@@ -41,9 +42,9 @@ module _ {S : Type 0} (Good : S → Type 0) where
   zeros-fit (suc n) = (ofBits-fits binary32 0, zeros-fit n)
 
   -- one note more, where there is room
-  joined-good : (s : Started S) (n : Note S) → Notes (s .notes) → Good (n .state) → Notes (joinedBy s n .notes)
+  joined-good : (most : ℕ) (s : Started S) (n : Note S) → Notes (s .notes) → Good (n .state) → Notes (joinedBy most s n .notes)
   unfolding joinedBy
-  joined-good s n h g = go (ltb (length (s .notes)) mostNotes)
+  joined-good most s n h g = go (ltb (length (s .notes)) most)
     where
       go : (b : Bool)
           → Notes (cond {A = Started S} b (record { notes = s .notes ++ (n ∷ []); missed = s .missed }) (record { notes = s .notes; missed = s .missed + 1 }) .notes)
@@ -68,39 +69,40 @@ module _ {S : Type 0} (Good : S → Type 0) where
     unfolding born
     born-good pos l label i d = a .birth-good i (take (l .count) (l .values))
 
-    starts-same : (pos : ℕ) (l : Line) (s : Started S) (ev : Event) → startedBy v pos l s ev ≡ startedBy w pos l s ev
-    starts-same pos l s (Instr label i d) = ap (joinedBy s) (born-same pos l label i d)
-    starts-same pos l s (Control label x value) = refl
-    starts-same pos l s End = refl
-    starts-same pos l s (Tempo t) = refl
+    module _ (most : ℕ) where
+      starts-same : (pos : ℕ) (l : Line) (s : Started S) (ev : Event) → startedBy v most pos l s ev ≡ startedBy w most pos l s ev
+      starts-same pos l s (Instr label i d) = ap (joinedBy most s) (born-same pos l label i d)
+      starts-same pos l s (Control label x value) = refl
+      starts-same pos l s End = refl
+      starts-same pos l s (Tempo t) = refl
 
-    starts-good : (pos : ℕ) (l : Line) (s : Started S) (ev : Event) → Notes (s .notes) → Notes (startedBy w pos l s ev .notes)
-    starts-good pos l s (Instr label i d) h = joined-good s (born w pos l label i d) h (born-good pos l label i d)
-    starts-good pos l s (Control label x value) h = h
-    starts-good pos l s End h = h
-    starts-good pos l s (Tempo t) h = h
+      starts-good : (pos : ℕ) (l : Line) (s : Started S) (ev : Event) → Notes (s .notes) → Notes (startedBy w most pos l s ev .notes)
+      starts-good pos l s (Instr label i d) h = joined-good most s (born w pos l label i d) h (born-good pos l label i d)
+      starts-good pos l s (Control label x value) h = h
+      starts-good pos l s End h = h
+      starts-good pos l s (Tempo t) h = h
 
-    starting-same : (pos : ℕ) (s : Started S) (ls : List Line)
-        → fold (λ (t : Started S) (l : Line). startedBy v pos l t (l .event)) s ls ≡ fold (λ (t : Started S) (l : Line). startedBy w pos l t (l .event)) s ls
-    unfolding fold
-    starting-same pos s [] = refl
-    starting-same pos s (l ∷ ls) =
-        ap (λ (t : Started S). fold (λ (t : Started S) (l : Line). startedBy v pos l t (l .event)) t ls) (starts-same pos l s (l .event))
-        ∙ starting-same pos (startedBy w pos l s (l .event)) ls
+      starting-same : (pos : ℕ) (s : Started S) (ls : List Line)
+          → fold (λ (t : Started S) (l : Line). startedBy v most pos l t (l .event)) s ls ≡ fold (λ (t : Started S) (l : Line). startedBy w most pos l t (l .event)) s ls
+      unfolding fold
+      starting-same pos s [] = refl
+      starting-same pos s (l ∷ ls) =
+          ap (λ (t : Started S). fold (λ (t : Started S) (l : Line). startedBy v most pos l t (l .event)) t ls) (starts-same pos l s (l .event))
+          ∙ starting-same pos (startedBy w most pos l s (l .event)) ls
 
-    starting-good : (pos : ℕ) (s : Started S) (ls : List Line) → Notes (s .notes)
-        → Notes (fold (λ (t : Started S) (l : Line). startedBy w pos l t (l .event)) s ls .notes)
-    unfolding fold
-    starting-good pos s [] h = h
-    starting-good pos s (l ∷ ls) h = starting-good pos (startedBy w pos l s (l .event)) ls (starts-good pos l s (l .event) h)
+      starting-good : (pos : ℕ) (s : Started S) (ls : List Line) → Notes (s .notes)
+          → Notes (fold (λ (t : Started S) (l : Line). startedBy w most pos l t (l .event)) s ls .notes)
+      unfolding fold
+      starting-good pos s [] h = h
+      starting-good pos s (l ∷ ls) h = starting-good pos (startedBy w most pos l s (l .event)) ls (starts-good pos l s (l .event) h)
 
-    started-same : (pos : ℕ) (ns : List (Note S)) (ls : List Line) → started v pos ns ls ≡ started w pos ns ls
-    unfolding started
-    started-same pos ns ls = starting-same pos (record { notes = ns; missed = 0 }) ls
+      started-same : (pos : ℕ) (ns : List (Note S)) (ls : List Line) → started v most pos ns ls ≡ started w most pos ns ls
+      unfolding started
+      started-same pos ns ls = starting-same pos (record { notes = ns; missed = 0 }) ls
 
-    started-good : (pos : ℕ) (ns : List (Note S)) (ls : List Line) → Notes ns → Notes (started w pos ns ls .notes)
-    unfolding started
-    started-good pos ns ls h = starting-good pos (record { notes = ns; missed = 0 }) ls h
+      started-good : (pos : ℕ) (ns : List (Note S)) (ls : List Line) → Notes ns → Notes (started w most pos ns ls .notes)
+      unfolding started
+      started-good pos ns ls h = starting-good pos (record { notes = ns; missed = 0 }) ls h
 
     -- ---- step 4
 
@@ -172,80 +174,89 @@ module _ {S : Type 0} (Good : S → Type 0) where
         let r = a .run-good (n .state) mix (h .0) f in
         (r .good, run-notes-good ns (w .run (n .state) mix .mix) (h .1) (r .fit))
 
-    -- ---- one cycle
+    -- ---- steps 2 to 8
 
-    module _ (c : Core S) (h : Notes (c .notes)) where
-      started-in-same : startedIn v c ≡ startedIn w c
-      unfolding startedIn
-      started-in-same = started-same (c .position) (c .notes) (dueOf c)
+    module _ (s : Settings) (due : List Line) (p : Plays S) (h : Notes (p .notes)) where
+      started-of-same : startedOf v s due p ≡ startedOf w s due p
+      unfolding startedOf
+      started-of-same = started-same (s .mostNotes) (p .position) (p .notes) due
 
       abbrev sounding : List (Note S)
-      sounding = controlled w (startedIn w c .notes) (dueOf c)
+      sounding = controlled w (startedOf w s due p .notes) due
 
       sounding-good : Notes sounding
-      unfolding startedIn
-      sounding-good = controlled-good (startedIn w c .notes) (dueOf c) (started-good (c .position) (c .notes) (dueOf c) h)
+      unfolding startedOf
+      sounding-good = controlled-good (startedOf w s due p .notes) due (started-good (s .mostNotes) (p .position) (p .notes) due h)
 
-      band-same : bandOf v c ≡ bandOf w c
+      band-same : bandOf v s due p ≡ bandOf w s due p
       unfolding bandOf runAll
       band-same =
-          ap (λ (s : Started S). runAll v (controlled v (s .notes) (dueOf c))) started-in-same
-          ∙ ap (runAll v) (controlled-same (startedIn w c .notes) (dueOf c))
+          ap (λ (t : Started S). runAll v (controlled v (t .notes) due)) started-of-same
+          ∙ ap (runAll v) (controlled-same (startedOf w s due p .notes) due)
           ∙ run-same sounding (replicate samples (ofBits binary32 0)) sounding-good (zeros-fit samples)
 
-      band-good : Notes (bandOf w c .notes)
+      band-good : Notes (bandOf w s due p .notes)
       unfolding bandOf runAll
       band-good = run-notes-good sounding (replicate samples (ofBits binary32 0)) sounding-good (zeros-fit samples)
 
-      pub block-same : (ceiling : ℕ) → blockOf v ceiling c ≡ blockOf w ceiling c
+      pub block-same : blockOf v s due p ≡ blockOf w s due p
       unfolding blockOf
-      block-same ceiling = ap (λ (b : Band S). limited ceiling (b .mix)) band-same
+      block-same = ap (λ (b : Band S). limited (s .ceiling) (b .mix)) band-same
 
-      pub stepped-same : stepped v c ≡ stepped w c
-      unfolding stepped
-      stepped-same =
+      pub played-same : played v s due p ≡ played w s due p
+      unfolding played
+      played-same =
           λ i. record {
-            lines = keep (λ (l : Line). not (isDue (c .position) l)) (c .lines);
-            notes = keep (goesOn (c .position)) (band-same i .notes);
-            position = c .position + cycleIn (lastTempo (c .tempo) (dueOf c));
-            tempo = lastTempo (c .tempo) (dueOf c);
-            missed = c .missed + started-in-same i .missed;
+            notes = keep (goesOn (p .position)) (band-same i .notes);
+            position = p .position + cycleIn (lastTempo (p .tempo) due);
+            tempo = lastTempo (p .tempo) due;
+            counts = record { missed = p .counts .missed + started-of-same i .missed };
             ended = false;
           }
 
-      pub stepped-good : Notes (stepped w c .notes)
-      unfolding stepped
-      stepped-good = all-keep (goesOn (c .position)) (λ (n : Note S). Good (n .state)) (bandOf w c .notes) band-good
+      pub played-good : Notes (played w s due p .notes)
+      unfolding played
+      played-good = all-keep (goesOn (p .position)) (λ (n : Note S). Good (n .state)) (bandOf w s due p .notes) band-good
 
-      plain-step-same : plainStep v c ≡ plainStep w c
-      unfolding plainStep
-      plain-step-same = ap (λ (d : Core S). cond (c .ended) c (cond (ends c) (stopped c) d)) stepped-same
+    -- ---- a whole cycle
 
-      plain-step-good : Notes (plainStep w c .notes)
-      unfolding plainStep stopped
-      plain-step-good = go (c .ended) (ends c)
+    module _ (s : Settings) (h : Holds S) (g : Notes (h .plays .notes)) where
+      pub cycled-same : cycled v s h ≡ cycled w s h
+      unfolding cycled
+      cycled-same =
+          ap (λ (p : Plays S). cond (h .plays .ended) h
+          (cond (endsBy (dueOf h) (h .plays)) (record { waits = h .waits; plays = marked (h .plays) }) (record { waits = laterThan (h .plays .position) (h .waits); plays = p })))
+          (played-same s (dueOf h) (h .plays) g)
+
+      pub cycled-good : Notes (cycled w s h .plays .notes)
+      unfolding cycled marked
+      cycled-good = go (h .plays .ended) (endsBy (dueOf h) (h .plays))
         where
-          go : (b d : Bool) → Notes (cond b c (cond d (stopped c) (stepped w c)) .notes)
-          go true d = h
-          go false true = h
-          go false false = stepped-good
+          go : (b d : Bool)
+              → Notes (cond b h (cond d (record { waits = h .waits; plays = marked (h .plays) }) (record { waits = laterThan (h .plays .position) (h .waits); plays = played w s (dueOf h) (h .plays) })) .plays .notes)
+          go true d = g
+          go false true = g
+          go false false = played-good s (dueOf h) (h .plays) g
 
-    -- ---- every cycle
+    -- ---- every cycle of the plain player
 
-    at-good : (ls : List Line) (k : ℕ) → Notes (plainAt w ls k .notes)
-    unfolding plainAt plainStart
-    at-good ls zero = tt
-    at-good ls (suc k) = plain-step-good (plainAt w ls k) (at-good ls k)
+    module _ (settings : ℕ → Settings) (ls : List Line) where
+      at-good : (k : ℕ) → Notes (plainAt w settings ls k .plays .notes)
+      unfolding plainAt plainStart
+      at-good zero = tt
+      at-good (suc k) = cycled-good (settings k) (plainAt w settings ls k) (at-good k)
 
-    pub at-same : (ls : List Line) (k : ℕ) → plainAt v ls k ≡ plainAt w ls k
-    unfolding plainAt
-    at-same ls zero = refl
-    at-same ls (suc k) = ap (plainStep v) (at-same ls k) ∙ plain-step-same (plainAt w ls k) (at-good ls k)
+      pub at-same : (k : ℕ) → plainAt v settings ls k ≡ plainAt w settings ls k
+      unfolding plainAt
+      at-same zero = refl
+      at-same (suc k) = ap (cycled v (settings k)) (at-same k) ∙ cycled-same (settings k) (plainAt w settings ls k) (at-good k)
 
-    pub blocks-same : (ceiling : ℕ) (ls : List Line) (k : ℕ) → blockAt v ceiling ls k ≡ blockAt w ceiling ls k
-    unfolding blockAt
-    blocks-same ceiling ls k = ap (blockOf v ceiling) (at-same ls k) ∙ block-same (plainAt w ls k) (at-good ls k) ceiling
+      pub blocks-same : (k : ℕ) → blockAt v settings ls k ≡ blockAt w settings ls k
+      unfolding blockAt
+      blocks-same k =
+          ap (λ (h : Holds S). blockOf v (settings k) (dueOf h) (h .plays)) (at-same k)
+          ∙ block-same (settings k) (dueOf (plainAt w settings ls k)) (plainAt w settings ls k .plays) (at-good k)
 
-    pub answers-same : (ls : List Line) (k : ℕ) → answerAt v ls k ≡ answerAt w ls k
-    unfolding answerAt
-    answers-same ls k = ap plainAnswer (at-same ls k)
+      pub answers-same : (k : ℕ) → answerAt v settings ls k ≡ answerAt w settings ls k
+      unfolding answerAt
+      answers-same k = ap answerOf (at-same k)

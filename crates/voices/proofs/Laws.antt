@@ -1,22 +1,18 @@
 -- A program that represents a tree plays the tree.
-use mathlib.Core.Path.{_≡_, sym, ap, _∙_, subst}
-use mathlib.Core.List.{List, [], _∷_}
+use mathlib.Core.Path.{_≡_, ap, _∙_}
+use mathlib.Core.List.{List}
 use Prim.Native.Nat.{ℕ}
 use lib.ListN.{length}
 use lib.Ieee.{Float}
-use Rattle.score_line.specs.declared.Line.{Line}
 use Rattle.syntax.specs.Tree.{Instrument}
 use Rattle.meaning.specs.Meaning.{birth, kPass, cycle}
 use Rattle.synth.specs.Passes.{stretch, freshOf, once, played}
 use Rattle.lowered.specs.Statements.{AllFit}
-use Rattle.players.specs.Cycle.{Voices, Core}
-use Rattle.players.specs.History.{Call, Last, none, at, Entrances, counted, brought, taken, lastAfter, above, inTime, InTime, Agrees, PlainAlike}
-use Rattle.players.proofs.Lists.{all-map}
 use Rattle.sounding.specs.declared.Instrument as row
 use Rattle.sounding.specs.Voices.{Held, named, instrumentIn, voices, birthOf, ranValues, ranMixOf}
 use Rattle.voices.specs.Tree.{treeVoices, instrumentOf, importsOf, bodyOf}
 use Rattle.voices.specs.Represents.{Represents}
-use Rattle.voices.specs.Claims.{SamePlayer, PlaysTree, PlainAlikeTree}
+use Rattle.voices.specs.Claims.{PlaysTree}
 use Rattle.voices.proofs.Kept.{birth-size, k-size, a-size, a-fits, named-size}
 use Rattle.voices.proofs.Alike.{Alike, at-same, blocks-same, answers-same}
 
@@ -75,40 +71,4 @@ module _ (is : List Instrument) (table : List row.Instrument) (code : List ℕ) 
 pub plays-tree : PlaysTree
 plays-tree is table code vals r =
     let a = alike is table code vals r in
-    record {
-      answers = answers-same Sixteen a;
-      blocks = blocks-same Sixteen a;
-      missed = λ ls k. ap (λ (c : Core Held). c .missed) (at-same Sixteen a ls k);
-      positions = λ ls k. ap (λ (c : Core Held). c .position) (at-same Sixteen a ls k);
-    }
-
--- ---- the claim of a history with either voices
-
-module _ {P S : Type 0} (e : Entrances P) {v w : Voices S} (s : SamePlayer v w) where
-  in-time-one : (ls : List Line) (z : Last) (l : Line) → inTime e w ls z l → inTime e v ls z l
-  in-time-one ls none l h = h
-  in-time-one ls (at z) l h = subst (λ (n : ℕ). above n (l .when)) (sym (s .positions ls z)) h
-
-  in-time : (ls : List Line) (k : ℕ) (z : Last) (p : P) (cs : List Call) → InTime e w ls k z p cs → InTime e v ls k z p cs
-  unfolding InTime
-  in-time ls k z p [] h = tt
-  in-time ls k z p (c ∷ cs) h = (
-    all-map (inTime e w ls z) (inTime e v ls z) (in-time-one ls z) (brought e c (e .after p c .answer)) (h .0),
-    in-time ls (counted c k) (lastAfter e c (e .after p c .answer) z k) (e .after p c .player) cs (h .1),
-  )
-
-  agrees : (ceiling : ℕ) (ls : List Line) (k : ℕ) (p : P) (cs : List Call) → Agrees e v ceiling ls k p cs → Agrees e w ceiling ls k p cs
-  unfolding Agrees
-  agrees ceiling ls k p [] h = tt
-  agrees ceiling ls k p (c ∷ cs) h = (
-    (λ n. (h .0 n .0 ∙ s .answers ls k, λ z. h .0 n .1 z ∙ s .blocks ceiling ls k)),
-    h .1 ∙ s .missed ls (counted c k),
-    agrees ceiling ls (counted c k) (e .after p c .player) cs (h .2),
-  )
-
-  pub alike-same : (ceiling : ℕ) (p : P) → PlainAlike e v ceiling p → PlainAlike e w ceiling p
-  unfolding PlainAlike
-  alike-same ceiling p h cs t = agrees ceiling (taken e p cs) 0 p cs (h cs (in-time (taken e p cs) 0 none p cs t))
-
-pub plain-alike-tree : PlainAlikeTree
-plain-alike-tree P e is table code vals r ceiling p h = alike-same e (plays-tree is table code vals r) ceiling p h
+    record { holds = at-same Sixteen a; answers = answers-same Sixteen a; blocks = blocks-same Sixteen a }

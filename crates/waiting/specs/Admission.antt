@@ -7,8 +7,6 @@ use lib.Dec.{ltb}
 use Rattle.answer.specs.Numbers.{isTaken}
 use Rattle.answer.specs.declared.Answer.{Answer}
 use Rattle.answer.specs.declared.Answer.the-variants.{Taken, NoInstrument, Late, NoRoom}
-use Rattle.score_line.specs.declared.When.{When}
-use Rattle.score_line.specs.declared.When.the-variants.{Timed, Untimed}
 use Rattle.score_line.specs.declared.Event.{Event}
 use Rattle.score_line.specs.declared.Event.the-variants.{Instr, Control, End, Tempo}
 use Rattle.score_line.specs.declared.Line.{Line}
@@ -17,10 +15,6 @@ use Rattle.waiting.specs.declared.Fields.{Fields}
 use Rattle.waiting.specs.declared.Fields.the-variants.{Count, NoSuch}
 use Rattle.waiting.specs.declared.Queue.{Queue}
 use Rattle.waiting.specs.declared.Admitted.{Admitted}
-
-abbrev pub hasTime : When → Bool
-hasTime (Timed late t) = true
-hasTime Untimed = false
 
 -- no such instrument, or more values than it has fields
 abbrev pub tooMany : Fields → ℕ → Bool

@@ -14,8 +14,9 @@ use Rattle.grammar.specs.Grammar.{none, set, out, one, none as no·fields, ksig
 use Rattle.orchestra.specs.Verdict.{Sized, Accepted}
 use Rattle.meaning.specs.Meaning.{value, assigned, outputs, pass, fresh, birth, kPass, aPasses, cycle}
 use Rattle.players.specs.Lists.{keep, fold, each}
-use Rattle.players.specs.Cycle.{isDue, insert, ordered, anyEnd, lastTempo, limited, dueOf, ends, joinedBy, goesOn, born, started, controlledBy, controlled, runFrom, runAll, startedIn, bandOf, blockOf, stepped}
-use Rattle.players.specs.Plain.{startingTempo, plainStart, plainAnswer, plainStep, plainAt, answerAt, blockAt}
+use Rattle.players.specs.Cycle.{isDue, insert, ordered, anyEnd, lastTempo, limited, joinedBy, goesOn, born, started, controlledBy, controlled, runFrom, runAll}
+use Rattle.players.specs.Holds.{sixty, dueAt, laterThan, endsBy, answerOf, startedOf, bandOf, blockOf, played, cycled}
+use Rattle.players.specs.Plain.{plainStart, plainAt, answerAt, blockAt}
 use Rattle.float32.specs.Limit.{held, sampleOf}
 use Rattle.float32.specs.Operators.{binaryOf}
 use Rattle.timebase.specs.Time.{upTo, ticksOf, ticksIn, cycleOf, cycleIn}
@@ -42,5 +43,5 @@ unfolding named namedBy has apart knownIn known eachKept placeFrom putIn put rat
 accepted = record { tokens = tokens; sized = sized; derived = derived; named = refl; rated = refl }
 
 pub growing-sounds : Sounds
-unfolding answerAt plainAnswer blockAt blockOf limited bandOf startedIn runAll runFrom started controlled dueOf plainAt plainStep plainStart startingTempo ends anyEnd stepped goesOn lastTempo cycleIn cycleOf keep fold each isDue insert ordered joinedBy born controlledBy ticksIn ticksOf upTo treeVoices instrumentOf importsOf silent sampleOf held binaryOf cycle kPass aPasses pass outputs assigned value fresh birth put putIn namedBy named placeFrom add mul round ofBits lt le eq
+unfolding answerAt answerOf blockAt blockOf limited bandOf startedOf runAll runFrom started controlled dueAt laterThan plainAt cycled plainStart sixty endsBy anyEnd played goesOn lastTempo cycleIn cycleOf keep fold each isDue insert ordered joinedBy born controlledBy ticksIn ticksOf upTo treeVoices instrumentOf importsOf silent sampleOf held binaryOf cycle kPass aPasses pass outputs assigned value fresh birth put putIn namedBy named placeFrom add mul round ofBits lt le eq
 growing-sounds = record { accepted = accepted; first = (refl, refl); second = (refl, refl); held = refl }

@@ -4,12 +4,14 @@ use mathlib.Core.List.{List, [], _∷_}
 use Prim.Native.Nat.{ℕ}
 use lib.IntN.{ℤ, pos}
 use lib.ListN.{replicate}
+use Rattle.players.specs.Lists.{All}
 use Rattle.players.specs.Cycle.{samples}
-use Rattle.players.specs.History.{Call, stick, cycle, none, taken, InTime}
+use Rattle.players.specs.Calls.{stick, Call, bring, cycle, one, Moment, trace, allTaken}
+use Rattle.players.specs.Condition3.{InTime}
 use Rattle.voices.specs.Tree.{treeVoices}
 use Rattle.panel.specs.declared.Panel.{Panel}
-use Rattle.claims.specs.Claims.{afterCall, entrances, freshPanel}
-use Rattle.witness.specs.Growing.{bytes, tree, line}
+use Rattle.claims.specs.Claims.{afterOf, panel, fresh, settings}
+use Rattle.witness.specs.Growing.{ceiling, bytes, tree, line}
 
 -- the score with that one line
 abbrev pub score : List ℕ
@@ -20,22 +22,25 @@ abbrev pub lent : List ℤ
 lent = replicate samples (pos 0)
 
 abbrev pub calls : List Call
-calls = stick score ∷ cycle lent ∷ cycle lent ∷ []
+calls = bring stick score ∷ cycle lent ∷ cycle lent ∷ []
 
 -- the panel at its fresh start, after the stick, and after the first cycle
 abbrev pub started : Panel
-started = freshPanel bytes 32767
+started = fresh bytes ceiling
 
 abbrev pub loaded : Panel
-loaded = afterCall started (stick score) .player
+loaded = afterOf started (bring stick score) .player
 
-abbrev pub turned : Panel
-turned = afterCall loaded (cycle lent) .player
+abbrev pub cycled : Panel
+cycled = afterOf loaded (cycle lent) .player
+
+abbrev pub moments : List (Moment Panel)
+moments = trace panel started calls
 
 -- The premise of condition 3 can be met, and what follows is neither silence nor one block repeated.
 pub record Heard : Type 0 where
-  pub taken-whole : afterCall started (stick score) .answer ≡ 0
-  pub lines : taken entrances started calls ≡ line ∷ []
-  pub in-time : InTime entrances (treeVoices tree) (taken entrances started calls) 0 none started calls
-  pub first : (afterCall loaded (cycle lent) .answer ≡ 0) × (afterCall loaded (cycle lent) .block ≡ replicate samples (pos 8192))
-  pub second : (afterCall turned (cycle lent) .answer ≡ 0) × (afterCall turned (cycle lent) .block ≡ replicate samples (pos 16384))
+  pub taken-whole : afterOf started (bring stick score) .answers ≡ one 0 0
+  pub lines : allTaken moments ≡ line ∷ []
+  pub in-time : All (InTime panel (treeVoices tree) (settings ceiling) (line ∷ [])) moments
+  pub first : (afterOf loaded (cycle lent) .answers ≡ one 0 0) × (afterOf loaded (cycle lent) .block ≡ replicate samples (pos 8192))
+  pub second : (afterOf cycled (cycle lent) .answers ≡ one 0 0) × (afterOf cycled (cycle lent) .block ≡ replicate samples (pos 16384))

@@ -15,6 +15,7 @@ use Rattle.score_line.specs.declared.Line.{Line}
 use Rattle.players.specs.Cycle.{samples}
 use Rattle.players.specs.Plain.{answerAt, blockAt}
 use Rattle.voices.specs.Tree.{treeVoices}
+use Rattle.claims.specs.Claims.{settings}
 
 -- instr s1 ( ) { ksig s2 ; s2 = s2 + 0.25 ; output ( s2 ) ; }
 abbrev pub bytes : List ℕ
@@ -46,11 +47,20 @@ line =
       values = replicate 8 (ofBits binary32 0);
     }
 
+-- the highest ceiling, and a low one
+abbrev pub ceiling : ℕ
+ceiling = 32767
+
+abbrev pub low : ℕ
+low = 10000
+
 -- The orchestra is accepted with that tree. The plain player of the line answers 0 with a block of 8,192 in cycle 0 and of 16,384 in cycle 1: not
 -- silence, not the first block again.
 pub record Sounds : Type 0 where
   pub accepted : Accepted bytes tree
-  pub first : (answerAt (treeVoices tree) (line ∷ []) 0 ≡ 0) × (blockAt (treeVoices tree) 32767 (line ∷ []) 0 ≡ replicate samples (pos 8192))
-  pub second : (answerAt (treeVoices tree) (line ∷ []) 1 ≡ 0) × (blockAt (treeVoices tree) 32767 (line ∷ []) 1 ≡ replicate samples (pos 16384))
+  pub first : (answerAt (treeVoices tree) (settings ceiling) (line ∷ []) 0 ≡ 0)
+      × (blockAt (treeVoices tree) (settings ceiling) (line ∷ []) 0 ≡ replicate samples (pos 8192))
+  pub second : (answerAt (treeVoices tree) (settings ceiling) (line ∷ []) 1 ≡ 0)
+      × (blockAt (treeVoices tree) (settings ceiling) (line ∷ []) 1 ≡ replicate samples (pos 16384))
   -- at a ceiling of 10,000 the second cycle is held there
-  pub held : blockAt (treeVoices tree) 10000 (line ∷ []) 1 ≡ replicate samples (pos 10000)
+  pub held : blockAt (treeVoices tree) (settings low) (line ∷ []) 1 ≡ replicate samples (pos low)

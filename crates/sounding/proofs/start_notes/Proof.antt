@@ -8,13 +8,14 @@ use lib.ListN.{length, take}
 use Rattle.score_line.specs.declared.Line.{Line}
 use Rattle.players.specs.Lists.{fold}
 use Rattle.players.specs.Cycle.{Started, startedBy, started}
+use Rattle.players.specs.Holds.{sixteen}
 use Rattle.players.proofs.Loops.{fold-step, take-end, take-min}
 use Rattle.sounding.specs.Voices.{voices, notesIn, startedIn}
 use Rattle.sounding.proofs.start_notes.Statement.{statement}
 use Rattle.sounding.proofs.start_notes.Tie as tie
 
 abbrev Inv-loop : tie.InvT-loop
-Inv-loop table n code vals sounding m position lines w v₀ i₀ v i = (i ≤ w) × (w ≤ 64) × (v .count ≤ 16) × (v .missed ≤ i) × (startedIn (v .notes) (v .count) (v .missed) ≡ started (voices (take n table) code vals) position (notesIn (v₀ .notes) (v₀ .count)) (take i lines))
+Inv-loop table n code vals sounding m position lines w v₀ i₀ v i = (i ≤ w) × (w ≤ 64) × (v .count ≤ 16) × (v .missed ≤ i) × (startedIn (v .notes) (v .count) (v .missed) ≡ started (voices (take n table) code vals) sixteen position (notesIn (v₀ .notes) (v₀ .count)) (take i lines))
 
 abbrev μ-loop : tie.MeasureT-loop
 μ-loop table n code vals sounding m position lines w v₀ i₀ v i = w - i
@@ -54,7 +55,7 @@ loop-again c = let s = c .before .before .before .before .before .before .before
       at .inv .1,
       c .start-line .ensures .0,
       omega (arith, c .start-line .ensures .1, at .inv .3),
-      fold-step (λ (x : Started Held) (l : Line). startedBy v (s .args .position) l x (l .event)) _ _ _ _ h _ _ (at .inv .4) (c .start-line .ensures .2),
+      fold-step (λ (x : Started Held) (l : Line). startedBy v sixteen (s .args .position) l x (l .event)) _ _ _ _ h _ _ (at .inv .4) (c .start-line .ensures .2),
     )
 
 returns : tie.Need-returns Inv-loop μ-loop
@@ -64,7 +65,7 @@ returns c = let s = c .before .before .before .before .before .before in
     let l-eq = take-end (s .args .t7) (s .args .m) 64 _ (s .good .1 .1 .1 .1 .1 .1 .0 .1 .0 .1) _ (c .before .before .before .within .ensures) (at .inv .0) (c .loop-test .left) in
     let n-eq : take (c .before .before .within2 .result) (s .args .notes) ≡ take (s .args .sounding) (s .args .notes) =
     ap (λ (k : ℕ). take k (s .args .notes)) (c .before .before .within2 .ensures) ∙ take-min (s .args .notes) (s .args .sounding) 16 (s .good .1 .1 .1 .1 .0 .1 .0 .1) in
-    (at .inv .2, omega (arith, at .inv .3), at .inv .4 ∙ (λ i. started v (s .args .position) (each noteOf (n-eq i)) (l-eq i)))
+    (at .inv .2, omega (arith, at .inv .3), at .inv .4 ∙ (λ i. started v sixteen (s .args .position) (each noteOf (n-eq i)) (l-eq i)))
 
 pub start-notes-spec : {M : Type 1} → statement M
 start-notes-spec =

@@ -31,17 +31,17 @@ returns c = let s = c .before .before .before .before .before .before .before .b
     let k = c .before .before .before .before .before .before .before .before .control-lines .ensures in
     let h = c .before .before .before .before .before .before .sound .ensures in
     let g = c .before .before .before .remaining .ensures in
-    let a = c .before .before .before .before .before .before .before .before .before .before .before .before .before .before .before .args in
+    let a = c .before .before .before .before .before .before .before .before .before .before .before .before .before .before .before .before .args in
     let t = take (a .n) (a .table) in
     let due = take (a .due .count) (a .due .lines) in
     let v = c .before .before .before .before .before .before .before .before .before .before .start-notes .result in
     let k′ = c .before .before .before .before .before .before .before .before .control-lines .result in
     let h′ = c .before .before .before .before .before .before .sound .result in
     let g′ = c .before .before .before .remaining .result in (
-      perform-law t (a .code .now) (a .vals .now) (a .position) (a .old .notes) (a .old .count) due (v .notes) (v .count) (v .missed) (s .2)
-          (k′ .notes) (k′ .count) (k .1) (h′ .notes) (h′ .count) (h .0 .1) (g′ .notes) (g′ .count) (g .0) (g .1) _ (c .before .laid .ensures) (a .missed) _ (c .counted .ensures),
-      block-law t (a .code .now) (a .vals .now) (a .position) (a .old .notes) (a .old .count) due (v .notes) (v .count) (v .missed) (s .2)
-          (k′ .notes) (k′ .count) (k .1) (a .ceiling) (a .block .now) _ (h .1),
+      perform-law t (a .code .now) (a .vals .now) (a .ceiling) (a .p) due (v .notes) (v .count) (v .missed) (s .2)
+          (k′ .notes) (k′ .count) (k .1) (h′ .notes) (h′ .count) (h .0 .1) (g′ .notes) (g′ .count) (g .0) (g .1) _ (c .before .laid .ensures) _ (c .counted .ensures),
+      block-law t (a .code .now) (a .vals .now) (a .ceiling) (a .p) due (v .notes) (v .count) (v .missed) (s .2)
+          (k′ .notes) (k′ .count) (k .1) (a .block .now) _ (h .1),
     )
 
 pub perform-spec : {M : Type 1} → statement M

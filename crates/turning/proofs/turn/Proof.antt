@@ -1,7 +1,7 @@
 use mathlib.Core.Path.{sym, _∙_}
 use borrow.Author.Needs.{needs}
 use Rattle.turning.specs.Turn.{stopped}
-use Rattle.turning.proofs.Turning.{near-law, due-law, turn-stops, turn-plays, block-stays, block-plays}
+use Rattle.turning.proofs.Turning.{near-law, turn-stops, turn-plays, block-stays, block-plays}
 use Rattle.turning.proofs.turn.Statement.{statement}
 use Rattle.turning.proofs.turn.Tie as tie
 
@@ -15,22 +15,32 @@ returns : tie.Need-returns
 unfolding stopped
 returns c = let due = c .before .before .due-lines .ensures .1 in
     let over = c .before .is-over .ensures in
-    (turn-stops _ _ due _ _ over (c .if1 .taken), block-stays _ _ due _ _ over _ _ (c .if1 .taken))
+    (turn-stops _ _ _ _ due _ over (c .if1 .taken), block-stays _ _ _ _ due _ over _ (c .if1 .taken))
 
 advance-requires : tie.Need-advance-requires
-advance-requires c κs = (near-law _ _ (sym (c .before .before .is-over .ensures) ∙ c .before .if1 .left), due-law _ _ (c .before .before .before .due-lines .ensures .1))
+advance-requires c κs = near-law _ _ (sym (c .before .before .is-over .ensures) ∙ c .before .if1 .left)
+
+keep-waiting-requires : tie.Need-keep-waiting-requires
+keep-waiting-requires c κs = search needs
 
 same-length : tie.Need-same-length
 same-length c = search needs
 
 returns-2 : tie.Need-returns-2
-returns-2 c = let due = c .before .before .before .before .before .due-lines .ensures .1 in
-    let over = c .before .before .before .before .is-over .ensures in
-    let on = c .before .before .before .if1 .left in
-    let left = c .before .advance .ensures in
-    (turn-plays _ _ due _ _ over on _ (left .0), block-plays _ _ due _ _ over _ _ on _ (left .1))
+returns-2 c = let due = c .before .before .before .before .before .before .due-lines .ensures .1 in
+    let over = c .before .before .before .before .before .is-over .ensures in
+    let on = c .before .before .before .before .if1 .left in
+    let left = c .before .before .advance .ensures in
+    (turn-plays _ _ _ _ due _ over on _ (left .0) _ (c .keep-waiting .ensures), block-plays _ _ _ _ due _ over _ on _ (left .1))
 
 pub turn-spec : {M : Type 1} → statement M
 turn-spec =
     tie.close
-    (tie.spec due-lines-requires is-over-requires returns advance-requires same-length returns-2)
+    (tie.spec
+    due-lines-requires
+    is-over-requires
+    returns
+    advance-requires
+    keep-waiting-requires
+    same-length
+    returns-2)

@@ -1,19 +1,17 @@
 use borrow.Author.Needs.{needs}
-use Rattle.panel.proofs.Entering.{keypad-ended, keypad-read}
+use Rattle.players.specs.Calls.{keypad}
+use Rattle.panel.proofs.Entering.{by-door}
 use Rattle.panel.proofs.Panel.enter_line.Statement.{statement}
 use Rattle.panel.proofs.Panel.enter_line.Tie as tie
 
+keypad-requires : tie.Need-keypad-requires
+keypad-requires c κs = search needs
+
+bring-requires : tie.Need-bring-requires
+bring-requires c κs = search needs
+
 returns : tie.Need-returns
-returns c = keypad-ended _ _ (c .if1 .taken)
-
-keypad-line-requires : tie.Need-keypad-line-requires
-keypad-line-requires c κs = search needs
-
-take-in-requires : tie.Need-take-in-requires
-take-in-requires c κs = search needs
-
-returns-2 : tie.Need-returns-2
-returns-2 c = keypad-read _ _ (c .before .before .if1 .left) _ (c .before .keypad-line .ensures) _ (c .take-in .ensures)
+returns c = by-door _ keypad _ _ (c .before .keypad .ensures) _ (c .bring .ensures)
 
 pub enter-line-spec : {M : Type 1} → statement M
-enter-line-spec = tie.close (tie.spec returns keypad-line-requires take-in-requires returns-2)
+enter-line-spec = tie.close (tie.spec keypad-requires bring-requires returns)

@@ -1,18 +1,17 @@
 use borrow.Author.Needs.{needs}
-use Rattle.panel.specs.State.{withQueue}
-use Rattle.panel.proofs.Entering.{stick-ended, stick-read}
+use Rattle.players.specs.Calls.{stick}
+use Rattle.panel.proofs.Entering.{by-door}
 use Rattle.panel.proofs.Panel.load_score.Statement.{statement}
 use Rattle.panel.proofs.Panel.load_score.Tie as tie
 
+stick-requires : tie.Need-stick-requires
+stick-requires c κs = search needs
+
+bring-requires : tie.Need-bring-requires
+bring-requires c κs = search needs
+
 returns : tie.Need-returns
-returns c = stick-ended _ _ (c .if1 .taken)
-
-stick-in-requires : tie.Need-stick-in-requires
-stick-in-requires c κs = search needs
-
-returns-2 : tie.Need-returns-2
-unfolding withQueue
-returns-2 c = stick-read _ _ (c .before .before .before .before .before .if1 .left) _ (c .before .stick-in .ensures)
+returns c = by-door _ stick _ _ (c .before .stick .ensures) _ (c .bring .ensures)
 
 pub load-score-spec : {M : Type 1} → statement M
-load-score-spec = tie.close (tie.spec returns stick-in-requires returns-2)
+load-score-spec = tie.close (tie.spec stick-requires bring-requires returns)

@@ -1,19 +1,17 @@
 use borrow.Author.Needs.{needs}
-use Rattle.panel.proofs.Entering.{unit-ended, unit-read}
+use Rattle.players.specs.Calls.{unit}
+use Rattle.panel.proofs.Entering.{by-door}
 use Rattle.panel.proofs.Panel.receive_unit.Statement.{statement}
 use Rattle.panel.proofs.Panel.receive_unit.Tie as tie
 
+unit-requires : tie.Need-unit-requires
+unit-requires c κs = search needs
+
+bring-requires : tie.Need-bring-requires
+bring-requires c κs = search needs
+
 returns : tie.Need-returns
-returns c = unit-ended _ _ (c .if1 .taken)
-
-read-unit-requires : tie.Need-read-unit-requires
-read-unit-requires c κs = search needs
-
-take-in-requires : tie.Need-take-in-requires
-take-in-requires c κs = search needs
-
-returns-2 : tie.Need-returns-2
-returns-2 c = unit-read _ _ (c .before .before .if1 .left) _ (c .before .read-unit .ensures) _ (c .take-in .ensures)
+returns c = by-door _ unit _ _ (c .before .unit .ensures) _ (c .bring .ensures)
 
 pub receive-unit-spec : {M : Type 1} → statement M
-receive-unit-spec = tie.close (tie.spec returns read-unit-requires take-in-requires returns-2)
+receive-unit-spec = tie.close (tie.spec unit-requires bring-requires returns)

@@ -1,0 +1,203 @@
+-- A fresh start: the first check that fails, and the panel that comes with the number.
+use mathlib.Core.Path.{_≡_, refl, sym, ap, _∙_, subst}
+use mathlib.Core.Bool.{Bool, true, false, cond, _&&_}
+use mathlib.Core.List.{List, [], _∷_}
+use Prim.Native.Nat.{ℕ, _≤_, _<_}
+use native.Mathlib.Omega.{arith}
+use lib.IntN.{ℤ}
+use lib.ListN.{length}
+use lib.Dec.{leb, eqb}
+use borrow.Author.Tests.{leb-true, le-leb}
+use Rattle.answer.specs.Numbers.{numberOf, isTaken}
+use Rattle.answer.specs.declared.Answer.the-variants.{Taken, OutOfRange, Ended, BlockLength}
+use Rattle.tokens.specs.declared.Token.{Token}
+use Rattle.tokens.specs.Bytes.{none, some}
+use Rattle.tokens.specs.Measures.{measured}
+use Rattle.syntax.specs.Tree.{Instrument}
+use Rattle.syntax.specs.Names.{nameRules}
+use Rattle.syntax.specs.Rates.{rateRules}
+use Rattle.grammar.specs.Grammar.{Orchestra}
+use Rattle.grammar.proofs.Unique.{unique}
+use Rattle.orchestra.specs.Reading.{readOf}
+use Rattle.orchestra.specs.declared.Outcome.{Outcome}
+use Rattle.orchestra.specs.Verdict as orchestra
+use Rattle.orchestra.proofs.Verdict.{every-verdict}
+use Rattle.players.specs.Lists.{All, each}
+use Rattle.players.specs.Cycle.{samples}
+use Rattle.loader.specs.Loading.{loadOf}
+use Rattle.loader_claims.proofs.Loaded.{loaded, taken-only}
+use Rattle.panel.specs.State.{startOf, holdsOf}
+use Rattle.panel.specs.Calls.{freshOf, noPanel, broughtOf, bringOf, cycleOf, blockAfter}
+use Rattle.panel.specs.declared.Panel.{Panel}
+use Rattle.panel.specs.declared.Fresh.{Fresh}
+use Rattle.panel.specs.declared.Cycled.{Cycled}
+use Rattle.entrances.proofs.Pushing.{taken-is}
+use Rattle.players.specs.Holds.{settingsOf}
+use Rattle.players.specs.Plain.{plainStart}
+use Rattle.players.specs.Calls.{Call, bring, cycle, one, After, Last, none as none-yet, traceFrom}
+use Rattle.players.specs.History.{nowhere}
+use Rattle.claims.specs.Fresh.{Check, First, fails, holds, all, Tokens, Tree, checks}
+use Rattle.claims.specs.Claims.{afterOf, panel, reachedOf, Begun, endedAfter, AsEnded, FreshVerdict}
+use Rattle.claims.proofs.Doors.{differ, differ′}
+
+first-one : {cs : List Check} {n m : ℕ} → First cs n → First cs m → n ≡ m
+first-one (fails f) (fails g) = refl
+first-one (fails f) (holds a r) = absurd (f a)
+first-one (holds a r) (fails g) = absurd (g a)
+first-one (holds a r) (holds b s) = first-one r s
+first-one all all = refl
+
+apart : {ts : List Token} → none ≡ some ts → ⊥
+apart q = let z : _≡_ {A = ℕ} 0 1 = cc in omega arith
+
+too-long : (bs : List ℕ) → orchestra.longest < length bs → length bs ≤ orchestra.longest → ⊥
+too-long bs lt le = omega (arith, lt, le)
+
+same-tokens : {ts us : List Token} → some ts ≡ some us → ts ≡ us
+same-tokens q = cc
+
+module _ (bs : List ℕ) (ceiling : ℕ) (law : (1 ≤ ceiling) × (ceiling ≤ 32767)) where
+  abbrev names : Check
+  names = record { number = 14; asks = Tree bs (λ is. nameRules is ≡ true) }
+
+  abbrev rates : Check
+  rates = record { number = 15; asks = Tree bs (λ is. rateRules is ≡ true) }
+
+  abbrev grammar : Check
+  grammar = record { number = 13; asks = Tree bs (λ is. Unit {0}) }
+
+  measured-so : (ts : List Token) → orchestra.Sized bs ts → {n : ℕ} → First (grammar ∷ names ∷ rates ∷ []) n → First (checks bs ceiling) n
+  measured-so ts s f =
+      let is-tokens : Tokens bs (λ us. Unit {0}) = (ts, s .tokens, tt) in
+      let within : Tokens bs (λ us. measured us ≡ true) = (ts, s .tokens, s .within) in
+      holds law (holds (s .short) (holds is-tokens (holds within f)))
+
+  derived-so : (ts : List Token) (is : List Instrument) → orchestra.Sized bs ts → Orchestra is ts → {n : ℕ} → First (names ∷ rates ∷ []) n → First (checks bs ceiling) n
+  derived-so ts is s d f =
+      let derived : Tree bs (λ js. Unit {0}) = (ts, is, s .tokens, d, tt) in measured-so ts s (holds derived f)
+
+  by-verdict : (o : Outcome) → orchestra.Verdict bs o → First (checks bs ceiling) (numberOf (o .answer))
+  by-verdict o (orchestra.tooLong lt) = holds law (fails (too-long bs lt))
+  by-verdict o (orchestra.noTokens le e) = holds law (holds le (fails (λ (x : Tokens bs (λ ts. Unit {0})). apart (sym e ∙ x .1))))
+  by-verdict o (orchestra.tooLarge ts le e m) =
+      let is-tokens : Tokens bs (λ us. Unit {0}) = (ts, e, tt) in
+      holds law (holds le (holds is-tokens (fails (λ (x : Tokens bs (λ ts. measured ts ≡ true)). differ (sym (x .2) ∙ ap measured (same-tokens (sym (x .1) ∙ e)) ∙ m)))))
+  by-verdict o (orchestra.outside ts s f) =
+      measured-so ts s
+      (fails (λ (x : Tree bs (λ js. Unit {0})). f (x .1) (subst (Orchestra (x .1)) (same-tokens (sym (x .2) ∙ s .tokens)) (x .3))))
+  by-verdict o (orchestra.misnamed ts is s d n) =
+      derived-so ts is s d
+      (fails (λ (x : Tree bs (λ js. nameRules js ≡ true)). differ (sym (x .4) ∙ ap nameRules (unique (x .3) d (same-tokens (sym (x .2) ∙ s .tokens))) ∙ n)))
+  by-verdict o (orchestra.misrated ts is s d n r) =
+      let named : Tree bs (λ js. nameRules js ≡ true) = (ts, is, s .tokens, d, n) in
+      derived-so ts is s d
+      (holds named
+      (fails (λ (x : Tree bs (λ js. rateRules js ≡ true)). differ (sym (x .4) ∙ ap rateRules (unique (x .3) d (same-tokens (sym (x .2) ∙ s .tokens))) ∙ r))))
+  by-verdict o (orchestra.accepted is a) =
+      let named : Tree bs (λ js. nameRules js ≡ true) = (a .tokens, is, a .sized .tokens, a .derived, a .named) in
+      let rated : Tree bs (λ js. rateRules js ≡ true) = (a .tokens, is, a .sized .tokens, a .derived, a .rated) in
+      derived-so (a .tokens) is (a .sized) (a .derived) (holds named (holds rated all))
+
+-- a panel that has ended
+ended-after : (p : Panel) (c : Call) → p .state .playing .ended ≡ true → afterOf p c ≡ endedAfter p c
+unfolding afterOf bringOf broughtOf cycleOf blockAfter
+ended-after p (bring d b) e = rw e refl
+ended-after p (cycle b) e = go (eqb (length b) samples) (p .state .playing .ended) _ _ e
+  where
+    shape : Bool → Bool → Cycled → Cycled
+    shape w d x = cond w (cond d (record { panel = p; answer = Ended }) x) (record { panel = p; answer = BlockLength })
+
+    go : (w d : Bool) (x : Cycled) (y : List ℤ) → d ≡ true
+        → _≡_ {A = After Panel}
+        (record { player = shape w d x .panel; answers = one (numberOf (shape w d x .answer)) 0; block = cond (isTaken (shape w d x .answer)) y b })
+        (record { player = p; answers = one (cond w 9 10) 0; block = b })
+    go true true x y q = refl
+    go false true x y q = refl
+    go w false x y q = absurd (differ′ q)
+
+all-ended : (cs : List Call) (k : ℕ) (z : Last) (p : Panel) → p .state .playing .ended ≡ true → All AsEnded (traceFrom panel k z p cs)
+unfolding traceFrom
+all-ended [] k z p e = tt
+all-ended (c ∷ cs) k z p e = (
+  ended-after p c e,
+  all-ended cs _ _ (afterOf p c .player) (ap (λ (a : After Panel). a .player .state .playing .ended) (ended-after p c e) ∙ still c),
+)
+  where
+    still : (c : Call) → endedAfter p c .player .state .playing .ended ≡ true
+    still (bring d b) = e
+    still (cycle b) = e
+
+-- ---- the two kinds of start
+
+-- what a fresh start gives, by its ceiling and by its orchestra's answer
+out : List ℕ → ℕ → Bool → Bool → Fresh
+out bs ceiling law taken =
+    cond law
+    (cond taken (record { panel = startOf (loadOf bs .program) ceiling false; answer = loadOf bs .answer }) (noPanel (loadOf bs .program) (loadOf bs .answer)))
+    (noPanel (loadOf [] .program) OutOfRange)
+
+module _ (bs : List ℕ) (ceiling : ℕ) where
+  -- the number
+  law-first : leb 1 ceiling ≡ true → leb ceiling 32767 ≡ true → First (checks bs ceiling) (numberOf (loadOf bs .answer))
+  unfolding loadOf
+  law-first l h = by-verdict bs ceiling (leb-true 1 ceiling l, leb-true ceiling 32767 h) (readOf bs) (every-verdict bs)
+
+  number-is : (a b t : Bool) → leb 1 ceiling ≡ a → leb ceiling 32767 ≡ b → First (checks bs ceiling) (numberOf (out bs ceiling (a && b) t .answer))
+  unfolding out noPanel
+  number-is true true true l h = law-first l h
+  number-is true true false l h = law-first l h
+  number-is true false t l h = fails (λ (x : (1 ≤ ceiling) × (ceiling ≤ 32767)). differ (sym (le-leb ceiling 32767 (x .1)) ∙ h))
+  number-is false b t l h = fails (λ (x : (1 ≤ ceiling) × (ceiling ≤ 32767)). differ (sym (le-leb 1 ceiling (x .0)) ∙ l))
+
+  number : First (checks bs ceiling) (numberOf (freshOf bs ceiling .answer))
+  unfolding freshOf out
+  number = number-is (leb 1 ceiling) (leb ceiling 32767) (isTaken (loadOf bs .answer)) refl refl
+
+  -- the panel where it is 0
+  start-holds : holdsOf (startOf (loadOf bs .program) ceiling false) ≡ plainStart (settingsOf ceiling) []
+  unfolding startOf plainStart each
+  start-holds = refl
+
+  start-reached : reachedOf (startOf (loadOf bs .program) ceiling false) ≡ nowhere
+  unfolding startOf
+  start-reached = refl
+
+  start-limit : startOf (loadOf bs .program) ceiling false .ceiling ≡ ceiling
+  unfolding startOf
+  start-limit = refl
+
+  begun-is : loadOf bs .answer ≡ Taken → Begun bs ceiling (startOf (loadOf bs .program) ceiling false)
+  unfolding startOf
+  begun-is e =
+      let x = taken-only bs e in
+      record {
+        tree = x .0;
+        accepted = x .1;
+        stands = loaded bs (x .0) (x .1) .stands;
+        limit = start-limit;
+        holds = start-holds;
+        reached = start-reached;
+      }
+
+  Kinds : Fresh → Type 0
+  Kinds f = (f .answer ≡ Taken → Begun bs ceiling (f .panel)) × ((f .answer ≡ Taken → ⊥) → f .panel .state .playing .ended ≡ true)
+
+  kinds-is : (a t : Bool) → isTaken (loadOf bs .answer) ≡ t → Kinds (out bs ceiling a t)
+  unfolding out noPanel Kinds startOf
+  kinds-is true true e = ((λ q. begun-is q), λ n. absurd (n (taken-is (loadOf bs .answer) e)))
+  kinds-is true false e = ((λ q. absurd (differ (sym (ap isTaken q) ∙ e))), λ n. refl)
+  kinds-is false t e = ((λ q. absurd (differ (sym (ap isTaken q)))), λ n. refl)
+
+  kinds : Kinds (freshOf bs ceiling)
+  unfolding freshOf out
+  kinds = kinds-is (leb 1 ceiling && leb ceiling 32767) (isTaken (loadOf bs .answer)) refl
+
+pub fresh-verdict : FreshVerdict
+unfolding Kinds
+fresh-verdict bs ceiling =
+    record {
+      given = number bs ceiling;
+      only = λ n f. first-one (number bs ceiling) f;
+      begun = kinds bs ceiling .0;
+      noPanel = λ n cs. all-ended cs 0 none-yet (freshOf bs ceiling .panel) (kinds bs ceiling .1 n);
+    }

@@ -1,0 +1,449 @@
+-- The panel holds what its history says, its cycle is the cycle of its history, and so it keeps condition 3.
+use mathlib.Core.Path.{_≡_, refl, sym, ap, _∙_, subst, subst⁻¹}
+use mathlib.Core.Bool.{Bool, true, false, cond, _&&_}
+use mathlib.Core.List.{List, [], _∷_, _++_, append-nil}
+use Prim.Native.Nat.{ℕ, _≤_}
+use native.Mathlib.Omega.{arith}
+use lib.IntN.{ℤ}
+use lib.ListN.{length, length-take, length-replicate}
+use lib.Dec.{eqb, leb}
+use borrow.Author.Tests.{le-leb}
+use Rattle.answer.specs.Numbers.{isTaken}
+use Rattle.bitstream.specs.Bits.{bitsOf}
+use Rattle.float32.specs.Limit.{Within}
+use Rattle.score_line.specs.Reading.{keypadLine}
+use Rattle.score_line.specs.declared.Line.{Line}
+use Rattle.score_line.specs.declared.LineRead.{LineRead}
+use Rattle.score.specs.Score.{unitOf}
+use Rattle.syntax.specs.Tree.{Instrument}
+use Rattle.voices.specs.Tree.{treeVoices}
+use Rattle.voices.proofs.Laws.{Sixteen, alike}
+use Rattle.voices.proofs.Alike.{Alike, Notes, block-same, played-same, played-good}
+use Rattle.sounding.specs.Voices.{Held}
+use Rattle.players.specs.Lists.{each, All}
+use Rattle.players.specs.Cycle.{Voices, farthest}
+use Rattle.players.specs.Holds.{Settings, settingsOf, sixty, Plays, Holds, behind, laterThan, dueOf, endsBy, marked, answerOf, capped, blockOf, played, cycled}
+use Rattle.players.specs.Plain.{plainStart}
+use Rattle.players.specs.Calls.{Door, stick, unit, keypad, reads, single, Call, bring, cycle, Answer, one, After, numbered, linesOf, takenOf, isZero, Last, none, Moment, takenIn, cyclesWith, lastWith, momentOf, traceFrom, trace, afterAll}
+use Rattle.players.specs.Condition3.{WithinCeiling}
+use Rattle.players.specs.History.{Reached, nowhere, at, History, unbegun, withCycle, withMoment, historyFrom}
+use Rattle.players.proofs.Lists.{cond-true, cond-false, all-append}
+use Rattle.players.proofs.Join.{behind-none}
+use Rattle.players.proofs.Count.{AllSteady, steady, Slow, within-limit, cap-none, slow-played, starting}
+use Rattle.players.proofs.Ceiling.{block-within}
+use Rattle.players.proofs.Alike.{Follows, AllFollow, plain-alike}
+use Rattle.waiting.specs.declared.Queue.{Queue}
+use Rattle.entrances.specs.Entrances.{emptyLine}
+use Rattle.turning.specs.Turn as turn
+use Rattle.loader.specs.declared.Program.{Program}
+use Rattle.loader.specs.Loading.{loadOf}
+use Rattle.loader_claims.specs.Claims.{StandsFor}
+use Rattle.loader_claims.proofs.Loaded.{loaded}
+use Rattle.panel.specs.State.{tableOf, voicesOf, holdsOf, startOf, withQueue, endedOf}
+use Rattle.panel.specs.Calls.{freshOf, playedOf}
+use Rattle.panel.specs.declared.Panel.{Panel}
+use Rattle.panel.specs.declared.Fresh.{Fresh}
+use Rattle.claims.specs.Claims.{afterOf, panel, reachedOf, Given, fresh, settings, past, panelAfter, CycleByTree, Condition3, CeilingBinds}
+use Rattle.claims.proofs.Steady.{score-steady, unit-steady, keypad-steady}
+use Rattle.claims.proofs.Doors.{differ, differ′, Behind, Brings, takes, refuses, brings}
+use Rattle.claims.proofs.Cycles.{holds-ended, holds-played, reached-ended, reached-played, played-long, Cycles, off, over-before, ends, plays, cycles}
+
+-- the history that a panel's own fields tell
+abbrev pub own : Panel → History Held
+own p = record { holds = holdsOf p; reached = reachedOf p }
+
+-- ---- every line read has a tempo of at least 1, if it is a tempo line
+
+single-steady : (r : LineRead) → steady (r .line .event) → AllSteady (single r .lines)
+single-steady r h = go (isTaken (r .answer))
+  where
+    go : (b : Bool) → AllSteady (cond b (r .line ∷ []) [])
+    go true = (h, tt)
+    go false = tt
+
+reads-steady : (d : Door) (handed : List ℕ) → AllSteady (reads d handed .lines)
+reads-steady stick b = score-steady (bitsOf b)
+reads-steady unit b = single-steady (unitOf (bitsOf b)) (unit-steady (bitsOf b))
+reads-steady keypad b = single-steady (keypadLine b) (keypad-steady b)
+
+-- ---- what the panel keeps true of itself
+
+module _ (program : Program) (ceiling : ℕ) (is : List Instrument) (r : StandsFor is program) where
+  pub record Kept (p : Panel) : Type 0 where
+    pub has : p .program ≡ program
+    pub locked : p .ceiling ≡ ceiling
+    pub long : length (p .state .queue .lines) ≡ 64
+    pub slow : Slow (holdsOf p)
+    pub good : Notes Sixteen (holdsOf p .plays .notes)
+
+  -- the voices of the tree, and its settings
+  abbrev w : Voices Held
+  w = treeVoices is
+
+  abbrev s : Settings
+  s = settingsOf ceiling
+
+  same : Alike Sixteen (voicesOf program) w
+  same = alike is (tableOf program) (program .code) (program .vals) r
+
+  few : (p : Panel) → Kept p → length (holdsOf p .waits) ≤ 64
+  few p k = omega (arith, length-take (p .state .queue .count) (p .state .queue .lines), k .long)
+
+  -- ---- lines behind
+
+  slow-behind : (h : Holds Held) (ls : List Line) → AllSteady ls → Slow h → Slow (behind ls h)
+  unfolding behind
+  slow-behind h ls t x = record { few = x .few; lines = all-append _ (h .waits) ls (x .lines) t; tempo = x .tempo }
+
+  own-takes : (p : Panel) (ls : List Line) (q : Queue) → Behind (p .state .queue) ls q
+      → own (withQueue p q) ≡ record { holds = behind ls (holdsOf p); reached = reachedOf p }
+  unfolding behind withQueue
+  own-takes p ls q b = λ i. record { holds = record { waits = b .waits i; plays = holdsOf p .plays }; reached = cond (b .ran i) (at (b .last i)) nowhere }
+
+  kept-takes : (p : Panel) (ls : List Line) (q : Queue) → Behind (p .state .queue) ls q → AllSteady ls → Kept p → Kept (withQueue p q)
+  unfolding withQueue
+  kept-takes p ls q b t k =
+      record {
+        has = k .has;
+        locked = k .locked;
+        long = b .long;
+        slow = subst⁻¹ Slow (ap (λ (h : History Held). h .holds) (own-takes p ls q b)) (slow-behind (holdsOf p) ls t (k .slow));
+        good = k .good;
+      }
+
+  own-none : (p : Panel) → own p ≡ record { holds = behind [] (holdsOf p); reached = reachedOf p }
+  own-none p = λ i. record { holds = sym (behind-none (holdsOf p)) i; reached = reachedOf p }
+
+  -- ---- a cycle of a history
+
+  module _ (k : ℕ) (h : History Held) where
+    over-cycle : h .holds .plays .ended ≡ true → withCycle w (settings ceiling) k h ≡ h
+    unfolding cycled answerOf
+    over-cycle e =
+        let n : answerOf (h .holds) ≡ 9 = cond-true _ _ e in
+        let c : cycled w s (h .holds) ≡ h .holds = cond-true _ _ e in
+        λ i. record { holds = c i; reached = cond (eqb (n i) 0) (at (h .holds .plays .position)) (h .reached) }
+
+    end-cycle : h .holds .plays .ended ≡ false → endsBy (dueOf (h .holds)) (h .holds .plays) ≡ true
+        → withCycle w (settings ceiling) k h ≡ record { holds = record { waits = h .holds .waits; plays = marked (h .holds .plays) }; reached = h .reached }
+    unfolding cycled answerOf
+    end-cycle e d =
+        let n : answerOf (h .holds) ≡ 9 = cond-false _ _ e ∙ cond-true _ _ d in
+        let c : cycled w s (h .holds) ≡ record { waits = h .holds .waits; plays = marked (h .holds .plays) } = cond-false _ _ e ∙ cond-true _ _ d in
+        λ i. record { holds = c i; reached = cond (eqb (n i) 0) (at (h .holds .plays .position)) (h .reached) }
+
+    play-cycle : h .holds .plays .ended ≡ false → endsBy (dueOf (h .holds)) (h .holds .plays) ≡ false
+        → withCycle w (settings ceiling) k h
+        ≡ record {
+          holds = record { waits = laterThan (h .holds .plays .position) (h .holds .waits); plays = played w s (dueOf (h .holds)) (h .holds .plays) };
+          reached = at (h .holds .plays .position);
+        }
+    unfolding cycled answerOf
+    play-cycle e d =
+        let n : answerOf (h .holds) ≡ 0 = cond-false _ _ e ∙ cond-false _ _ d in
+        let c : cycled w s (h .holds) ≡ record { waits = laterThan (h .holds .plays .position) (h .holds .waits); plays = played w s (dueOf (h .holds)) (h .holds .plays) } =
+        cond-false _ _ e ∙ cond-false _ _ d in
+        λ i. record { holds = c i; reached = cond (eqb (n i) 0) (at (h .holds .plays .position)) (h .reached) }
+
+    nine : h .holds .plays .ended ≡ true → answerOf (h .holds) ≡ 9
+    unfolding answerOf
+    nine e = cond-true _ _ e
+
+    nine-found : h .holds .plays .ended ≡ false → endsBy (dueOf (h .holds)) (h .holds .plays) ≡ true → answerOf (h .holds) ≡ 9
+    unfolding answerOf
+    nine-found e d = cond-false _ _ e ∙ cond-true _ _ d
+
+    zero-found : h .holds .plays .ended ≡ false → endsBy (dueOf (h .holds)) (h .holds .plays) ≡ false → answerOf (h .holds) ≡ 0
+    unfolding answerOf
+    zero-found e d = cond-false _ _ e ∙ cond-false _ _ d
+
+  -- ---- the panel's cycle
+
+  module _ (p : Panel) (k : Kept p) where
+    abbrev due : List Line
+    due = dueOf (holdsOf p)
+
+    block-is : blockOf (voicesOf (p .program)) (settingsOf (p .ceiling)) due (holdsOf p .plays) ≡ blockOf w s due (holdsOf p .plays)
+    block-is =
+        (λ i. blockOf (voicesOf (k .has i)) (settingsOf (k .locked i)) due (holdsOf p .plays))
+        ∙ block-same Sixteen same s due (holdsOf p .plays) (k .good)
+
+    module _ (d : endsBy due (holdsOf p .plays) ≡ false) where
+      near : holdsOf p .plays .position ≤ farthest
+      near = within-limit due (holdsOf p .plays) d
+
+      plays-is : capped (played (voicesOf (p .program)) (settingsOf (p .ceiling)) due (holdsOf p .plays)) ≡ played w s due (holdsOf p .plays)
+      plays-is =
+          (λ i. capped (played (voicesOf (k .has i)) (settingsOf (k .locked i)) due (holdsOf p .plays)))
+          ∙ cap-none (voicesOf program) s (holdsOf p) (few p k) (k .slow) near
+          ∙ played-same Sixteen same s due (holdsOf p .plays) (k .good)
+
+      own-played : own (playedOf p)
+          ≡ record {
+            holds = record { waits = laterThan (holdsOf p .plays .position) (holdsOf p .waits); plays = played w s due (holdsOf p .plays) };
+            reached = at (holdsOf p .plays .position);
+          }
+      own-played =
+          λ i. record {
+            holds = (holds-played p ∙ (λ j. record { waits = laterThan (holdsOf p .plays .position) (holdsOf p .waits); plays = plays-is j })) i;
+            reached = reached-played p i;
+          }
+
+      played-has : playedOf p .program ≡ p .program
+      unfolding playedOf
+      played-has = refl
+
+      played-locked : playedOf p .ceiling ≡ p .ceiling
+      unfolding playedOf
+      played-locked = refl
+
+      kept-played : Kept (playedOf p)
+      kept-played =
+          let e = ap (λ (h : History Held). h .holds) own-played in
+          record {
+            has = played-has ∙ k .has;
+            locked = played-locked ∙ k .locked;
+            long = played-long p (k .long);
+            slow = subst⁻¹ Slow e (slow-played w s (holdsOf p) (few p k) (k .slow) near);
+            good = subst⁻¹ (λ (h : Holds Held). Notes Sixteen (h .plays .notes)) e (played-good Sixteen same s due (holdsOf p .plays) (k .good));
+          }
+
+    own-ended : own (endedOf p) ≡ record { holds = record { waits = holdsOf p .waits; plays = marked (holdsOf p .plays) }; reached = reachedOf p }
+    own-ended = λ i. record { holds = holds-ended p i; reached = reached-ended p i }
+
+    kept-ended : Kept (endedOf p)
+    unfolding endedOf turn.stopped
+    kept-ended = record { has = k .has; locked = k .locked; long = k .long; slow = record { few = k .slow .few; lines = k .slow .lines; tempo = k .slow .tempo }; good = k .good }
+
+  -- ---- one call
+
+  module _ (n : ℕ) (z : Last) (p : Panel) where
+    record Step (c : Call) : Type 0 where
+      kept : Kept (afterOf p c .player)
+      next : own (afterOf p c .player) ≡ withMoment w (settings ceiling) (own p) (momentOf panel n z p c)
+      answer : numbered c ≡ true → afterOf p c .answers ≡ one (answerOf (holdsOf p)) 0
+      block : isZero (afterOf p c .answers) ≡ true → numbered c ≡ true → afterOf p c .block ≡ blockOf w s (dueOf (holdsOf p)) (holdsOf p .plays)
+      over : holdsOf p .plays .ended ≡ true → takenOf (linesOf c) (afterOf p c .answers) ≡ []
+
+    module _ (k : Kept p) where
+      door-step : (d : Door) (handed : List ℕ) → Step (bring d handed)
+      door-step d handed = go (brings p d handed)
+        where
+          ls : List Line
+          ls = reads d handed .lines
+
+          -- the history with the lines that answers say
+          told : List Answer → History Held
+          told given = record { holds = behind (takenOf (linesOf (bring d handed)) given) (holdsOf p); reached = reachedOf p }
+
+          untaken : (n l : ℕ) → eqb n 0 ≡ false → takenOf (linesOf (bring d handed)) (one n l) ≡ []
+          untaken n l e = ap (λ (x : List Line). x ++ []) (cond-false _ _ e)
+
+          go : Brings p (reads d handed .lines) (afterOf p (bring d handed)) → Step (bring d handed)
+          go (takes l q e f x) =
+              let b = f (k .long) in
+              record {
+                kept = subst⁻¹ (λ (a : After Panel). Kept (a .player)) x (kept-takes p (reads d handed .lines) q b (reads-steady d handed) k);
+                next =
+                    ap (λ (a : After Panel). own (a .player)) x ∙ own-takes p (reads d handed .lines) q b
+                    ∙ ap (λ (xs : List Line). record { holds = behind xs (holdsOf p); reached = reachedOf p }) (sym (append-nil (reads d handed .lines)))
+                    ∙ ap (λ (a : After Panel). told (a .answers)) (sym x);
+                answer = λ u. absurd (differ′ u);
+                block = λ u. λ t. absurd (differ′ t);
+                over = λ u. absurd (differ (sym u ∙ e));
+              }
+          go (refuses n l e x) =
+              record {
+                kept = subst⁻¹ (λ (a : After Panel). Kept (a .player)) x k;
+                next =
+                    ap (λ (a : After Panel). own (a .player)) x ∙ own-none p
+                    ∙ ap (λ (xs : List Line). record { holds = behind xs (holdsOf p); reached = reachedOf p }) (sym (untaken n l e))
+                    ∙ ap (λ (a : After Panel). told (a .answers)) (sym x);
+                answer = λ u. absurd (differ′ u);
+                block = λ u. λ t. absurd (differ′ t);
+                over = λ u. ap (λ (a : After Panel). takenOf (linesOf (bring d handed)) (a .answers)) x ∙ untaken n l e;
+              }
+
+      no-line : (b : List ℤ) (given : List Answer) → takenOf (linesOf (cycle b)) given ≡ []
+      no-line b [] = refl
+      no-line b (a ∷ given) = go (eqb (a .number) 0)
+        where
+          go : (x : Bool) → cond {A = List Line} x [] [] ++ [] ≡ []
+          go true = refl
+          go false = refl
+
+      -- nine is not zero
+      unsounded : (b : List ℤ) (m : ℕ) → eqb m 0 ≡ false → afterOf p (cycle b) .answers ≡ one m 0 → isZero (afterOf p (cycle b) .answers) ≡ true → ⊥
+      unsounded b m e x t = differ (sym t ∙ ap isZero x ∙ e)
+
+      cycle-step : (b : List ℤ) → Step (cycle b)
+      cycle-step b = go (cycles p b)
+        where
+          go : Cycles p b (afterOf p (cycle b)) → Step (cycle b)
+          go (off u x) =
+              record {
+                kept = subst⁻¹ (λ (a : After Panel). Kept (a .player)) x k;
+                next =
+                    ap (λ (a : After Panel). own (a .player)) x ∙ own-none p
+                    ∙ ap (λ (xs : List Line). record { holds = behind xs (holdsOf p); reached = reachedOf p }) (sym (no-line b (afterOf p (cycle b) .answers)))
+                    ∙ sym (cond-false _ _ u);
+                answer = λ t. absurd (differ (sym t ∙ u));
+                block = λ t. λ y. absurd (differ (sym y ∙ u));
+                over = λ t. no-line b (afterOf p (cycle b) .answers);
+              }
+          go (over-before u e x) =
+              record {
+                kept = subst⁻¹ (λ (a : After Panel). Kept (a .player)) x k;
+                next = ap (λ (a : After Panel). own (a .player)) x ∙ sym (over-cycle n (own p) e) ∙ sym (cond-true _ _ u);
+                answer = λ t. ap (λ (a : After Panel). a .answers) x ∙ ap (λ (m : ℕ). one m 0) (sym (nine n (own p) e));
+                block = λ t. absurd (unsounded b 9 refl (ap (λ (a : After Panel). a .answers) x) t);
+                over = λ t. no-line b (afterOf p (cycle b) .answers);
+              }
+          go (ends u e d x) =
+              record {
+                kept = subst⁻¹ (λ (a : After Panel). Kept (a .player)) x (kept-ended p k);
+                next = ap (λ (a : After Panel). own (a .player)) x ∙ own-ended p k ∙ sym (end-cycle n (own p) e d) ∙ sym (cond-true _ _ u);
+                answer = λ t. ap (λ (a : After Panel). a .answers) x ∙ ap (λ (m : ℕ). one m 0) (sym (nine-found n (own p) e d));
+                block = λ t. absurd (unsounded b 9 refl (ap (λ (a : After Panel). a .answers) x) t);
+                over = λ t. no-line b (afterOf p (cycle b) .answers);
+              }
+          go (plays u e d x) =
+              record {
+                kept = subst⁻¹ (λ (a : After Panel). Kept (a .player)) x (kept-played p k d);
+                next = ap (λ (a : After Panel). own (a .player)) x ∙ own-played p k d ∙ sym (play-cycle n (own p) e d) ∙ sym (cond-true _ _ u);
+                answer = λ t. ap (λ (a : After Panel). a .answers) x ∙ ap (λ (m : ℕ). one m 0) (sym (zero-found n (own p) e d));
+                block = λ t. λ y. ap (λ (a : After Panel). a .block) x ∙ block-is p k;
+                over = λ t. no-line b (afterOf p (cycle b) .answers);
+              }
+
+      step : (c : Call) → Step c
+      step (bring d handed) = door-step d handed
+      step (cycle b) = cycle-step b
+
+  -- ---- every list of calls
+
+  pub kept-all : (cs : List Call) (p : Panel) → Kept p → Kept (afterAll panel p cs)
+  unfolding afterAll
+  kept-all [] p k = k
+  kept-all (c ∷ cs) p k = kept-all cs (afterOf p c .player) (step 0 none p k c .kept)
+
+  pub own-all : (cs : List Call) (n : ℕ) (z : Last) (p : Panel) → Kept p
+      → own (afterAll panel p cs) ≡ historyFrom w (settings ceiling) (own p) (traceFrom panel n z p cs)
+  unfolding afterAll historyFrom traceFrom
+  own-all [] n z p k = refl
+  own-all (c ∷ cs) n z p k =
+      let m = momentOf panel n z p c in
+      let x = step n z p k c in
+      own-all cs (cyclesWith m) (lastWith m) (afterOf p c .player) (x .kept)
+      ∙ ap (λ (h : History Held). historyFrom w (settings ceiling) h (traceFrom panel (cyclesWith m) (lastWith m) (afterOf p c .player) cs)) (x .next)
+
+  follows : (cs : List Call) (n : ℕ) (z : Last) (p : Panel) → Kept p → AllFollow panel w (settings ceiling) (own p) (traceFrom panel n z p cs)
+  unfolding traceFrom
+  follows [] n z p k = tt
+  follows (c ∷ cs) n z p k =
+      let m = momentOf panel n z p c in
+      let x = step n z p k c in (
+        record {
+          answer = x .answer;
+          block = λ q t. x .block t q;
+          counts = ap (λ (h : History Held). h .holds .plays .counts) (x .next);
+          over = x .over;
+        },
+        subst (λ (h : History Held). AllFollow panel w (settings ceiling) h (traceFrom panel (cyclesWith m) (lastWith m) (afterOf p c .player) cs)) (x .next)
+            (follows cs (cyclesWith m) (lastWith m) (afterOf p c .player) (x .kept)),
+      )
+
+  -- a call that answers 0 leaves no block, or a cycle's
+  pub sounded : (p : Panel) → Kept p → (b : List ℤ) → isZero (afterOf p (cycle b) .answers) ≡ true
+      → afterOf p (cycle b) .block ≡ blockOf w s (dueOf (holdsOf p)) (holdsOf p .plays)
+  sounded p k b t = step 0 none p k (cycle b) .block t (is-numbered (cycles p b))
+    where
+      is-numbered : Cycles p b (afterOf p (cycle b)) → numbered (cycle b) ≡ true
+      is-numbered (off u x) = absurd (unsounded 0 none p k b 10 refl (ap (λ (a : After Panel). a .answers) x) t)
+      is-numbered (over-before u e x) = u
+      is-numbered (ends u e d x) = u
+      is-numbered (plays u e d x) = u
+
+  module _ (low : 1 ≤ ceiling) (high : ceiling ≤ 32767) where
+    -- a door has no block
+    no-block : (p : Panel) (d : Door) (handed : List ℕ) → All (Within ceiling) (afterOf p (bring d handed) .block)
+    unfolding afterOf
+    no-block p d handed = tt
+
+    within : (p : Panel) → Kept p → (c : Call) → isZero (afterOf p c .answers) ≡ true → All (Within ceiling) (afterOf p c .block)
+    within p k (bring d handed) t = no-block p d handed
+    within p k (cycle b) t = subst⁻¹ (All (Within ceiling)) (sounded p k b t) (block-within w s low high (dueOf (holdsOf p)) (holdsOf p .plays))
+
+    all-within : (cs : List Call) (n : ℕ) (z : Last) (p : Panel) → Kept p → All (WithinCeiling (settings ceiling)) (traceFrom panel n z p cs)
+    unfolding traceFrom
+    all-within [] n z p k = tt
+    all-within (c ∷ cs) n z p k = ((λ t. within p k c t), all-within cs _ _ (afterOf p c .player) (step n z p k c .kept))
+
+-- ---- a fresh panel
+
+module _ (orchestra : List ℕ) (is : List Instrument) (ceiling : ℕ) (g : Given orchestra is ceiling) where
+  abbrev program : Program
+  program = loadOf orchestra .program
+
+  pub stands : StandsFor is program
+  stands = loaded orchestra is (g .accepted) .stands
+
+  fresh-is : fresh orchestra ceiling ≡ startOf program ceiling false
+  unfolding freshOf
+  fresh-is =
+      ap (λ (x : Fresh). x .panel)
+      (cond-true _ _ (ap (λ (t : Bool). t && leb ceiling 32767) (le-leb 1 ceiling (g .low)) ∙ le-leb ceiling 32767 (g .high))
+      ∙ cond-true _ _ (ap isTaken (loaded orchestra is (g .accepted) .taken)))
+
+  start-own : own (startOf program ceiling false) ≡ unbegun (settingsOf ceiling)
+  unfolding startOf plainStart each
+  start-own = refl
+
+  start-kept : Kept program ceiling is stands (startOf program ceiling false)
+  unfolding startOf each
+  start-kept =
+      record {
+        has = refl;
+        locked = refl;
+        long = length-replicate 64 emptyLine;
+        slow = record { few = omega arith; lines = tt; tempo = starting };
+        good = tt;
+      }
+
+  fresh-kept : Kept program ceiling is stands (fresh orchestra ceiling)
+  fresh-kept = subst⁻¹ (Kept program ceiling is stands) fresh-is start-kept
+
+  fresh-own : own (fresh orchestra ceiling) ≡ unbegun (settingsOf ceiling)
+  fresh-own = ap own fresh-is ∙ start-own
+
+  pub kept-after : (cs : List Call) → Kept program ceiling is stands (panelAfter orchestra is ceiling cs)
+  kept-after cs = kept-all program ceiling is stands cs (fresh orchestra ceiling) fresh-kept
+
+  pub past-is : (cs : List Call) → own (panelAfter orchestra is ceiling cs) ≡ past orchestra is ceiling cs
+  past-is cs =
+      own-all program ceiling is stands cs 0 none (fresh orchestra ceiling) fresh-kept
+      ∙ ap (λ (x : History Held). historyFrom (treeVoices is) (settings ceiling) x (trace panel (fresh orchestra ceiling) cs)) fresh-own
+
+  follows-past : (cs : List Call) → AllFollow panel (treeVoices is) (settings ceiling) (unbegun (settingsOf ceiling)) (trace panel (fresh orchestra ceiling) cs)
+  follows-past cs =
+      subst (λ (h : History Held). AllFollow panel (treeVoices is) (settings ceiling) h (trace panel (fresh orchestra ceiling) cs)) fresh-own
+      (follows program ceiling is stands cs 0 none (fresh orchestra ceiling) fresh-kept)
+
+pub cycle-by-tree : CycleByTree
+unfolding CycleByTree
+cycle-by-tree orchestra is ceiling g cs =
+    let e = past-is orchestra is ceiling g cs in (
+      record { holds = ap (λ (h : History Held). h .holds) e; reached = ap (λ (h : History Held). h .reached) e },
+      λ lent t.
+          sounded (loadOf orchestra .program) ceiling is (stands orchestra is ceiling g) (panelAfter orchestra is ceiling cs) (kept-after orchestra is ceiling g cs) lent t
+          ∙ ap (λ (h : History Held). blockOf (treeVoices is) (settingsOf ceiling) (dueOf (h .holds)) (h .holds .plays)) e,
+    )
+
+pub condition-3 : Condition3
+unfolding Condition3
+condition-3 orchestra is ceiling g = plain-alike panel (treeVoices is) (settings ceiling) (fresh orchestra ceiling) (follows-past orchestra is ceiling g)
+
+pub ceiling-binds : CeilingBinds
+unfolding CeilingBinds
+ceiling-binds orchestra is ceiling g cs =
+    all-within (loadOf orchestra .program) ceiling is (stands orchestra is ceiling g) (g .low) (g .high) cs 0 none (fresh orchestra ceiling) (fresh-kept orchestra is ceiling g)

@@ -1,0 +1,110 @@
+-- What each call answers, by its history: document 01's table of refusal numbers and its order of faults.
+use mathlib.Core.Path.{_≡_}
+use mathlib.Core.Bool.{Bool, true, false, not, _&&_}
+use mathlib.Core.List.{List, [], _∷_, _++_}
+use Prim.Native.Nat.{ℕ, suc, _+_, _≤_, _<_}
+use lib.IntN.{ℤ}
+use lib.ListN.{length}
+use lib.Dec.{leb}
+use Rattle.answer.specs.declared.Answer.the-variants as answer
+use Rattle.timebase.specs.Time.{ticksIn}
+use Rattle.score_line.specs.declared.When.{When}
+use Rattle.score_line.specs.declared.When.the-variants.{Timed, Untimed}
+use Rattle.score_line.specs.declared.Event.{Event}
+use Rattle.score_line.specs.declared.Event.the-variants.{Instr, Control, End, Tempo}
+use Rattle.score_line.specs.declared.Line.{Line}
+use Rattle.syntax.specs.Tree.{Instrument}
+use Rattle.players.specs.Holds.{dueOf, endsBy}
+use Rattle.players.specs.Calls.{Door, mustBeTimed, hasTime, reads, Call, bring, cycle, numbered}
+use Rattle.players.specs.History.{Reached, nowhere, at, History}
+
+-- ---- one line
+
+-- the instrument of that name has as many fields as there are values, or more
+pub data HasFields (name values : ℕ) : List Instrument → Type 0 where
+  here : {i : Instrument} {is : List Instrument} → i .name ≡ name → values ≤ length (i .fields) → HasFields name values (i ∷ is)
+  there : {i : Instrument} {is : List Instrument} → (i .name ≡ name → ⊥) → HasFields name values is → HasFields name values (i ∷ is)
+
+-- no refusal 4: only an instr line can have it
+abbrev pub Playable : List Instrument → ℕ → Event → Type 0
+Playable is values (Instr label name duration) = HasFields name values is
+Playable is values (Control label x value) = Unit {0}
+Playable is values End = Unit {0}
+Playable is values (Tempo t) = Unit {0}
+
+-- late, and use-if-late not set: the ticks are at most the position of the last cycle that answered 0
+abbrev pub tooLate : Reached → When → Bool
+tooLate nowhere w = false
+tooLate (at position) (Timed useIfLate t) = leb (ticksIn t) position && not useIfLate
+tooLate (at position) Untimed = false
+
+-- the most lines that wait
+abbrev pub mostLines : ℕ
+mostLines = 64
+
+module _ (is : List Instrument) (d : Door) (reached : Reached) where
+  -- a line that is taken when so many wait: 6, 4, 7 and 8 do not hold of it
+  pub record Fits (waiting : ℕ) (l : Line) : Type 0 where
+    pub timed : mustBeTimed d ≡ true → hasTime (l .when) ≡ true
+    pub playable : Playable is (l .count) (l .event)
+    pub early : tooLate reached (l .when) ≡ false
+    pub room : waiting < mostLines
+
+  -- earlier lines of the same call count as waiting
+  abbrev pub AllFit : ℕ → List Line → Type 0
+  AllFit waiting [] = Unit {0}
+  AllFit waiting (l ∷ ls) = Fits waiting l × AllFit (suc waiting) ls
+
+  -- a line that is refused when so many wait: 6, 4, 7, 8, in this order
+  pub data Faulty (waiting : ℕ) (l : Line) : ℕ → Type 0 where
+    untimed : mustBeTimed d ≡ true → hasTime (l .when) ≡ false → Faulty waiting l 6
+    unplayable : (mustBeTimed d ≡ true → hasTime (l .when) ≡ true) → (Playable is (l .count) (l .event) → ⊥) → Faulty waiting l 4
+    late : (mustBeTimed d ≡ true → hasTime (l .when) ≡ true) → Playable is (l .count) (l .event) → tooLate reached (l .when) ≡ true
+        → Faulty waiting l 7
+    full : (mustBeTimed d ≡ true → hasTime (l .when) ≡ true) → Playable is (l .count) (l .event) → tooLate reached (l .when) ≡ false
+        → mostLines ≤ waiting → Faulty waiting l 8
+
+-- ---- every call: its number, and the number of the line that it is about
+
+module _ {S : Type 0} (is : List Instrument) (h : History S) where
+  abbrev pub ended : Bool
+  ended = h .holds .plays .ended
+
+  -- how many lines are taken and not yet used
+  abbrev pub waiting : ℕ
+  waiting = length (h .holds .waits)
+
+  module _ (d : Door) (handed : List ℕ) where
+    abbrev pub fault : ℕ
+    fault = reads d handed .line
+
+    -- what was handed in is these lines, and the piece goes on
+    abbrev pub IsRead : List Line → Type 0
+    IsRead ls = (ended ≡ false) × (reads d handed .answer ≡ answer.Taken) × (reads d handed .lines ≡ ls)
+
+    -- the answers at a door
+    pub data AtDoor : ℕ → ℕ → Type 0 where
+      -- 9: a cycle call has found the end
+      over : ended ≡ true → AtDoor 9 0
+      -- 1, 2, 3, 5: the first fault met in reading order, at its line; then 11
+      cut : ended ≡ false → reads d handed .answer ≡ answer.CutShort → AtDoor 1 fault
+      notCarried : ended ≡ false → reads d handed .answer ≡ answer.NotCarried → AtDoor 2 fault
+      outOfRange : ended ≡ false → reads d handed .answer ≡ answer.OutOfRange → AtDoor 3 fault
+      tooManyValues : ended ≡ false → reads d handed .answer ≡ answer.TooManyValues → AtDoor 5 fault
+      leftOver : ended ≡ false → reads d handed .answer ≡ answer.LeftOver → AtDoor 11 0
+      -- 6, 4, 7, 8: the first line that does not fit, those before it waiting
+      faulty : {number : ℕ} (before : List Line) (l : Line) (later : List Line) → IsRead (before ++ (l ∷ later))
+          → AllFit is d (h .reached) waiting before → Faulty is d (h .reached) (waiting + length before) l number → AtDoor number (length before)
+      -- 0: every line fits
+      taken : (ls : List Line) → IsRead ls → AllFit is d (h .reached) waiting ls → AtDoor 0 0
+
+  -- the answers to a cycle call: 10, then 9, and only step 1 ends a piece
+  pub data AtCycle (block : List ℤ) : ℕ → ℕ → Type 0 where
+    otherLength : numbered (cycle block) ≡ false → AtCycle block 10 0
+    overBefore : numbered (cycle block) ≡ true → ended ≡ true → AtCycle block 9 0
+    findsEnd : numbered (cycle block) ≡ true → ended ≡ false → endsBy (dueOf (h .holds)) (h .holds .plays) ≡ true → AtCycle block 9 0
+    plays : numbered (cycle block) ≡ true → ended ≡ false → endsBy (dueOf (h .holds)) (h .holds .plays) ≡ false → AtCycle block 0 0
+
+  abbrev pub Verdict : Call → ℕ → ℕ → Type 0
+  Verdict (bring d handed) = AtDoor d handed
+  Verdict (cycle block) = AtCycle block
