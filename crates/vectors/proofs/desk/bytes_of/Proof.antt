@@ -4,9 +4,6 @@ use Prim.Native.Nat.{_-_}
 use borrow.Author.Needs.{needs}
 use Rattle.vectors.proofs.desk.bytes_of.Statement.{statement}
 use Rattle.vectors.proofs.desk.bytes_of.Tie as tie
-use Rattle.vectors.proofs.desk.bytes_of.Reads as reads
-use Rattle.vectors.proofs.desk.bytes_of.Lts as lts
-use Rattle.vectors.proofs.desk.byte_of.Reads as byte-of-reads
 
 abbrev Inv-loop : tie.InvT-loop
 Inv-loop numbers bytes₀ i₀ bytes i = 512 ≡ length bytes
@@ -14,31 +11,24 @@ Inv-loop numbers bytes₀ i₀ bytes i = 512 ≡ length bytes
 abbrev μ-loop : tie.MeasureT-loop
 μ-loop numbers bytes₀ i₀ bytes i = 512 - i
 
--- src/desk.rt:49:5
 loop-holds : tie.Need-loop-holds Inv-loop μ-loop
 loop-holds c = search needs
 
--- src/desk.rt:50:20
 byte-of-requires : tie.Need-byte-of-requires Inv-loop μ-loop
 byte-of-requires c κs = search needs
 
--- src/desk.rt:50:9
 array-write-bytes : tie.Need-array-write-bytes Inv-loop μ-loop
 array-write-bytes c = search needs
 
--- src/desk.rt:51:9
 add-i : tie.Need-add-i Inv-loop μ-loop
 add-i c = search needs
 
--- src/desk.rt:49:5
 loop-less : tie.Need-loop-less Inv-loop μ-loop
 loop-less c = search needs
 
--- src/desk.rt:49:5
 loop-again : tie.Need-loop-again Inv-loop μ-loop
 loop-again c = search needs
 
--- src/desk.rt:46:1
 returns : tie.Need-returns Inv-loop μ-loop
 returns c = search needs
 
