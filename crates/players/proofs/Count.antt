@@ -29,7 +29,7 @@ AllSteady ls = All (λ (l : Line). steady (l .event)) ls
 
 -- ---- due lines: as many as wait at most, and of them what holds of all that wait
 
-length-insert : (x : Line) (xs : List Line) → length (insert x xs) ≡ suc (length xs)
+pub length-insert : (x : Line) (xs : List Line) → length (insert x xs) ≡ suc (length xs)
 unfolding insert
 length-insert x [] = refl
 length-insert x (y ∷ ys) = go (earlier (x .when) (y .when)) (length-insert x ys)
@@ -38,7 +38,7 @@ length-insert x (y ∷ ys) = go (earlier (x .when) (y .when)) (length-insert x y
     go true h = refl
     go false h = ap suc h
 
-all-insert : (P : Line → Type 0) (x : Line) (xs : List Line) → P x → All P xs → All P (insert x xs)
+pub all-insert : (P : Line → Type 0) (x : Line) (xs : List Line) → P x → All P xs → All P (insert x xs)
 unfolding insert
 all-insert P x [] h f = (h, tt)
 all-insert P x (y ∷ ys) h f = go (earlier (x .when) (y .when)) (all-insert P x ys h (f .1))

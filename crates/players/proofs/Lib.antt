@@ -5,3 +5,5 @@ pub mod Later
 pub mod Alike
 pub mod Ceiling
 pub mod Loops
+pub mod Order
+pub mod Results

@@ -7,7 +7,7 @@ use native.Mathlib.Omega.{arith}
 use native.Mathlib.Decide.{decLe}
 use native.Mathlib.Numerals.{add-one}
 use lib.ListN.{length, take, drop, getD, set, length-append, length-drop}
-use lib.Seq.{take-suc, drop-cons, set-at, length-take-le, take-all}
+use lib.Seq.{take-suc, take-at, drop-cons, drop-drop, drop-append-add, set-at, length-take-le, take-all}
 use Rattle.players.specs.Lists.{keep, fold, over}
 use Rattle.players.proofs.Lists.{cond-true, cond-false, keep-append, fold-append}
 
@@ -98,3 +98,18 @@ laid-step {A} new old a i d h k e =
     rw (add-one, take-suc new i d h, e)
     (subst (λ (m : ℕ). set (over (take i new) old) m (getD new i d) ≡ over (take i new ++ (getD new i d ∷ [])) old) n
     (over-set (take i new) old (getD new i d) (omega (arith, n))))
+
+-- the list that lies over an array, by its length
+pub take-over : {A : Type 0} (xs old : List A) {k : ℕ} {a : List A} → k ≡ length xs → a ≡ over xs old → take k a ≡ xs
+take-over {A} xs old {k} {a} e q =
+    ap (λ (l : List A). take k l) q ∙ take-at xs (drop (length xs) old) k (sym e)
+
+-- what a longer list is laid over may have had a shorter one laid over it
+pub over-over : {A : Type 0} (xs ys old : List A) → length xs ≤ length ys → over ys (over xs old) ≡ over ys old
+over-over {A} xs ys old h =
+    let e : length ys ≡ length xs + (length ys - length xs) = omega arith in
+    ap (λ (l : List A). ys ++ l)
+    (ap (λ (n : ℕ). drop n (over xs old)) e
+    ∙ drop-append-add xs (drop (length xs) old) (length ys - length xs)
+    ∙ drop-drop (length ys - length xs) (length xs) old
+    ∙ ap (λ (n : ℕ). drop n old) (sym e))

@@ -3,3 +3,4 @@ pub mod Alike
 pub mod Rows
 pub mod Laws
 pub mod Lines
+pub mod Outputs

@@ -10,12 +10,15 @@ use Rattle.score_line.specs.declared.Line.{Line}
 use Rattle.score_line.specs.declared.Event.{Event}
 use Rattle.syntax.specs.Tree.{Instrument, importsKind}
 use Rattle.syntax.specs.Names.{Named, namesOf}
-use Rattle.players.specs.Cycle.{Voices}
+use Rattle.meaning.specs.Meaning.{kPass}
+use Rattle.meaning.specs.Outputs.{outputsIn as ofPasses, afterPasses}
+use Rattle.players.specs.Cycle.{Voices, Note}
 use Rattle.players.specs.Holds.{Settings}
+use Rattle.players.specs.Results.{OutputsAdd}
 use Rattle.players.specs.Plain.{plainAt, answerAt, blockAt}
 use Rattle.sounding.specs.declared.Instrument as row
 use Rattle.sounding.specs.Voices.{Held, fieldsIn, voices}
-use Rattle.voices.specs.Tree.{noSymbol, instrumentOf, setOf, treeVoices, fieldsOf}
+use Rattle.voices.specs.Tree.{noSymbol, instrumentOf, bodyOf, setOf, treeVoices, fieldsOf}
 use Rattle.voices.specs.Represents.{Represents}
 
 -- the plain player does the same with either voices, in every cycle, for every list of lines and all settings
@@ -47,3 +50,20 @@ abbrev pub ControlNames : Type 0
 ControlNames =
     (is : List Instrument) (x : ℕ) (a : Float) (s : Held) → x < noSymbol → length (s .values) ≡ 16
     → setOf is x a s .values ≡ imported x a (namesOf (instrumentOf is (s .instrument))) (s .values)
+
+module _ (is : List Instrument) where
+  -- what a note outputs in each of n samples, and what it holds after them: its k statements have run first
+  abbrev pub outputsIn : ℕ → Held → List (List Float)
+  outputsIn n s = ofPasses n (bodyOf is (s .instrument)) (kPass (bodyOf is (s .instrument)) (s .values))
+
+  abbrev pub heldAfter : ℕ → Held → Held
+  heldAfter n s =
+      record {
+        instrument = s .instrument;
+        values = afterPasses n (bodyOf is (s .instrument)) (kPass (bodyOf is (s .instrument)) (s .values));
+      }
+
+-- Step 5 with the tree's voices: each sample is +0 and then the outputs of all notes added one after the other, in note order, then
+-- statement order.
+abbrev pub OutputsSum : Type 0
+OutputsSum = (is : List Instrument) (before : List (Note Held)) → OutputsAdd (treeVoices is) (heldAfter is) (outputsIn is) before

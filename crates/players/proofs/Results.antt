@@ -1,0 +1,285 @@
+-- The steps of a cycle come to what document 01 says.
+use mathlib.Core.Path.{_≡_, refl, sym, ap, _∙_, subst, subst⁻¹}
+use mathlib.Core.Bool.{Bool, true, false, _&&_, _||_, cond, true≢false}
+use mathlib.Core.List.{List, [], _∷_, _++_, append-assoc, append-nil, zipWith}
+use Prim.Native.Nat.{ℕ, zero, suc, _+_, _-_, _≤_, _<_}
+use native.Mathlib.Omega.{arith}
+use native.Mathlib.Decide.{decLt}
+use lib.ListN.{length, take, replicate, length-append, length-replicate}
+use lib.Dec.{ltb, eqb}
+use lib.Ieee.{Float, binary32, add, eq, ofBits}
+use borrow.Author.Tests.{lt-ltb, le-ltb, ltb-false}
+use Rattle.timebase.specs.Time.{ticksIn, endless as withoutEnd}
+use Rattle.score_line.specs.declared.Label.{Label}
+use Rattle.score_line.specs.declared.Event.{Event}
+use Rattle.score_line.specs.declared.Event.the-variants.{Instr, Control, End, Tempo}
+use Rattle.score_line.specs.declared.Line.{Line}
+use Rattle.players.specs.Lists.{keep, fold, each, All}
+use Rattle.players.specs.Cycle.{Voices, Note, Started, Band, withState, isEnd, anyEnd, tempoFrom, lastTempo, samples, joinedBy, born, startedBy, started, controlledBy, controlEvent, controlled, runFrom, runAll, goesOn}
+use Rattle.players.specs.Results.{Some, here, later, EndFound, NoTempo, LastSets, bornBy, births, EachStarts, NotesStart, controlledState, controlledAll, ControlsSet, NotesEnd, withOutputs, Adding, heard, OutputsAdd, SamplesSum}
+use Rattle.players.proofs.Lists.{cond-true, cond-false, fold-append}
+
+-- ---- steps 1 and 2
+
+found : Bool → List Line → Bool
+found b ls = fold (λ (f : Bool) (l : Line). f || isEnd (l .event)) b ls
+
+found-stays : (ls : List Line) → found true ls ≡ true
+unfolding found fold
+found-stays [] = refl
+found-stays (l ∷ ls) = found-stays ls
+
+end-forth : (ls : List Line) → found false ls ≡ true → Some (λ (l : Line). l .event ≡ End) ls
+unfolding found fold
+end-forth [] h = absurd (true≢false (sym h))
+end-forth (l ∷ ls) h = go (l .event) refl h (end-forth ls)
+  where
+    go : (x : Event) → l .event ≡ x → found (isEnd x) ls ≡ true → (found false ls ≡ true → Some (λ (l : Line). l .event ≡ End) ls)
+        → Some (λ (l : Line). l .event ≡ End) (l ∷ ls)
+    go (Instr label i d) e k r = later (r k)
+    go (Control label x value) e k r = later (r k)
+    go End e k r = here e
+    go (Tempo t) e k r = later (r k)
+
+end-back : {ls : List Line} (b : Bool) → Some (λ (l : Line). l .event ≡ End) ls → found b ls ≡ true
+unfolding found fold
+end-back b (here {x} {xs} e) = ap (λ (f : Bool). found f xs) (ap (λ (y : Event). b || isEnd y) e ∙ or-true b) ∙ found-stays xs
+  where
+    or-true : (b : Bool) → (b || true) ≡ true
+    or-true true = refl
+    or-true false = refl
+end-back b (later {x} {xs} s) = end-back (b || isEnd (x .event)) s
+
+pub end-found : EndFound
+unfolding EndFound anyEnd found
+end-found due = (end-forth due, end-back false)
+
+tempo-stays : (tempo : Float) (due : List Line) → All (λ (m : Line). NoTempo (m .event)) due → lastTempo tempo due ≡ tempo
+unfolding lastTempo fold
+tempo-stays tempo [] h = refl
+tempo-stays tempo (l ∷ ls) h = ap (λ (t : Float). lastTempo t ls) (go (l .event) (h .0)) ∙ tempo-stays tempo ls (h .1)
+  where
+    go : (x : Event) → NoTempo x → tempoFrom tempo x ≡ tempo
+    go (Instr label i d) n = refl
+    go (Control label x value) n = refl
+    go End n = refl
+    go (Tempo t) n = absurd n
+
+pub last-sets : LastSets
+last-sets =
+    record {
+      last = λ tempo t before l behind e h.
+          unfold lastTempo fold in
+          (fold-append (λ (old : Float) (m : Line). tempoFrom old (m .event)) tempo before (l ∷ behind)
+          ∙ ap (λ (x : Event). lastTempo (tempoFrom (lastTempo tempo before) x) behind) e
+          ∙ tempo-stays t behind h);
+      none = tempo-stays;
+    }
+
+-- ---- step 3
+
+module _ {S : Type 0} (v : Voices S) (most position : ℕ) where
+  starting : List (Note S) → ℕ → List Line → Started S
+  starting ns k ls = fold (λ (s : Started S) (l : Line). startedBy v most position l s (l .event)) (record { notes = ns; missed = k }) ls
+
+  record Starts (ns : List (Note S)) (k : ℕ) (born : List (Note S)) (s : Started S) : Type 0 where
+    notes : s .notes ≡ ns ++ take (most - length ns) born
+    missed : s .missed ≡ k + (length born - (most - length ns))
+
+  starts-room : (ns : List (Note S)) (k : ℕ) (n : Note S) (rest : List (Note S)) (s : Started S) → length ns < most
+      → Starts (ns ++ (n ∷ [])) k rest s → Starts ns k (n ∷ rest) s
+  starts-room ns k n rest s h r =
+      let e : length (ns ++ (n ∷ [])) ≡ length ns + 1 = length-append ns (n ∷ []) in
+      let d : most - length ns ≡ suc (most - length (ns ++ (n ∷ []))) = omega (arith, e) in
+      record {
+        notes =
+            r .notes
+            ∙ append-assoc ns (n ∷ []) (take (most - length (ns ++ (n ∷ []))) rest)
+            ∙ ap (λ (m : ℕ). ns ++ take m (n ∷ rest)) (sym d);
+        missed = r .missed ∙ omega (arith, e);
+      }
+
+  starts-full : (ns : List (Note S)) (k : ℕ) (n : Note S) (rest : List (Note S)) (s : Started S) → most ≤ length ns
+      → Starts ns (k + 1) rest s → Starts ns k (n ∷ rest) s
+  starts-full ns k n rest s h r =
+      let d : most - length ns ≡ 0 = omega arith in
+      record {
+        notes = r .notes ∙ ap (λ (m : ℕ). ns ++ take m rest) d ∙ ap (λ (m : ℕ). ns ++ take m (n ∷ rest)) (sym d);
+        missed = r .missed ∙ omega arith;
+      }
+
+  starts : (ls : List Line) (ns : List (Note S)) (k : ℕ) → Starts ns k (births v position ls) (starting ns k ls)
+  unfolding starting fold births joinedBy
+  starts [] ns k = record { notes = sym (ap (λ (l : List (Note S)). ns ++ l) (none (most - length ns)) ∙ append-nil ns); missed = omega arith }
+    where
+      none : (m : ℕ) → take {A = Note S} m [] ≡ []
+      none zero = refl
+      none (suc m) = refl
+  starts (l ∷ ls) ns k = go (l .event) (starts ls)
+    where
+      after : Started S → Started S
+      after s = fold (λ (s : Started S) (l : Line). startedBy v most position l s (l .event)) s ls
+      Rest : Type 0
+      Rest = (ns : List (Note S)) (k : ℕ) → Starts ns k (births v position ls) (starting ns k ls)
+      joins : (n : Note S) → Rest → Dec (length ns < most)
+          → Starts ns k (n ∷ births v position ls) (after (joinedBy most (record { notes = ns; missed = k }) n))
+      joins n r (yes h) =
+          subst⁻¹ (λ (s : Started S). Starts ns k (n ∷ births v position ls) (after s))
+          (cond-true _ _ (lt-ltb (length ns) most h))
+          (starts-room ns k n (births v position ls) _ h (r (ns ++ (n ∷ [])) k))
+      joins n r (no h) =
+          subst⁻¹ (λ (s : Started S). Starts ns k (n ∷ births v position ls) (after s))
+          (cond-false _ _ (le-ltb (length ns) most (omega arith)))
+          (starts-full ns k n (births v position ls) _ (omega arith) (r ns (k + 1)))
+      go : (x : Event) → Rest
+          → Starts ns k (bornBy v position l x ++ births v position ls) (after (startedBy v most position l (record { notes = ns; missed = k }) x))
+      go (Instr label i d) r = joins (born v position l label i d) r (decLt (length ns) most)
+      go (Control label x value) r = r ns k
+      go End r = r ns k
+      go (Tempo t) r = r ns k
+
+pub notes-start : {S : Type 0} (v : Voices S) → NotesStart v
+unfolding NotesStart started starting
+notes-start v most position before due =
+    let s = starts v most position due before 0 in
+    record { notes = s .notes; missed = s .missed ∙ omega arith }
+
+-- ---- steps 4 and 7
+
+each-id : {A : Type 0} (xs : List A) → each (λ (x : A). x) xs ≡ xs
+unfolding each
+each-id [] = refl
+each-id {A} (x ∷ xs) = ap (λ (l : List A). x ∷ l) (each-id xs)
+
+each-same : {A : Type 0} (f g : A → A) → ((x : A) → f x ≡ g x) → (xs : List A) → each f xs ≡ each g xs
+unfolding each
+each-same f g e [] = refl
+each-same f g e (x ∷ xs) = λ i. e x i ∷ each-same f g e xs i
+
+each-both : {A : Type 0} (f g h : A → A) → ((x : A) → g (f x) ≡ h x) → (xs : List A) → each g (each f xs) ≡ each h xs
+unfolding each
+each-both f g h e [] = refl
+each-both {A} f g h e (x ∷ xs) = λ i. e x i ∷ each-both f g h e xs i
+
+module _ {S : Type 0} (v : Voices S) where
+  one-more : (l : Line) (ls : List Line) (label x : ℕ) (value : Float) → l .event ≡ Control label x value → (n : Note S)
+      → controlledAll v ls (controlledBy v label x value n) ≡ controlledAll v (l ∷ ls) n
+  unfolding fold controlledBy
+  one-more l ls label x value e n =
+      go (n .labelled && eqb label (n .label))
+      ∙ ap (λ (y : Event). withState n (after (controlledState v (n .labelled) (n .label) (n .state) y))) (sym e)
+    where
+      after : S → S
+      after s = fold (λ (s : S) (l : Line). controlledState v (n .labelled) (n .label) s (l .event)) s ls
+      go : (b : Bool) → controlledAll v ls (cond b (withState n (v .control x value (n .state))) n)
+          ≡ withState n (after (cond b (v .control x value (n .state)) (n .state)))
+      go true = refl
+      go false = refl
+
+  passed-by : (l : Line) (ls : List Line) (y : Event) → l .event ≡ y → ((n : Note S) → controlledState v (n .labelled) (n .label) (n .state) y ≡ n .state)
+      → (n : Note S) → controlledAll v ls n ≡ controlledAll v (l ∷ ls) n
+  unfolding fold
+  passed-by l ls y e h n =
+      ap (λ (s : S). withState n (fold (λ (s : S) (l : Line). controlledState v (n .labelled) (n .label) s (l .event)) s ls))
+      (sym (ap (controlledState v (n .labelled) (n .label) (n .state)) e ∙ h n))
+
+  controls : (due : List Line) (notes : List (Note S)) → controlled v notes due ≡ each (controlledAll v due) notes
+  unfolding controlled fold each
+  controls [] notes = sym (each-id notes)
+  controls (l ∷ ls) notes = go (l .event) refl (controls ls)
+    where
+      go : (y : Event) → l .event ≡ y → ((ns : List (Note S)) → controlled v ns ls ≡ each (controlledAll v ls) ns)
+          → controlled v (controlEvent v notes y) ls ≡ each (controlledAll v (l ∷ ls)) notes
+      go (Instr label i d) e r = r notes ∙ each-same _ _ (passed-by l ls (Instr label i d) e (λ n. refl)) notes
+      go (Control label x value) e r =
+          r (each (controlledBy v label x value) notes)
+          ∙ each-both (controlledBy v label x value) (controlledAll v ls) (controlledAll v (l ∷ ls)) (one-more l ls label x value e) notes
+      go End e r = r notes ∙ each-same _ _ (passed-by l ls End e (λ n. refl)) notes
+      go (Tempo t) e r = r notes ∙ each-same _ _ (passed-by l ls (Tempo t) e (λ n. refl)) notes
+
+  pub controls-set : ControlsSet v
+  unfolding ControlsSet
+  controls-set notes due = controls due notes
+
+  pub notes-end : NotesEnd v
+  unfolding NotesEnd goesOn born
+  notes-end birth position l label i d s = (forth (eq d withoutEnd), λ h. ap (λ (b : Bool). b || ltb position (birth + ticksIn d)) (h .0) ∙ le-ltb position (birth + ticksIn d) (h .1))
+    where
+      forth : (b : Bool) → (b || ltb position (birth + ticksIn d)) ≡ false → (b ≡ false) × (birth + ticksIn d ≤ position)
+      forth true h = absurd (true≢false h)
+      forth false h = (refl, ltb-false position (birth + ticksIn d) h)
+
+-- ---- step 5
+
+added-twice : (mix : List Float) (xss yss : List (List Float))
+    → zipWith withOutputs (zipWith withOutputs mix xss) yss ≡ zipWith withOutputs mix (zipWith (λ (first rest : List Float). first ++ rest) xss yss)
+unfolding zipWith
+added-twice [] xss yss = refl
+added-twice (x ∷ mix) [] yss = refl
+added-twice (x ∷ mix) (xs ∷ xss) [] = refl
+added-twice (x ∷ mix) (xs ∷ xss) (ys ∷ yss) =
+    λ i. sym (fold-append (add binary32) x xs ys) i ∷ added-twice mix xss yss i
+
+none-added : (mix : List Float) (n : ℕ) → length mix ≡ n → zipWith withOutputs mix (replicate n []) ≡ mix
+unfolding zipWith fold
+none-added [] zero h = refl
+none-added [] (suc n) h = refl
+none-added (x ∷ mix) zero h = absurd (let z : _≡_ {A = ℕ} 0 1 = omega arith in omega arith)
+none-added (x ∷ mix) (suc n) h = ap (λ (l : List Float). x ∷ l) (none-added mix n (omega arith))
+
+from-silence : (x : Float) (n : ℕ) (xss : List (List Float)) → length xss ≡ n
+    → zipWith withOutputs (replicate n x) xss ≡ each (withOutputs x) xss
+unfolding zipWith each
+from-silence x zero [] h = refl
+from-silence x zero (xs ∷ xss) h = absurd (omega arith)
+from-silence x (suc n) [] h = refl
+from-silence x (suc n) (xs ∷ xss) h = ap (λ (l : List Float). withOutputs x xs ∷ l) (from-silence x n xss (omega arith))
+
+length-joined : (xss yss : List (List Float)) (n : ℕ) → length xss ≡ n → length yss ≡ n
+    → length (zipWith (λ (first rest : List Float). first ++ rest) xss yss) ≡ n
+unfolding zipWith
+length-joined [] yss n h k = h
+length-joined (xs ∷ xss) [] n h k = k
+length-joined (xs ∷ xss) (ys ∷ yss) n h k = let r = length-joined xss yss (length xss) refl (omega arith) in omega (arith, r)
+
+length-added : (mix : List Float) (xss : List (List Float)) → length xss ≡ length mix → length (zipWith withOutputs mix xss) ≡ length mix
+unfolding zipWith
+length-added [] xss h = refl
+length-added (x ∷ mix) [] h = h
+length-added (x ∷ mix) (xs ∷ xss) h = let r = length-added mix xss (omega arith) in omega (arith, r)
+
+module _ {S : Type 0} (v : Voices S) (next : ℕ → S → S) (outputs : ℕ → S → List (List Float)) (a : Adding v next outputs) (n : ℕ) where
+  length-heard : (ns : List (Note S)) → length (heard v next outputs n ns) ≡ n
+  unfolding heard
+  length-heard [] = length-replicate n []
+  length-heard (x ∷ ns) = length-joined (outputs n (x .state)) (heard v next outputs n ns) n (a .every n (x .state)) (length-heard ns)
+
+  record Runs (mix : List Float) (ns : List (Note S)) (b : Band S) : Type 0 where
+    sums : b .mix ≡ zipWith withOutputs mix (heard v next outputs n ns)
+    states : b .notes ≡ each (λ (x : Note S). withState x (next n (x .state))) ns
+
+  runs : (ns : List (Note S)) (mix : List Float) → length mix ≡ n → Runs mix ns (runFrom v ns mix)
+  unfolding runFrom heard each
+  runs [] mix h = record { sums = sym (none-added mix n h); states = refl }
+  runs (x ∷ ns) mix h =
+      let m : v .run (x .state) mix .mix ≡ zipWith withOutputs mix (outputs n (x .state)) =
+      a .mix (x .state) mix ∙ ap (λ (k : ℕ). zipWith withOutputs mix (outputs k (x .state))) h in
+      let r = runs ns (v .run (x .state) mix .mix)
+      (ap length m ∙ length-added mix (outputs n (x .state)) (a .every n (x .state) ∙ sym h) ∙ h) in
+      record {
+        sums =
+            r .sums
+            ∙ ap (λ (y : List Float). zipWith withOutputs y (heard v next outputs n ns)) m
+            ∙ added-twice mix (outputs n (x .state)) (heard v next outputs n ns);
+        states = λ i. withState x ((a .state (x .state) mix ∙ ap (λ (k : ℕ). next k (x .state)) h) i) ∷ r .states i;
+      }
+
+pub samples-sum : {S : Type 0} (v : Voices S) (next : ℕ → S → S) (outputs : ℕ → S → List (List Float)) → SamplesSum v next outputs
+unfolding SamplesSum runAll
+samples-sum v next outputs a ns =
+    let z = ofBits binary32 0 in
+    let r = runs v next outputs a samples ns (replicate samples z) (length-replicate samples z) in
+    record {
+      mix = r .sums ∙ from-silence z samples (heard v next outputs samples ns) (length-heard v next outputs a samples ns);
+      notes = r .states;
+    }
