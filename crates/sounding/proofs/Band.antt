@@ -7,29 +7,26 @@ use native.Mathlib.Omega.{arith}
 use native.Mathlib.Numerals.{add-one}
 use lib.Dec.{eqb}
 use lib.Ieee.{Float}
-use lib.ListN.{length, take, getD, set, length-set}
-use lib.Seq.{take-suc, take-suc-set}
+use lib.ListN.{length, take, drop, getD, set, length-set}
+use lib.Seq.{take-suc, take-suc-set, drop-set-lt}
 use Rattle.score_line.specs.declared.Label.{Label}
 use Rattle.score_line.specs.declared.Event.{Event}
 use Rattle.score_line.specs.declared.Event.the-variants.{Instr, Control, End, Tempo}
 use Rattle.score_line.specs.declared.Line.{Line}
-use Rattle.players.specs.Lists.{each, fold, keep}
-use Rattle.players.specs.Cycle.{Band, born, joinedBy, startedBy, withState, runFrom, controlledBy, controlEvent, controlled, goesOn}
+use Rattle.players.specs.Lists.{each, fold, keep, over}
+use Rattle.players.specs.Cycle.{Band, born, joinedBy, startedBy, started, withState, runFrom, controlledBy, controlEvent, controlled, goesOn}
 use Rattle.players.specs.Holds.{sixteen}
 use Rattle.players.specs.Cycle as cycle
+use Rattle.players.proofs.Loops.{fold-take, over-over}
 use Rattle.synth.specs.Passes.{sums, played}
 use Rattle.synth.specs.declared.Note.{Note}
-use Rattle.sounding.specs.Voices.{Held, instrumentIn, foundIn, voices, birthOf, ranValues, ranMixOf, named, noteOf, structOf, notesIn, bandIn, bornNote, controlledNote, controlledIn, controlsIn, controlledAll, kNote, ranNote, ranMix, goesOnIn}
+use Rattle.sounding.specs.Voices.{Held, instrumentIn, foundIn, voices, birthOf, ranValues, ranMixOf, named, noteOf, structOf, notesIn, startedIn, bandIn, bornNote, controlledNote, controlledIn, controlsIn, controlledAll, kNote, ranNote, ranMix, goesOnIn}
 use Rattle.synth.specs.Notes.{withValues}
 use Rattle.sounding.specs.declared.Instrument.{Instrument}
+use Rattle.sounding.specs.Started.{StartedBy}
 use Rattle.sounding.specs.declared.Found.{Found}
-use Rattle.sounding.proofs.Steps.{each-append, each-one}
-
--- one more of an array's elements, each made into another
-pub each-step : {A : Type 0} (g : A → A) (l a : List A) (i : ℕ) (d y : A) → i < length l → i < length a
-    → take i a ≡ each g (take i l) → y ≡ g (getD l i d) → take (i + 1) (set a i y) ≡ each g (take (i + 1) l)
-each-step g l a i d y h k p q =
-    rw (add-one, take-suc-set a i y k, take-suc l i d h, each-append g (take i l) (getD l i d ∷ []), each-one g (getD l i d), p, q)
+use Rattle.sounding.specs.declared.Started.{Started}
+use Rattle.sounding.proofs.Steps.{each-append, each-one, length-each, struct-note, drop-more, take-laid, notes-laid, Starting, starting-step}
 
 pub control-in : (table : List Instrument) (label variable : ℕ) (value : Float) (n : Note) (f : Found) (y : Note)
     → f ≡ foundIn (n .instrument) table → y ≡ controlledNote (f .instrument) n label variable value
@@ -78,6 +75,32 @@ module _ (table : List Instrument) (code : List ℕ) (vals : List Float) where
   control-event ns End = refl
   control-event ns (Tempo t) = refl
 
+  length-controls : (ns : List Note) (e : Event) → length (controlsIn table ns e) ≡ length ns
+  length-controls ns (Instr label name duration) = refl
+  length-controls ns (Control label variable value) = length-each (controlledIn table label variable value) ns
+  length-controls ns End = refl
+  length-controls ns (Tempo t) = refl
+
+  length-controlled : (ns : List Note) (ls : List Line) → length (controlledAll table ns ls) ≡ length ns
+  unfolding controlledAll fold
+  length-controlled ns [] = refl
+  length-controlled ns (l ∷ ls) = length-controlled (controlsIn table ns (l .event)) ls ∙ length-controls ns (l .event)
+
+  pub control-lines-are : (ns : List Note) (k : ℕ) (ls : List Line) (r : List Note) → r ≡ over (controlledAll table (take k ns) ls) ns
+      → take k r ≡ controlledAll table (take k ns) ls
+  control-lines-are ns k ls r e = ap (take k) e ∙ take-laid (controlledAll table (take k ns) ls) ns k (length-controlled (take k ns) ls)
+
+  pub control-more : (ns : List Note) (k i : ℕ) (d : Line) (ls : List Line) → i < length ls → (a r : List Note)
+      → a ≡ over (controlledAll table (take k ns) (take i ls)) ns → r ≡ over (controlsIn table (take k a) (getD ls i d .event)) a
+      → r ≡ over (controlledAll table (take k ns) (take (i + 1) ls)) ns
+  unfolding controlledAll
+  control-more ns k i d ls h a r p q =
+      let xs = controlledAll table (take k ns) (take i ls) in
+      let e = getD ls i d .event in
+      q ∙ (λ j. over (controlsIn table (control-lines-are ns k (take i ls) a p j) e) (p j))
+      ∙ over-over xs (controlsIn table xs e) ns (let n = length-controls xs e in omega (arith, n))
+      ∙ ap (λ (l : List Note). over l ns) (sym (fold-take (λ (ms : List Note) (l : Line). controlsIn table ms (l .event)) (take k ns) ls i d h))
+
   pub control-all : (ns : List Note) (ls : List Line) → each noteOf (controlledAll table ns ls) ≡ controlled (voices table code vals) (each noteOf ns) ls
   unfolding controlledAll controlled fold
   control-all ns [] = refl
@@ -104,6 +127,18 @@ module _ (table : List Instrument) (code : List ℕ) (vals : List Float) where
       ap (λ (b : Band Held). record { notes = withState m (v .run (m .state) mix .state) ∷ b .notes; mix = b .mix })
       (run-more ns n (v .run (m .state) mix .mix))
 
+  length-run : (ns : List (cycle.Note Held)) (mix : List Float) → length (runFrom (voices table code vals) ns mix .notes) ≡ length ns
+  unfolding runFrom
+  length-run [] mix = refl
+  length-run (n ∷ ns) mix = ap suc (length-run ns (voices table code vals .run (n .state) mix .mix))
+
+  pub run-notes-are : (ns : List Note) (k : ℕ) (mix : List Float) (r : List Note)
+      → r ≡ over (each structOf (runFrom (voices table code vals) (notesIn ns k) mix .notes)) ns
+      → notesIn r k ≡ runFrom (voices table code vals) (notesIn ns k) mix .notes
+  run-notes-are ns k mix r e =
+      ap (λ (l : List Note). notesIn l k) e
+      ∙ notes-laid (runFrom (voices table code vals) (notesIn ns k) mix .notes) ns k (length-run (notesIn ns k) mix ∙ length-each noteOf (take k ns))
+
   -- what a note's run gives
   ran-same : (n : Note) (mix : List Float)
       → (noteOf (ranNote code vals (instrumentIn table (n .instrument)) n mix) ≡ withState (noteOf n) (voices table code vals .run (noteOf n .state) mix .state))
@@ -125,10 +160,11 @@ module _ (table : List Instrument) (code : List ℕ) (vals : List Float) where
     pub long : length a ≡ 16
     pub samples : length mix ≡ length start
     pub are : bandIn a j mix ≡ runFrom (voices table code vals) (notesIn notes j) start
+    pub behind : drop j a ≡ drop j notes
 
   pub running-none : (notes : List Note) (mix : List Float) → length notes ≡ 16 → Running notes notes mix mix 0
   unfolding runFrom each
-  running-none notes mix h = record { long = h; samples = refl; are = refl }
+  running-none notes mix h = record { long = h; samples = refl; are = refl; behind = refl }
 
   pub running-step : (notes a : List Note) (start mix : List Float) (j : ℕ) (d : Note) → length notes ≡ 16 → j < 16
       → (f : Found) → f ≡ foundIn (getD notes j d .instrument) table
@@ -152,18 +188,29 @@ module _ (table : List Instrument) (code : List ℕ) (vals : List Float) where
             ∙ ap (λ (b : Band Held). ranOn b (noteOf n)) (r .are)
             ∙ sym (run-more (notesIn notes j) (noteOf n) start)
             ∙ ap (λ (l : List (cycle.Note Held)). runFrom v l start) (sym (one-more notes j d (omega arith)));
+        behind = drop-set-lt (j + 1) a j y (omega arith) ∙ drop-more a notes j (j + 1) (omega arith) (r .behind);
       }
 
   -- ---- step 3
 
-  pub start-instr : (position : ℕ) (l : Line) (s s′ : cycle.Started Held) (e : Event) (label : Label) (name : ℕ) (duration : Float)
+  pub start-instr : (position : ℕ) (l : Line) (s : cycle.Started Held) (e : Event) (label : Label) (name : ℕ) (duration : Float)
       → e ≡ Instr label name duration → (f : Found) → f ≡ foundIn name table
       → (n : Note) → n ≡ bornNote code vals (f .instrument) l position label name duration
-      → s′ ≡ joinedBy sixteen s (noteOf n) → s′ ≡ startedBy (voices table code vals) sixteen position l s e
-  start-instr position l s s′ e label name duration ee f ef n en q =
-      q ∙ ap (joinedBy sixteen s) (ap noteOf (en ∙ ap (λ (g : Found). bornNote code vals (g .instrument) l position label name duration) ef)
+      → joinedBy sixteen s (noteOf n) ≡ startedBy (voices table code vals) sixteen position l s e
+  start-instr position l s e label name duration ee f ef n en =
+      ap (joinedBy sixteen s) (ap noteOf (en ∙ ap (λ (g : Found). bornNote code vals (g .instrument) l position label name duration) ef)
       ∙ born-same position l label name duration)
       ∙ ap (startedBy (voices table code vals) sixteen position l s) (sym ee)
+
+  pub starting-more : (position : ℕ) (ns : List (cycle.Note Held)) (ls : List Line) (i : ℕ) (d : Line) (old : List Note) (v r : Started) → i < length ls
+      → Starting (started (voices table code vals) sixteen position ns (take i ls)) old v
+      → StartedBy (startedBy (voices table code vals) sixteen position (getD ls i d) (startedIn (v .notes) (v .count) (v .missed)) (getD ls i d .event)) v r
+      → Starting (started (voices table code vals) sixteen position ns (take (i + 1) ls)) old r
+  unfolding started
+  starting-more position ns ls i d old v r h p b =
+      let w = voices table code vals in
+      starting-step (λ (s : cycle.Started Held). startedBy w sixteen position (getD ls i d) s (getD ls i d .event)) _ _ old v r
+      (fold-take (λ (s : cycle.Started Held) (l : Line). startedBy w sixteen position l s (l .event)) _ ls i d h) p b
 
 -- ---- step 7
 
@@ -177,11 +224,6 @@ keep-each position (n ∷ ns) = go (goesOn position (noteOf n)) (keep-each posit
         ≡ cond b (noteOf n ∷ keep (goesOn position) (each noteOf ns)) (keep (goesOn position) (each noteOf ns))
     go true h = ap (λ (l : List (cycle.Note Held)). noteOf n ∷ l) h
     go false h = h
-
-pub struct-note : (ns : List Note) → each structOf (each noteOf ns) ≡ ns
-unfolding each
-struct-note [] = refl
-struct-note (n ∷ ns) = ap (λ (l : List Note). n ∷ l) (struct-note ns)
 
 -- the notes that go on, as the panel holds them
 pub going : (position : ℕ) (ns : List Note) → keep (goesOnIn position) ns ≡ each structOf (keep (goesOn position) (each noteOf ns))

@@ -14,7 +14,7 @@ use Rattle.players.specs.Cycle.{isLabelled, labelNumber}
 use Rattle.players.proofs.Lists.{cond-true, cond-false}
 use Rattle.synth.specs.Passes.{stretch, freshOf, once, Played, played}
 use Rattle.synth.specs.Room.{numbersIn, roomOf}
-use Rattle.synth.specs.Notes.{withValues}
+use Rattle.synth.specs.Notes.{newNote, withValues}
 use Rattle.synth.proofs.Rooms.{once-program, played-program}
 use Rattle.synth.specs.declared.Note.{Note}
 use Rattle.sounding.specs.Voices.{named, bornNote, controlledNote, kNote, ranNote, ranMix}
@@ -27,23 +27,23 @@ minus-one x = refl
 pub born-law : (code : List ℕ) (vals : List Float) (x : Instrument) (l : Line) (position : ℕ) (label : Label) (name : ℕ) (duration : Float)
     → (vs : List Float) → vs ≡ freshOf (take (l .count) (l .values)) → (t : ℕ) → t ≡ ticksIn duration
     → (lab : Bool) → lab ≡ isLabelled label → (num : ℕ) → num ≡ labelNumber label → (end : Bool) → end ≡ eq duration withoutEnd
-    → (room : List Float) → room ≡ roomOf vals → (r : Note) → r ≡ withValues (once (numbersIn room) (stretch (x .istart) (x .iend) code) vs)
-    (record { values = vs; labelled = lab; label = num; instrument = name; endless = end; end = position + t })
+    → (note : Note) → note ≡ newNote vs lab num name end (position + t)
+    → (room : List Float) → room ≡ roomOf vals → (r : Note) → r ≡ withValues (once (numbersIn room) (stretch (x .istart) (x .iend) code) (note .values)) note
     → r ≡ bornNote code vals x l position label name duration
 unfolding bornNote
-born-law code vals x l position label name duration vs e t f lab g num h end k room m r q =
+born-law code vals x l position label name duration vs e t f lab g num h end k note o room m r q =
     let ws = stretch (x .istart) (x .iend) code in
-    let n : Note = record { values = vs; labelled = lab; label = num; instrument = name; endless = end; end = position + t } in
-    q ∙ ap (λ (u : List Float). withValues (once (numbersIn u) ws vs) n) m ∙ ap (λ (u : List Float). withValues u n) (once-program vals ws vs)
-    ∙ (λ i. withValues (once vals ws (e i))
-    (record { values = e i; labelled = g i; label = h i; instrument = name; endless = k i; end = position + f i }))
+    let n : Note = newNote vs lab num name end (position + t) in
+    q ∙ ap (λ (y : Note). withValues (once (numbersIn room) ws (y .values)) y) o
+    ∙ ap (λ (u : List Float). withValues (once (numbersIn u) ws vs) n) m ∙ ap (λ (u : List Float). withValues u n) (once-program vals ws vs)
+    ∙ (λ i. newNote (once vals ws (e i)) (g i) (h i) name (k i) (position + f i))
 
 module _ (x : Instrument) (n : Note) (label variable : ℕ) (value : Float) where
   pub control-yes : n .labelled ≡ true → n .label ≡ label → (w : ℕ) → w ≡ variable → (vs : List Float) → vs ≡ named w value (x .imports) (n .values)
-      → withValues vs n ≡ controlledNote x n label variable value
+      → (r : Note) → r ≡ withValues vs n → r ≡ controlledNote x n label variable value
   unfolding controlledNote
-  control-yes a b w e vs q =
-      ap (λ (l : List Float). withValues l n) (q ∙ ap (λ (y : ℕ). named y value (x .imports) (n .values)) e)
+  control-yes a b w e vs q r p =
+      p ∙ ap (λ (l : List Float). withValues l n) (q ∙ ap (λ (y : ℕ). named y value (x .imports) (n .values)) e)
       ∙ sym (cond-true _ _ (ap (λ (t : Bool). t && eqb label (n .label)) a ∙ eq-eqb label (n .label) (sym b)))
 
   pub control-other : n .labelled ≡ true → (n .label ≡ label → ⊥) → n ≡ controlledNote x n label variable value

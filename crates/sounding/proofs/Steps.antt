@@ -1,25 +1,29 @@
 -- Laws for the loops and the notes, one for each way through the code.
-use mathlib.Core.Path.{_≡_, refl, sym, ap, _∙_}
+use mathlib.Core.Path.{_≡_, refl, sym, ap, _∙_, subst}
 use mathlib.Core.Bool.{true, false, cond}
-use mathlib.Core.List.{List, [], _∷_, _++_}
-use Prim.Native.Nat.{ℕ, zero, suc, _+_, _≤_, _<_, min}
+use mathlib.Core.List.{List, [], _∷_, _++_, append-nil}
+use Prim.Native.Nat.{ℕ, zero, suc, _+_, _-_, _≤_, _<_, min}
 use native.Mathlib.Omega.{arith}
+use native.Mathlib.Decide.{decLe}
 use native.Mathlib.Numerals.{add-one}
 use native.Mathlib.Nat.{le-of-suc-le-suc}
 use lib.Dec.{eqb}
 use lib.Ieee.{Float}
-use lib.ListN.{length, take, drop, getD, set, length-take}
-use lib.Seq.{take-suc, take-suc-set, drop-cons, take-all, length-take-le, getD-take}
+use lib.ListN.{length, take, drop, getD, set, length-take, length-set, take-append-drop}
+use lib.Seq.{take-suc, take-suc-set, take-at, drop-cons, drop-drop, drop-length, drop-set-lt, take-all, length-take-le, getD-take}
 use borrow.Author.Tests.{lt-ltb, le-ltb}
-use Rattle.players.specs.Lists.{each}
+use Rattle.players.specs.Lists.{each, over}
 use Rattle.players.specs.Cycle.{joinedBy}
 use Rattle.players.specs.Holds.{sixteen}
 use Rattle.players.specs.Cycle as cycle
 use Rattle.players.proofs.Lists.{cond-true, cond-false}
+use Rattle.players.proofs.Loops.{over-set}
 use Rattle.synth.specs.declared.Note.{Note}
-use Rattle.sounding.specs.Voices.{Held, blank, foundIn, named, noteOf, notesIn, startedIn}
+use Rattle.sounding.specs.Voices.{Held, blank, foundIn, named, noteOf, structOf, notesIn, startedIn, startedOver}
+use Rattle.sounding.specs.Started.{StartedBy}
 use Rattle.sounding.specs.declared.Instrument.{Instrument}
 use Rattle.sounding.specs.declared.Found.{Found}
+use Rattle.sounding.specs.declared.Started.{Started}
 
 -- ---- each
 
@@ -118,6 +122,137 @@ module _ (ns : List Note) (k m : ℕ) (x : Note) (long : length ns ≡ 16) where
   full h g =
       let c = count-in g in
       sym (cond-false _ _ (le-ltb (length (notesIn ns k)) sixteen (omega (arith, c))))
+
+-- ---- notes laid over an array
+
+pub drop-more : {A : Type 0} (xs ys : List A) (a b : ℕ) → a ≤ b → drop a xs ≡ drop a ys → drop b xs ≡ drop b ys
+drop-more {A} xs ys a b h e =
+    let n : a + (b - a) ≡ b = omega arith in
+    ap (λ (k : ℕ). drop k xs) (sym n) ∙ sym (drop-drop (b - a) a xs) ∙ ap (drop (b - a)) e ∙ drop-drop (b - a) a ys ∙ ap (λ (k : ℕ). drop k ys) n
+
+pub over-self : {A : Type 0} (k : ℕ) (l : List A) → l ≡ over (take k l) l
+over-self {A} k l = go (decLe k (length l))
+  where
+    go : Dec (k ≤ length l) → l ≡ over (take k l) l
+    go (yes h) = sym (ap (λ (n : ℕ). take k l ++ drop n l) (length-take-le k l h) ∙ take-append-drop k l)
+    go (no h) =
+        let e : take k l ≡ l = take-all k l (omega arith) in
+        sym (ap (λ (x : List A). x ++ drop (length x) l) e ∙ ap (λ (x : List A). l ++ x) (drop-length l) ∙ append-nil l)
+
+-- what was laid over the first k, by that number
+pub take-laid : {A : Type 0} (xs old : List A) (k : ℕ) → length xs ≡ length (take k old) → take k (over xs old) ≡ xs
+take-laid {A} xs old k e = go (decLe k (length old))
+  where
+    go : Dec (k ≤ length old) → take k (over xs old) ≡ xs
+    go (yes h) = take-at xs (drop (length xs) old) k (e ∙ length-take-le k old h)
+    go (no h) =
+        let n : length xs ≡ length old = e ∙ ap length (take-all k old (omega arith)) in
+        ap (λ (m : ℕ). take k (xs ++ drop m old)) n ∙ ap (λ (x : List A). take k (xs ++ x)) (drop-length old)
+        ∙ ap (take k) (append-nil xs) ∙ take-all k xs (omega arith)
+
+-- one more of an array's elements made into another
+pub each-over : {A : Type 0} (g : A → A) (l a : List A) (i : ℕ) (d y : A) → i < length l
+    → a ≡ over (each g (take i l)) l → y ≡ g (getD l i d) → set a i y ≡ over (each g (take (i + 1) l)) l
+each-over {A} g l a i d y h p q =
+    let x = getD l i d in
+    let n : length (each g (take i l)) ≡ i = length-each g (take i l) ∙ length-take-le i l (omega arith) in
+    let e : each g (take (i + 1) l) ≡ each g (take i l) ++ (g x ∷ []) =
+    ap (each g) (ap (λ (m : ℕ). take m l) (add-one i) ∙ take-suc l i d h) ∙ each-append g (take i l) (x ∷ [])
+    ∙ ap (λ (t : List A). each g (take i l) ++ t) (each-one g x) in
+    (λ j. set (p j) i (q j))
+    ∙ subst (λ (m : ℕ). set (over (each g (take i l)) l) m (g x) ≡ over (each g (take i l) ++ (g x ∷ [])) l) n
+    (over-set (each g (take i l)) l (g x) (omega (arith, n)))
+    ∙ ap (λ (t : List A). over t l) (sym e)
+
+pub struct-note : (ns : List Note) → each structOf (each noteOf ns) ≡ ns
+unfolding each
+struct-note [] = refl
+struct-note (n ∷ ns) = ap (λ (l : List Note). n ∷ l) (struct-note ns)
+
+note-struct : (ns : List (cycle.Note Held)) → each noteOf (each structOf ns) ≡ ns
+unfolding each
+note-struct [] = refl
+note-struct (n ∷ ns) = ap (λ (l : List (cycle.Note Held)). n ∷ l) (note-struct ns)
+
+pub notes-laid : (xs : List (cycle.Note Held)) (old : List Note) (k : ℕ) → length xs ≡ length (take k old)
+    → notesIn (over (each structOf xs) old) k ≡ xs
+notes-laid xs old k e = ap (each noteOf) (take-laid (each structOf xs) old k (length-each structOf xs ∙ e)) ∙ note-struct xs
+
+-- the first k notes of an array, and behind them what was there, are those notes laid over it
+pub laid-notes : (ns old : List Note) (k : ℕ) (xs : List (cycle.Note Held)) → k ≤ length ns → notesIn ns k ≡ xs → drop k ns ≡ drop k old
+    → (k ≡ length xs) × (ns ≡ over (each structOf xs) old)
+laid-notes ns old k xs h e b =
+    let n : length (take k ns) ≡ k = length-take-le k ns h in
+    let ts : take k ns ≡ each structOf xs = sym (struct-note (take k ns)) ∙ ap (each structOf) e in (
+      sym (sym (ap length ts ∙ length-each structOf xs) ∙ n),
+      sym (take-append-drop k ns) ∙ ap (λ (l : List Note). take k ns ++ l) (b ∙ ap (λ (m : ℕ). drop m old) (sym n)) ∙ ap (λ (l : List Note). over l old) ts,
+    )
+
+-- ---- what a due line starts
+
+pub start-none : (v : Started) → v .count ≤ 16 → StartedBy (startedIn (v .notes) (v .count) (v .missed)) v v
+start-none v h = record { are = refl; room = h; more = omega arith; few = omega arith; long = refl; behind = refl }
+
+module _ (s : cycle.Started Held) (v r : Started) (n : Note) (long : length (v .notes) ≡ 16) where
+  pub start-room : v .count < 16 → (r .notes ≡ set (v .notes) (v .count) n) × (r .count ≡ v .count + 1) × (r .missed ≡ v .missed)
+      → joinedBy sixteen (startedIn (v .notes) (v .count) (v .missed)) (noteOf n) ≡ s → StartedBy s v r
+  start-room h e q =
+      record {
+        are = (λ i. startedIn (e .0 i) (e .1 i) (e .2 i)) ∙ room (v .notes) (v .count) (v .missed) n long h ∙ q;
+        room = omega (arith, e .1);
+        more = omega (arith, e .1);
+        few = omega (arith, e .2);
+        long = ap length (e .0) ∙ length-set (v .notes) (v .count) n;
+        behind = ap (drop (r .count)) (e .0) ∙ drop-set-lt (r .count) (v .notes) (v .count) n (omega (arith, e .1));
+      }
+
+  pub start-full : 16 ≤ v .count → v .count ≤ 16 → (r .notes ≡ v .notes) × (r .count ≡ v .count) × (r .missed ≡ v .missed + 1)
+      → joinedBy sixteen (startedIn (v .notes) (v .count) (v .missed)) (noteOf n) ≡ s → StartedBy s v r
+  start-full h g e q =
+      record {
+        are = (λ i. startedIn (e .0 i) (e .1 i) (e .2 i)) ∙ full (v .notes) (v .count) (v .missed) n long h g ∙ q;
+        room = omega (arith, e .1);
+        more = omega (arith, e .1);
+        few = omega (arith, e .2);
+        long = ap length (e .0);
+        behind = ap (drop (r .count)) (e .0);
+      }
+
+-- the notes that sound after some lines
+pub record Starting (s : cycle.Started Held) (old : List Note) (v : Started) : Type 0 where
+  pub are : startedIn (v .notes) (v .count) (v .missed) ≡ s
+  pub room : v .count ≤ 16
+  pub long : length (v .notes) ≡ 16
+  pub behind : drop (v .count) (v .notes) ≡ drop (v .count) old
+
+pub starting-none : (v : Started) → length (v .notes) ≡ 16 → v .count ≤ 16
+    → Starting (startedIn (v .notes) (v .count) (v .missed)) (v .notes) v
+starting-none v long room = record { are = refl; room = room; long = long; behind = refl }
+
+pub starting-step : (f : cycle.Started Held → cycle.Started Held) (s s′ : cycle.Started Held) (old : List Note) (v r : Started)
+    → s′ ≡ f s → Starting s old v → StartedBy (f (startedIn (v .notes) (v .count) (v .missed))) v r → Starting s′ old r
+starting-step f s s′ old v r e p b =
+    record {
+      are = b .are ∙ ap f (p .are) ∙ sym e;
+      room = b .room;
+      long = b .long ∙ p .long;
+      behind = b .behind ∙ drop-more (v .notes) old (v .count) (r .count) (b .more) (p .behind);
+    }
+
+pub starting-end : (s : cycle.Started Held) (old : List Note) (v : Started) → Starting s old v → v ≡ startedOver s old
+unfolding startedOver
+starting-end s old v p =
+    let l = laid-notes (v .notes) old (v .count) (s .notes) (omega (arith, p .long, p .room)) (ap (λ (x : cycle.Started Held). x .notes) (p .are)) (p .behind) in
+    λ i. record { notes = l .1 i; count = l .0 i; missed = p .are i .missed }
+
+-- ---- for callers
+
+pub started-are : (s : cycle.Started Held) (old : List Note) (r : Started) → r ≡ startedOver s old → startedIn (r .notes) (r .count) (r .missed) ≡ s
+unfolding startedOver
+started-are s old r e =
+    ap (λ (x : Started). startedIn (x .notes) (x .count) (x .missed)) e
+    ∙ ap (λ (ns : List (cycle.Note Held)). record { notes = ns; missed = s .missed })
+    (ap (each noteOf) (take-at (each structOf (s .notes)) _ (length (s .notes)) (length-each structOf (s .notes))) ∙ note-struct (s .notes))
 
 -- ---- a loop up to a count that stays within the array
 

@@ -2,7 +2,7 @@
 use mathlib.Core.Bool.{Bool, true, false, cond, _&&_}
 use mathlib.Core.List.{List, [], _∷_}
 use Prim.Native.Nat.{ℕ, _+_}
-use lib.ListN.{replicate, take}
+use lib.ListN.{length, replicate, take}
 use lib.Dec.{eqb}
 use lib.Ieee.{Float, eq}
 use Rattle.timebase.specs.Time.{ticksIn, endless as withoutEnd}
@@ -11,15 +11,16 @@ use Rattle.score_line.specs.declared.Event.the-variants.{Instr, Control, End, T
 use Rattle.score_line.specs.declared.Label.{Label}
 use Rattle.score_line.specs.declared.Line.{Line}
 use Rattle.synth.specs.Passes.{stretch, freshOf, once, played}
-use Rattle.synth.specs.Notes.{withValues}
+use Rattle.synth.specs.Notes.{newNote, withValues}
 use Rattle.synth.specs.declared.Note.{Note}
 use Rattle.waiting.specs.declared.Fields.{Fields}
 use Rattle.waiting.specs.declared.Fields.the-variants.{Count, NoSuch}
-use Rattle.players.specs.Lists.{each, fold}
+use Rattle.players.specs.Lists.{each, fold, over}
 use Rattle.players.specs.Cycle.{Voices, isLabelled, labelNumber, goesOn}
 use Rattle.players.specs.Cycle as cycle
 use Rattle.sounding.specs.declared.Instrument.{Instrument}
 use Rattle.sounding.specs.declared.Found.{Found}
+use Rattle.sounding.specs.declared.Started.{Started}
 
 -- what a note holds of its instrument and names
 pub record Held : Type 0 where
@@ -131,6 +132,10 @@ notesIn ns n = each noteOf (take n ns)
 abbrev pub startedIn : List Note → ℕ → ℕ → cycle.Started Held
 startedIn ns n missed = record { notes = notesIn ns n; missed = missed }
 
+-- notes laid over the array, and how many were missed
+unfoldable pub startedOver : cycle.Started Held → List Note → Started
+startedOver s old = record { notes = over (each structOf (s .notes)) old; count = length (s .notes); missed = s .missed }
+
 abbrev pub bandIn : List Note → ℕ → List Float → cycle.Band Held
 bandIn ns n mix = record { notes = notesIn ns n; mix = mix }
 
@@ -139,15 +144,8 @@ bandIn ns n mix = record { notes = notesIn ns n; mix = mix }
 -- the note that a line starts, its i pass run
 unfoldable pub bornNote : List ℕ → List Float → Instrument → Line → ℕ → Label → ℕ → Float → Note
 bornNote code vals x l position label name duration =
-    withValues (once vals (stretch (x .istart) (x .iend) code) (freshOf (take (l .count) (l .values))))
-    (record {
-      values = freshOf (take (l .count) (l .values));
-      labelled = isLabelled label;
-      label = labelNumber label;
-      instrument = name;
-      endless = eq duration withoutEnd;
-      end = position + ticksIn duration;
-    })
+    newNote (once vals (stretch (x .istart) (x .iend) code) (freshOf (take (l .count) (l .values)))) (isLabelled label) (labelNumber label) name
+    (eq duration withoutEnd) (position + ticksIn duration)
 
 unfoldable pub controlledNote : Instrument → Note → ℕ → ℕ → Float → Note
 controlledNote x n label variable value =

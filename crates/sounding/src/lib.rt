@@ -10,13 +10,14 @@ ghost use mathlib.Core.Bool.{cond};
 ghost use Prim.Native.Nat.{_<_, _≤_, _+_, min};
 ghost use lib.Dec.{T};
 ghost use lib.Ieee.{binary32, fits};
-ghost use lib.ListN.{length, take};
+ghost use lib.ListN.{length, take, set};
 ghost use Rattle.players.specs.Lists.{keep, each, over};
-ghost use Rattle.players.specs.Cycle.{goesOn, joinedBy, startedBy, started, isLabelled, labelNumber, runFrom};
+ghost use Rattle.players.specs.Cycle.{farthest, goesOn, startedBy, started, isLabelled, labelNumber, runFrom};
 ghost use Rattle.players.specs.Holds.{sixteen};
 ghost use Rattle.synth.specs.Passes.{freshOf};
 ghost use Rattle.synth.specs.Room.{numbersIn};
-ghost use Rattle.sounding.specs.Voices.{voices, foundIn, fieldsIn, named, noteOf, notesIn, startedIn, bornNote, controlledNote, controlledIn, controlsIn, controlledAll, ranNote, ranMix, goesOnIn};
+ghost use Rattle.sounding.specs.Voices.{voices, foundIn, fieldsIn, named, noteOf, structOf, notesIn, startedIn, startedOver, bornNote, controlledNote, controlledIn, controlsIn, controlledAll, ranNote, ranMix, goesOnIn};
+ghost use Rattle.sounding.specs.Started.{StartedBy};
 
 // An instrument of the program: its name, how many fields it has, its instructions for the i, k and a passes, from one number
 // up to another, and at each place the name of the imports ksig there, or a number above 65,535.
@@ -40,21 +41,33 @@ pub struct Found {
 
 // The notes that sound, from the first on, and how many were missed.
 pub struct Started {
-    pub notes: [Note; 16],
+    pub notes: [Note; MOST_NOTES],
     pub count: usize,
     pub missed: usize,
 }
 
 // Some of 16 notes, from the first on.
 pub struct Notes {
-    pub notes: [Note; 16],
+    pub notes: [Note; MOST_NOTES],
     pub count: usize,
 }
+
+// Most notes that sound at once.
+const MOST_NOTES: usize = 16;
+
+// The limit on position.
+const FARTHEST: u64 = 1000000000000;
 
 fn within(n: usize, most: usize) -> usize
     ensures { λ r. ⌜ r ≡ min n most ⌝ }
 {
     if n < most { n } else { most }
+}
+
+fn at_most(position: u64, most: u64) -> u64
+    ensures { λ r. ⌜ r ≡ min position most ⌝ }
+{
+    if position < most { position } else { most }
 }
 
 // The instrument with a name among the first n; else a blank one.
@@ -182,48 +195,53 @@ fn note_of<'a>(
     instrument: u16,
     duration: f32,
 ) -> Note
-    requires { ⌜ position ≤ 1000000000000 ⌝ }
+    requires { ⌜ position ≤ farthest ⌝ }
     ensures { λ r. ⌜ r ≡ bornNote (now (code .entry)) (now (vals .entry)) x l position label instrument duration ⌝ }
 {
     let given = l.values;
     let values = fresh_values(given, l.count);
     let ticks = timebase::beats_to_ticks(duration);
-    let note = Note {
-        values: values,
-        labelled: is_labelled(label),
-        label: label_number(label),
-        instrument: instrument,
-        endless: duration == -1.0,
-        end: position + ticks,
-    };
+    let note = synth::new_note(
+        values,
+        is_labelled(label),
+        label_number(label),
+        instrument,
+        duration == -1.0,
+        position + ticks,
+    );
     let mut room = synth::room(vals);
     synth::passed(code, x.istart, x.iend, &mut room, note)
 }
 
-// One note more, or one more missed where 16 sound.
+// One note more; there is room for it.
 fn with_note(v: Started, n: Note) -> Started
-    requires { ⌜ (v .count ≤ 16) × (v .missed < 1000) ⌝ }
-    ensures { λ r. ⌜ (r .count ≤ 16) × (r .missed ≤ v .missed + 1) × (startedIn (r .notes) (r .count) (r .missed) ≡ joinedBy sixteen (startedIn (v .notes) (v .count) (v .missed)) (noteOf n)) ⌝ }
+    requires { ⌜ v .count < 16 ⌝ }
+    ensures { λ r. ⌜ (r .notes ≡ set (v .notes) (v .count) n) × (r .count ≡ v .count + 1) × (r .missed ≡ v .missed) ⌝ }
 {
     let k = v.count;
-    let m = v.missed;
     let mut a = v.notes;
-    if k < 16 {
-        a[k] = n;
-        return Started {
-            notes: a,
-            count: k + 1,
-            missed: m,
-        };
-    }
+    a[k] = n;
     Started {
         notes: a,
-        count: k,
-        missed: m + 1,
+        count: k + 1,
+        missed: v.missed,
     }
 }
 
-// What a due line starts: an instr line a note.
+// One more missed.
+fn with_miss(v: Started) -> Started
+    requires { ⌜ v .missed < 64 ⌝ }
+    ensures { λ r. ⌜ (r .notes ≡ v .notes) × (r .count ≡ v .count) × (r .missed ≡ v .missed + 1) ⌝ }
+{
+    let notes = v.notes;
+    Started {
+        notes: notes,
+        count: v.count,
+        missed: v.missed + 1,
+    }
+}
+
+// What a due line starts: an instr line a note, where fewer than the most notes sound.
 fn start_line<'a>(
     table: [Instrument; 8],
     n: usize,
@@ -233,8 +251,8 @@ fn start_line<'a>(
     l: Line,
     position: u64,
 ) -> Started
-    requires { ⌜ (v .count ≤ 16) × (v .missed < 1000) × (position ≤ 1000000000000) ⌝ }
-    ensures { λ r. ⌜ (r .count ≤ 16) × (r .missed ≤ v .missed + 1) × (startedIn (r .notes) (r .count) (r .missed) ≡ startedBy (voices (take n table) (now (code .entry)) (now (vals .entry))) sixteen position l (startedIn (v .notes) (v .count) (v .missed)) (l .event)) ⌝ }
+    requires { ⌜ (v .count ≤ 16) × (v .missed < 64) × (position ≤ farthest) ⌝ }
+    ensures { λ r. ⌜ StartedBy (startedBy (voices (take n table) (now (code .entry)) (now (vals .entry))) sixteen position l (startedIn (v .notes) (v .count) (v .missed)) (l .event)) v r ⌝ }
 {
     let e = l.event;
     match e {
@@ -243,12 +261,13 @@ fn start_line<'a>(
             instrument,
             duration,
         } => {
-            let f = find(table, n, instrument);
-            let x = f.instrument;
-            with_note(
-                v,
-                note_of(code, vals, x, l, position, label, instrument, duration),
-            )
+            if v.count < MOST_NOTES {
+                let f = find(table, n, instrument);
+                let x = f.instrument;
+                let note = note_of(code, vals, x, l, position, label, instrument, duration);
+                return with_note(v, note);
+            }
+            with_miss(v)
         }
         Event::Control {
             label: _,
@@ -260,31 +279,31 @@ fn start_line<'a>(
     }
 }
 
-// Step 3: each instr line among the first m starts a note.
+// Step 3: each instr line among the first m starts a note. A position past the limit counts as the limit.
 pub fn start_notes<'a>(
     table: [Instrument; 8],
     n: usize,
     code: &'a [u64],
     vals: &'a [f32],
-    notes: [Note; 16],
+    notes: [Note; MOST_NOTES],
     sounding: usize,
     lines: [Line; 64],
     m: usize,
     position: u64,
 ) -> Started
-    requires { ⌜ position ≤ 1000000000000 ⌝ }
-    ensures { λ r. ⌜ (r .count ≤ 16) × (r .missed ≤ 64) × (startedIn (r .notes) (r .count) (r .missed) ≡ started (voices (take n table) (now (code .entry)) (now (vals .entry))) sixteen position (notesIn notes sounding) (take m lines)) ⌝ }
+    ensures { λ r. ⌜ (r ≡ startedOver (started (voices (take n table) (now (code .entry)) (now (vals .entry))) sixteen (min position farthest) (notesIn notes sounding) (take m lines)) notes) × (r .missed ≤ 64) ⌝ }
 {
     let w = within(m, 64);
+    let p = at_most(position, FARTHEST);
     let mut v = Started {
         notes: notes,
-        count: within(sounding, 16),
+        count: within(sounding, MOST_NOTES),
         missed: 0,
     };
     let mut i: usize = 0;
     while i < w {
         let l = lines[i];
-        v = start_line(table, n, code, vals, v, l, position);
+        v = start_line(table, n, code, vals, v, l, p);
         i += 1;
     }
     v
@@ -299,20 +318,13 @@ fn controlled_note(x: Instrument, n: Note, label: u16, variable: u16, value: f32
             let values = n.values;
             let imports = x.imports;
             let held = set_named(values, imports, wide(variable), value);
-            return Note {
-                values: held,
-                labelled: n.labelled,
-                label: n.label,
-                instrument: n.instrument,
-                endless: n.endless,
-                end: n.end,
-            };
+            return synth::with_values(n, held);
         }
     }
     n
 }
 
-// A control line's effect on the first notes.
+// A control line's effect on the first notes; what lies behind them stays.
 fn control_notes(
     table: [Instrument; 8],
     n: usize,
@@ -321,10 +333,10 @@ fn control_notes(
     variable: u16,
     value: f32,
 ) -> Notes
-    ensures { λ r. ⌜ (r .count ≡ v .count) × (take (r .count) (r .notes) ≡ each (controlledIn (take n table) label variable value) (take (v .count) (v .notes))) ⌝ }
+    ensures { λ r. ⌜ (r .count ≡ v .count) × (r .notes ≡ over (each (controlledIn (take n table) label variable value) (take (v .count) (v .notes))) (v .notes)) ⌝ }
 {
     let notes = v.notes;
-    let m = within(v.count, 16);
+    let m = within(v.count, MOST_NOTES);
     let mut a = notes;
     let mut j: usize = 0;
     while j < m {
@@ -342,7 +354,7 @@ fn control_notes(
 }
 
 fn control_line(table: [Instrument; 8], n: usize, v: Notes, l: Line) -> Notes
-    ensures { λ r. ⌜ (r .count ≡ v .count) × (take (r .count) (r .notes) ≡ controlsIn (take n table) (take (v .count) (v .notes)) (l .event)) ⌝ }
+    ensures { λ r. ⌜ (r .count ≡ v .count) × (r .notes ≡ over (controlsIn (take n table) (take (v .count) (v .notes)) (l .event)) (v .notes)) ⌝ }
 {
     let e = l.event;
     match e {
@@ -361,7 +373,7 @@ fn control_line(table: [Instrument; 8], n: usize, v: Notes, l: Line) -> Notes
     }
 }
 
-// Step 4: each control line among the first m, in order.
+// Step 4: each control line among the first m, in order; what lies behind the notes stays.
 pub fn control_lines(
     table: [Instrument; 8],
     n: usize,
@@ -369,7 +381,7 @@ pub fn control_lines(
     lines: [Line; 64],
     m: usize,
 ) -> Notes
-    ensures { λ r. ⌜ (r .count ≡ notes .count) × (take (r .count) (r .notes) ≡ controlledAll (take n table) (take (notes .count) (notes .notes)) (take m lines)) ⌝ }
+    ensures { λ r. ⌜ (r .count ≡ notes .count) × (r .notes ≡ over (controlledAll (take n table) (take (notes .count) (notes .notes)) (take m lines)) (notes .notes)) ⌝ }
 {
     let w = within(m, 64);
     let mut v = notes;
@@ -398,20 +410,20 @@ fn goes_on(n: Note, position: u64) -> bool
     if n.endless { true } else { position < n.end }
 }
 
-// Step 5: the first notes run, oldest first, each adding its outputs to the mix.
+// Step 5: the first notes run, oldest first, each adding its outputs to the mix; what lies behind them stays.
 pub fn run_notes<'a>(
     table: [Instrument; 8],
     n: usize,
     code: &'a [u64],
     vals: &'a [f32],
-    notes: [Note; 16],
+    notes: [Note; MOST_NOTES],
     count: usize,
     mix: &mut [f32],
-) -> [Note; 16]
-    ensures notes { λ r. ⌜ notesIn r count ≡ runFrom (voices (take n table) (now (code .entry)) (now (vals .entry))) (notesIn notes count) (now (mix .entry)) .notes ⌝ }
+) -> [Note; MOST_NOTES]
+    ensures notes { λ r. ⌜ r ≡ over (each structOf (runFrom (voices (take n table) (now (code .entry)) (now (vals .entry))) (notesIn notes count) (now (mix .entry)) .notes)) notes ⌝ }
     ensures mix { λ r. ⌜ now (mix .exit) ≡ runFrom (voices (take n table) (now (code .entry)) (now (vals .entry))) (notesIn notes count) (now (mix .entry)) .mix ⌝ }
 {
-    let m = within(count, 16);
+    let m = within(count, MOST_NOTES);
     let mut room = synth::room(vals);
     let mut a = notes;
     let mut j: usize = 0;
@@ -427,10 +439,10 @@ pub fn run_notes<'a>(
 }
 
 // Step 7: the notes that go on, in order; what lies behind them stays.
-pub fn remaining(notes: [Note; 16], count: usize, position: u64) -> Notes
+pub fn remaining(notes: [Note; MOST_NOTES], count: usize, position: u64) -> Notes
     ensures { λ r. ⌜ (r .count ≡ length (keep (goesOnIn position) (take count notes))) × (r .notes ≡ over (keep (goesOnIn position) (take count notes)) notes) × (r .count ≤ 16) ⌝ }
 {
-    let m = within(count, 16);
+    let m = within(count, MOST_NOTES);
     let mut a = notes;
     let mut k: usize = 0;
     let mut i: usize = 0;
@@ -446,10 +458,10 @@ pub fn remaining(notes: [Note; 16], count: usize, position: u64) -> Notes
 }
 
 // The first notes of an array laid over another.
-pub fn laid(new: [Note; 16], count: usize, old: [Note; 16]) -> [Note; 16]
+pub fn laid(new: [Note; MOST_NOTES], count: usize, old: [Note; MOST_NOTES]) -> [Note; MOST_NOTES]
     ensures { λ r. ⌜ r ≡ over (take count new) old ⌝ }
 {
-    let m = within(count, 16);
+    let m = within(count, MOST_NOTES);
     let mut a = old;
     let mut i: usize = 0;
     while i < m {

@@ -1,4 +1,3 @@
-use mathlib.Core.Path.{sym}
 use Rattle.players.specs.Lists.{each}
 use Rattle.players.specs.Cycle.{Band, runFrom}
 use Rattle.sounding.specs.Voices.{Held, noteOf}
@@ -13,6 +12,7 @@ use Rattle.synth.specs.declared.Note.{Note}
 use Rattle.sounding.specs.Voices.{voices, notesIn}
 use Rattle.synth.specs.Room.{numbersIn, roomOf}
 use Rattle.sounding.proofs.OneNote.{ran-here, mixed-here}
+use Rattle.sounding.proofs.Steps.{laid-notes}
 use Rattle.sounding.proofs.Band.{Running, running-none, running-step}
 use Rattle.sounding.proofs.run_notes.Statement.{statement}
 use Rattle.sounding.proofs.run_notes.Tie as tie
@@ -82,8 +82,7 @@ returns c = let s = c .before .before .before .before .before .before .before in
     let v = voices (take (s .args .n) (s .args .table)) (s .args .code .now) (s .args .vals .now) in
     let e : runFrom v (notesIn (s .args .t5) (c .before .loop .j)) (s .args .mix .now) ≡ runFrom v (notesIn (s .args .t5) (s .args .count)) (s .args .mix .now) =
     ap (λ (l : List Note). runFrom v (each noteOf l) (s .args .mix .now)) (take-end (s .args .t5) (s .args .count) 16 _ (s .good .1 .1 .1 .1 .0 .1 .0 .1) _ w i (c .loop-test .left)) in (
-      ap (each noteOf) (sym (take-end (c .before .loop .a) (s .args .count) 16 _ (r .long) _ w i (c .loop-test .left)))
-          ∙ ap (λ (b : Band Held). b .notes) (r .are ∙ e),
+      laid-notes (c .before .loop .a) (s .args .t5) (c .before .loop .j) _ (omega (arith, r .long, w, i)) (ap (λ (b : Band Held). b .notes) (r .are ∙ e)) (r .behind) .1,
       ap (λ (b : Band Held). b .mix) (r .are ∙ e),
     )
 
