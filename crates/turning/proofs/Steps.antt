@@ -2,7 +2,8 @@
 use mathlib.Core.Path.{_≡_, sym, ap, _∙_}
 use mathlib.Core.Bool.{false}
 use mathlib.Core.List.{List}
-use Prim.Native.Nat.{ℕ, _+_, min}
+use Prim.Native.Nat.{ℕ, _+_, _≤_, min}
+use native.Mathlib.Omega.{arith}
 use lib.IntN.{ℤ}
 use lib.Ieee.{Float}
 use lib.ListN.{length, take}
@@ -12,12 +13,13 @@ use Rattle.limiter.specs.Block as block
 use Rattle.score_line.specs.declared.Line.{Line}
 use Rattle.synth.specs.declared.Note.{Note}
 use Rattle.players.specs.Lists.{each, keep, over}
-use Rattle.players.specs.Cycle.{Voices, Band, Started, lastTempo, started, controlled, runAll, goesOn}
+use Rattle.players.specs.Cycle.{Voices, Band, Started, farthest, lastTempo, started, controlled, runAll, goesOn}
 use Rattle.players.specs.Cycle as cycle
 use Rattle.players.specs.Holds.{Plays, settingsOf, sixteen, startedOf, bandOf, capped, played}
-use Rattle.sounding.specs.Voices.{Held, voices, noteOf, structOf, notesIn, startedIn as startedNotes, controlledAll, goesOnIn}
+use Rattle.sounding.specs.Voices.{Held, voices, noteOf, structOf, notesIn, startedIn as startedNotes, startedOver, controlledAll, goesOnIn}
 use Rattle.sounding.specs.declared.Instrument.{Instrument}
-use Rattle.sounding.proofs.Steps.{length-each}
+use Rattle.sounding.specs.declared.Started.{Started as Starts}
+use Rattle.sounding.proofs.Steps.{length-each, started-are}
 use Rattle.sounding.proofs.Band.{control-all, going as going-as}
 use Rattle.turning.specs.Steps.{playsOf, laidOver, advanced, performedOf}
 use Rattle.turning.specs.declared.Performed.{Performed}
@@ -35,6 +37,12 @@ module _ (table : List Instrument) (code : List ℕ) (vals : List Float) (ceilin
 
   abbrev band : Band Held
   band = bandOf v (settingsOf ceiling) due (playsOf p)
+
+  pub born-law : (r : Starts) → r ≡ startedOver (started v sixteen (min (p .position) farthest) (notesIn old (p .notes .count)) due) old
+      → p .position ≤ farthest → startedNotes (r .notes) (r .count) (r .missed) ≡ born
+  born-law r e h =
+      let near : min (p .position) farthest ≡ p .position = omega arith in
+      started-are _ old r e ∙ ap (λ (n : ℕ). started v sixteen n (notesIn old (p .notes .count)) due) near
 
   -- the controlled notes that the run starts from
   band-law : (vn : List Note) (vc vm : ℕ) → startedNotes vn vc vm ≡ born

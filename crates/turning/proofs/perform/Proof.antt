@@ -1,7 +1,10 @@
+use mathlib.Core.Path.{ap, _∙_}
+use Prim.Native.Nat.{ℕ}
 use lib.ListN.{take}
+use Rattle.sounding.proofs.Band.{control-lines-are}
 use native.Mathlib.Omega.{arith}
 use borrow.Author.Needs.{needs}
-use Rattle.turning.proofs.Steps.{perform-law, block-law}
+use Rattle.turning.proofs.Steps.{born-law, perform-law, block-law}
 use Rattle.turning.proofs.perform.Statement.{statement}
 use Rattle.turning.proofs.perform.Tie as tie
 
@@ -37,11 +40,13 @@ returns c = let s = c .before .before .before .before .before .before .before .b
     let v = c .before .before .before .before .before .before .before .before .before .before .start-notes .result in
     let k′ = c .before .before .before .before .before .before .before .before .control-lines .result in
     let h′ = c .before .before .before .before .before .before .sound .result in
-    let g′ = c .before .before .before .remaining .result in (
-      perform-law t (a .code .now) (a .vals .now) (a .ceiling) (a .p) due (v .notes) (v .count) (v .missed) (s .2)
-          (k′ .notes) (k′ .count) (k .1) (h′ .notes) (h′ .count) (h .0 .1) (g′ .notes) (g′ .count) (g .0) (g .1) _ (c .before .laid .ensures) _ (c .counted .ensures),
-      block-law t (a .code .now) (a .vals .now) (a .ceiling) (a .p) due (v .notes) (v .count) (v .missed) (s .2)
-          (k′ .notes) (k′ .count) (k .1) (a .block .now) _ (h .1),
+    let g′ = c .before .before .before .remaining .result in
+    let b = born-law t (a .code .now) (a .vals .now) (a .ceiling) (a .p) due v (s .0) (c .before .before .before .before .before .before .before .before .before .before .before .before .before .before .before .before .pre) in
+    let controlled = ap (λ (n : ℕ). take n (k′ .notes)) (k .0) ∙ control-lines-are t (a .code .now) (a .vals .now) (v .notes) (v .count) due (k′ .notes) (k .1) in (
+      perform-law t (a .code .now) (a .vals .now) (a .ceiling) (a .p) due (v .notes) (v .count) (v .missed) b
+          (k′ .notes) (k′ .count) controlled (h′ .notes) (h′ .count) (h .0 .1) (g′ .notes) (g′ .count) (g .0) (g .1) _ (c .before .laid .ensures) _ (c .counted .ensures),
+      block-law t (a .code .now) (a .vals .now) (a .ceiling) (a .p) due (v .notes) (v .count) (v .missed) b
+          (k′ .notes) (k′ .count) controlled (a .block .now) _ (h .1),
     )
 
 pub perform-spec : {M : Type 1} → statement M

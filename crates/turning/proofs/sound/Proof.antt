@@ -2,8 +2,10 @@ use mathlib.Core.Path.{refl, ap, _∙_}
 use borrow.Author.Needs.{needs}
 use mathlib.Core.List.{List}
 use lib.Ieee.{Float}
+use lib.ListN.{take}
 use Rattle.limiter.specs.Block.{limited}
 use Rattle.players.specs.Cycle.{runAll}
+use Rattle.sounding.proofs.Band.{run-notes-are}
 use Rattle.turning.proofs.sound.Statement.{statement}
 use Rattle.turning.proofs.sound.Tie as tie
 
@@ -26,7 +28,7 @@ returns : tie.Need-returns
 unfolding runAll
 returns c = let g = c .before .before .before .before .before .run-notes .ensures in
     let a = c .before .before .before .before .before .before .before .before .before .before .args in
-    ((refl, g .0), c .before .limit .ensures ∙ ap (λ (m : List Float). limited (a .ceiling) m (a .block .now)) (g .1))
+    ((refl, run-notes-are (take (a .n) (a .table)) (a .code .now) (a .vals .now) (a .v .notes) (a .v .count) _ _ (g .0)), c .before .limit .ensures ∙ ap (λ (m : List Float). limited (a .ceiling) m (a .block .now)) (g .1))
 
 pub sound-spec : {M : Type 1} → statement M
 sound-spec =

@@ -1,5 +1,6 @@
 use mathlib.Core.Path.{sym, _∙_}
 use borrow.Author.Needs.{needs}
+use Rattle.players.proofs.Loops.{take-over}
 use Rattle.turning.specs.Turn.{stopped}
 use Rattle.turning.proofs.Turning.{near-law, turn-stops, turn-plays, block-stays, block-plays}
 use Rattle.turning.proofs.turn.Statement.{statement}
@@ -13,7 +14,8 @@ is-over-requires c κs = search needs
 
 returns : tie.Need-returns
 unfolding stopped
-returns c = let due = c .before .before .due-lines .ensures .1 in
+returns c = let d = c .before .before .due-lines .ensures in
+    let due = take-over _ _ (d .0) (d .1) in
     let over = c .before .is-over .ensures in
     (turn-stops _ _ _ _ due _ over (c .if1 .taken), block-stays _ _ _ _ due _ over _ (c .if1 .taken))
 
@@ -27,7 +29,8 @@ same-length : tie.Need-same-length
 same-length c = search needs
 
 returns-2 : tie.Need-returns-2
-returns-2 c = let due = c .before .before .before .before .before .before .due-lines .ensures .1 in
+returns-2 c = let d = c .before .before .before .before .before .before .due-lines .ensures in
+    let due = take-over _ _ (d .0) (d .1) in
     let over = c .before .before .before .before .before .is-over .ensures in
     let on = c .before .before .before .before .if1 .left in
     let left = c .before .before .advance .ensures in
