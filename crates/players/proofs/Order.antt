@@ -49,6 +49,7 @@ level-turned s a t b = go (ℕ-discrete a b)
     same true false n = refl
     same false true n = refl
     same false false n = refl
+
     go : Dec (a ≡ b) → level s a t b ≡ level t b s a
     go (yes e) = subst (λ (n : ℕ). level s a t n ≡ level t n s a) e (same s t a)
     go (no n) =
@@ -154,20 +155,24 @@ at-more w x (y ∷ ys) h = go (earlier (x .when) (y .when)) refl (at-more w x ys
   where
     f : Line → Bool
     f l = sameTime w (l .when)
+
     gone : earlier (x .when) (y .when) ≡ true → f x ≡ true → atTime w (y ∷ ys) ≡ []
     gone e q =
         keep-none f (y ∷ ys) (
           not-same w (x .when) (y .when) (y .when) e (may-itself (y .when)) q,
           all-map _ _ (λ z k. not-same w (x .when) (y .when) (z .when) e k q) ys (h .0),
         )
+
     before : (b : Bool) → f x ≡ b → earlier (x .when) (y .when) ≡ true
         → cond b (x ∷ atTime w (y ∷ ys)) (atTime w (y ∷ ys)) ≡ atTime w (y ∷ ys) ++ cond b (x ∷ []) []
     before true q e = ap (λ (l : List Line). x ∷ l) (gone e q) ∙ ap (λ (l : List Line). l ++ (x ∷ [])) (sym (gone e q))
     before false q e = sym (append-nil _)
+
     behind : (b : Bool) → atTime w (insert x ys) ≡ atTime w ys ++ atTime w (x ∷ [])
         → cond b (y ∷ atTime w (insert x ys)) (atTime w (insert x ys)) ≡ cond b (y ∷ atTime w ys) (atTime w ys) ++ atTime w (x ∷ [])
     behind true r = ap (λ (l : List Line). y ∷ l) r
     behind false r = r
+
     go : (b : Bool) → earlier (x .when) (y .when) ≡ b → atTime w (insert x ys) ≡ atTime w ys ++ atTime w (x ∷ [])
         → atTime w (cond b (x ∷ y ∷ ys) (y ∷ insert x ys)) ≡ atTime w (y ∷ ys) ++ atTime w (x ∷ [])
     go true e r = before (f x) refl e
@@ -260,8 +265,10 @@ heads x xs y ys m n h k q = go (sameTime (x .when) (y .when)) refl
   where
     own : x ∷ atTime (x .when) xs ≡ atTime (x .when) (y ∷ ys)
     own = sym (at-head x xs (x .when) (same-itself (x .when) m)) ∙ q (x .when)
+
     other : y ∷ atTime (y .when) ys ≡ atTime (y .when) (x ∷ xs)
     other = sym (at-head y ys (y .when) (same-itself (y .when) n)) ∙ sym (q (y .when))
+
     go : (b : Bool) → sameTime (x .when) (y .when) ≡ b → x ≡ y
     go true e = let z : x ∷ atTime (x .when) xs ≡ y ∷ atTime (x .when) ys = own ∙ at-head y ys (x .when) e in cc
     go false e =

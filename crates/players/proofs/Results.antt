@@ -119,8 +119,10 @@ module _ {S : Type 0} (v : Voices S) (most position : ℕ) where
     where
       after : Started S → Started S
       after s = fold (λ (s : Started S) (l : Line). startedBy v most position l s (l .event)) s ls
+
       Rest : Type 0
       Rest = (ns : List (Note S)) (k : ℕ) → Starts ns k (births v position ls) (starting ns k ls)
+
       joins : (n : Note S) → Rest → Dec (length ns < most)
           → Starts ns k (n ∷ births v position ls) (after (joinedBy most (record { notes = ns; missed = k }) n))
       joins n r (yes h) =
@@ -131,6 +133,7 @@ module _ {S : Type 0} (v : Voices S) (most position : ℕ) where
           subst⁻¹ (λ (s : Started S). Starts ns k (n ∷ births v position ls) (after s))
           (cond-false _ _ (le-ltb (length ns) most (omega arith)))
           (starts-full ns k n (births v position ls) _ (omega arith) (r ns (k + 1)))
+
       go : (x : Event) → Rest
           → Starts ns k (bornBy v position l x ++ births v position ls) (after (startedBy v most position l (record { notes = ns; missed = k }) x))
       go (Instr label i d) r = joins (born v position l label i d) r (decLt (length ns) most)
@@ -171,6 +174,7 @@ module _ {S : Type 0} (v : Voices S) where
     where
       after : S → S
       after s = fold (λ (s : S) (l : Line). controlledState v (n .labelled) (n .label) s (l .event)) s ls
+
       go : (b : Bool) → controlledAll v ls (cond b (withState n (v .control x value (n .state))) n)
           ≡ withState n (after (cond b (v .control x value (n .state)) (n .state)))
       go true = refl

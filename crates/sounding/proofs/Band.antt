@@ -28,6 +28,12 @@ use Rattle.sounding.specs.declared.Found.{Found}
 use Rattle.sounding.specs.declared.Started.{Started}
 use Rattle.sounding.proofs.Steps.{each-append, each-one, length-each, struct-note, drop-more, take-laid, notes-laid, Starting, starting-step}
 
+-- one more of an array's elements, each made into another
+pub each-step : {A : Type 0} (g : A → A) (l a : List A) (i : ℕ) (d y : A) → i < length l → i < length a
+    → take i a ≡ each g (take i l) → y ≡ g (getD l i d) → take (i + 1) (set a i y) ≡ each g (take (i + 1) l)
+each-step g l a i d y h k p q =
+    rw (add-one, take-suc-set a i y k, take-suc l i d h, each-append g (take i l) (getD l i d ∷ []), each-one g (getD l i d), p, q)
+
 pub control-in : (table : List Instrument) (label variable : ℕ) (value : Float) (n : Note) (f : Found) (y : Note)
     → f ≡ foundIn (n .instrument) table → y ≡ controlledNote (f .instrument) n label variable value
     → y ≡ controlledIn table label variable value n

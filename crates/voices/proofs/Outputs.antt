@@ -65,8 +65,9 @@ passes (branch e a b t) vs x =
         let e : pass aRate p (sounding vs x) ≡ sounding (afterPass p vs) w = λ i. sounding (q x .values i) (q x .sample i) in (
           ap (λ (s : Sounding). pass aRate t s .values) e ∙ r (afterPass p vs) w .values,
           ap (λ (s : Sounding). pass aRate t s .sample) e ∙ r (afterPass p vs) w .sample
-          ∙ sym (fold-append (add binary32) x (outputsOf p vs) (outputsOf t (afterPass p vs))),
+              ∙ sym (fold-append (add binary32) x (outputsOf p vs) (outputsOf t (afterPass p vs))),
         )
+
     go : (g : Bool) → ((x : Float) → Passes a vs x (pass aRate a (sounding vs x))) → ((x : Float) → Passes b vs x (pass aRate b (sounding vs x)))
         → ((us : List Float) (y : Float) → Passes t us y (pass aRate t (sounding us y)))
         → (pass aRate t (cond g (pass aRate a (sounding vs x)) (pass aRate b (sounding vs x))) .values

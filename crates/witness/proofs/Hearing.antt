@@ -68,7 +68,7 @@ unfolding CallVerdict afterAll
 taken-whole = call-verdict bytes tree ceiling given [] (bring stick score) .1 0 0 verdict
 
 -- no line comes by a cycle call
-no-line : (given : List Answer) → takenOf ([] ∷ []) given ≡ []
+pub no-line : (given : List Answer) → takenOf ([] ∷ []) given ≡ []
 no-line [] = refl
 no-line (a ∷ given) = go (eqb (a .number) 0)
   where

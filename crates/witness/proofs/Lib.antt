@@ -1,2 +1,4 @@
 pub mod Sounding
 pub mod Hearing
+pub mod Rich
+pub mod Walking

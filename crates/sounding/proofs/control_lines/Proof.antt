@@ -27,13 +27,15 @@ control-lines-spec =
     let h : at .i < length (s .args .t4) = omega (arith, s .good .1 .1 .1 .0 .1 .0 .1) in
     let t = take (s .args .n) (s .args .table) in
     let k = s .args .notes .count in (
-    omega arith,
-    at .inv .1,
-    c .control-line .ensures .0 ∙ at .inv .2,
-    control-more t [] [] (s .args .notes .notes) k (at .i) _ (s .args .t4) h (at .v .notes) _ (at .inv .3)
-    (subst (λ (x : ℕ). c .control-line .result .notes ≡ over (controlsIn t (take x (at .v .notes)) (getD (s .args .t4) (at .i) _ .event)) (at .v .notes)) (at .inv .2) (c .control-line .ensures .1)),
+      omega arith,
+      at .inv .1,
+      c .control-line .ensures .0 ∙ at .inv .2,
+      control-more t [] [] (s .args .notes .notes) k (at .i) _ (s .args .t4) h (at .v .notes) _ (at .inv .3)
+          (subst (λ (x : ℕ). c .control-line .result .notes ≡ over (controlsIn t (take x (at .v .notes)) (getD (s .args .t4) (at .i) _ .event)) (at .v .notes)) (at .inv .2) (c .control-line .ensures .1)),
     ))
     (λ c. let s = c .before .before .before in
-    let at = c .before .loop in
-    (at .inv .2, at .inv .3 ∙ ap (λ (ls : List Line). over (controlledAll (take (s .args .n) (s .args .table)) (take (s .args .notes .count) (s .args .notes .notes)) ls) (s .args .notes .notes))
-    (take-end (s .args .t4) (s .args .m) 64 _ (s .good .1 .1 .1 .0 .1 .0 .1) _ (c .before .before .within .ensures) (at .inv .0) (c .loop-test .left)))))
+    let at = c .before .loop in (
+      at .inv .2,
+      at .inv .3 ∙ ap (λ (ls : List Line). over (controlledAll (take (s .args .n) (s .args .table)) (take (s .args .notes .count) (s .args .notes .notes)) ls) (s .args .notes .notes))
+          (take-end (s .args .t4) (s .args .m) 64 _ (s .good .1 .1 .1 .0 .1 .0 .1) _ (c .before .before .within .ensures) (at .inv .0) (c .loop-test .left)),
+    )))

@@ -23,15 +23,15 @@ control-notes-spec =
     (λ c. let s = c .before .before .before .before .before .before .before .before in
     let at = c .before .before .before .before .before .loop in
     let l : length (s .args .v .notes) ≡ 16 = simp length-map at (s .good .1 .1 .0 .1 .1 .0 .1 .0 .1) in (
-    omega arith,
-    at .inv .1,
-    each-over _ (s .args .v .notes) _ _ _ _ (omega arith) (at .inv .2) (control-in _ _ _ _ _ _ _ (c .before .before .find .ensures) (c .controlled-note .ensures)),
+      omega arith,
+      at .inv .1,
+      each-over _ (s .args .v .notes) _ _ _ _ (omega arith) (at .inv .2) (control-in _ _ _ _ _ _ _ (c .before .before .find .ensures) (c .controlled-note .ensures)),
     ))
     (λ c. let s = c .before .before .before .before in
     let l : length (s .args .v .notes) ≡ 16 = simp length-map at (s .good .1 .1 .0 .1 .1 .0 .1 .0 .1) in
     let g = controlledIn (take (s .args .n) (s .args .table)) (s .args .label) (s .args .variable) (s .args .value) in (
-    refl,
-    c .before .loop .inv .2
-    ∙ ap (λ (ns : List Note). over (each g ns) (s .args .v .notes))
-    (take-end (s .args .v .notes) (s .args .v .count) 16 _ l _ (c .before .before .within .ensures) (c .before .loop .inv .0) (c .loop-test .left)),
+      refl,
+      c .before .loop .inv .2
+          ∙ ap (λ (ns : List Note). over (each g ns) (s .args .v .notes))
+          (take-end (s .args .v .notes) (s .args .v .count) 16 _ l _ (c .before .before .within .ensures) (c .before .loop .inv .0) (c .loop-test .left)),
     )))

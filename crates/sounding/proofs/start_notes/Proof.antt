@@ -20,10 +20,10 @@ start-notes-spec =
     (λ table n code vals sounding m position lines w p v₀ i₀ v i. w - i)
     (λ c κs. tt) (λ c κs. tt) (λ c κs. tt)
     (λ c. unfold started fold in let s = c .before .before .before .before .before in (
-    omega (arith, c .before .before .within .ensures),
-    omega (arith, c .before .before .within .ensures),
-    omega arith,
-    starting-none _ (s .good .1 .1 .1 .1 .0 .1 .0 .1) (omega (arith, c .within2 .ensures)),
+      omega (arith, c .before .before .within .ensures),
+      omega (arith, c .before .before .within .ensures),
+      omega arith,
+      starting-none _ (s .good .1 .1 .1 .1 .0 .1 .0 .1) (omega (arith, c .within2 .ensures)),
     ))
     (λ c. omega arith) (λ c. omega arith)
     (λ c κs. let at = c .before .before in
@@ -31,19 +31,19 @@ start-notes-spec =
     (λ c. omega arith) (λ c. omega arith)
     (λ c. let at = c .before .before .before in
     let s = at .before .before .before .before .before .before in
-    let h : at .loop .i < length (s .args .t7) = omega (arith, s .good .1 .1 .1 .1 .1 .1 .0 .1 .0 .1) in
-    (
-    omega arith,
-    at .loop .inv .1,
-    omega (arith, c .start-line .ensures .few, at .loop .inv .2),
-    starting-more _ _ _ _ _ (s .args .t7) _ _ _ _ _ h (at .loop .inv .3) (c .start-line .ensures),
+    let h : at .loop .i < length (s .args .t7) = omega (arith, s .good .1 .1 .1 .1 .1 .1 .0 .1 .0 .1) in (
+      omega arith,
+      at .loop .inv .1,
+      omega (arith, c .start-line .ensures .few, at .loop .inv .2),
+      starting-more _ _ _ _ _ (s .args .t7) _ _ _ _ _ h (at .loop .inv .3) (c .start-line .ensures),
     ))
     (λ c. let at = c .before in
     let s = at .before .before .before .before .before .before in
     let v = voices (take (s .args .n) (s .args .table)) (s .args .code .now) (s .args .vals .now) in
     let l-eq = take-end (s .args .t7) (s .args .m) 64 _ (s .good .1 .1 .1 .1 .1 .1 .0 .1 .0 .1) _ (at .before .before .before .within .ensures) (at .loop .inv .0) (c .loop-test .left) in
     let n-eq : take (at .before .within2 .result) (s .args .notes) ≡ take (s .args .sounding) (s .args .notes) =
-    ap (λ (k : ℕ). take k (s .args .notes)) (at .before .within2 .ensures) ∙ take-min (s .args .notes) (s .args .sounding) 16 (s .good .1 .1 .1 .1 .0 .1 .0 .1) in
-    (starting-end _ _ _ (at .loop .inv .3)
-    ∙ (λ i. startedOver (started v sixteen (at .before .before .at-most .ensures i) (each noteOf (n-eq i)) (l-eq i)) (s .args .notes)),
-    omega (arith, at .loop .inv .2))))
+    ap (λ (k : ℕ). take k (s .args .notes)) (at .before .within2 .ensures) ∙ take-min (s .args .notes) (s .args .sounding) 16 (s .good .1 .1 .1 .1 .0 .1 .0 .1) in (
+      starting-end _ _ _ (at .loop .inv .3)
+          ∙ (λ i. startedOver (started v sixteen (at .before .before .at-most .ensures i) (each noteOf (n-eq i)) (l-eq i)) (s .args .notes)),
+      omega (arith, at .loop .inv .2),
+    )))

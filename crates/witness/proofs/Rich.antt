@@ -1,0 +1,112 @@
+-- The richer piece, computed.
+use mathlib.Core.Path.{_≡_, refl}
+use lib.IntN.{pos}
+use mathlib.Core.List.{List, [], _∷_}
+use native.Mathlib.Omega.{arith}
+use lib.Ieee.{binary32, ofBits, fits, size, add, mul, round, lt, le, eq, ne}
+use Rattle.bitstream.specs.Bits as bitstream-bits
+use Rattle.bitstream.specs.Fields as bitstream-fields
+use Rattle.bitstream.specs.Filling as bitstream-filling
+use Rattle.bitstream.specs.Reads as bitstream-reads
+use Rattle.score_line.specs.Reading as score-line-reading
+use Rattle.score_line.specs.Source as score-line-source
+use Rattle.score.specs.Score as score-score
+use Rattle.timebase.specs.Range as timebase-range
+use Rattle.timebase.specs.Time as timebase-time
+use Rattle.tokens.specs.declared.Token.{Token}
+use Rattle.tokens.specs.declared.Token.the-variants.{Symbol, Sign}
+use Rattle.tokens.specs.Bytes.{tokensAfter, tokenFrom}
+use Rattle.tokens.specs.Measures.{opened, since, bracketsKept, stretchesKept}
+use Rattle.syntax.specs.Names.{named, namedBy, has, apart, knownIn, known, eachKept, placeFrom, putIn, put}
+use Rattle.syntax.specs.Rates.{rate, ratesKept, rateRules}
+use Rattle.expressions.specs.Grammar.{named as a·name, sides, plus}
+use Rattle.grammar.specs.Grammar.{none, set, out, either, one, none as no·fields, some as some·fields, ivar, asig, imports, none as no·decls, some as some·decls, is, Orchestra, last, next}
+use Rattle.orchestra.specs.Verdict.{Sized, Accepted}
+use Rattle.meaning.specs.Meaning.{value, assigned, outputs, pass, fresh, birth, kPass, aPasses, cycle}
+use Rattle.players.specs.Lists.{keep, fold, each}
+use Rattle.players.specs.Cycle.{isDue, insert, ordered, anyEnd, lastTempo, limited, joinedBy, goesOn, born, started, controlledBy, controlled, runFrom, runAll}
+use Rattle.players.specs.Holds.{sixty, dueAt, laterThan, endsBy, answerOf, startedOf, bandOf, blockOf, played, cycled}
+use Rattle.players.specs.Plain.{plainStart, plainAt, answerAt, blockAt}
+use Rattle.players.specs.Calls.{stick, unit, keypad}
+use Rattle.float32.specs.Limit.{held, sampleOf}
+use Rattle.float32.specs.Builtins.{truth}
+use Rattle.float32.specs.Operators.{binaryOf}
+use Rattle.timebase.specs.Time.{upTo, ticksOf, ticksIn, cycleOf, cycleIn}
+use Rattle.sounding.specs.Voices as code
+use Rattle.voices.specs.Tree.{silent, instrumentOf, importsOf, treeVoices}
+use Rattle.claims.specs.Claims.{settings}
+use Rattle.witness.specs.Growing.{ceiling}
+use Rattle.witness.specs.Rich.{bytes, tree, onStick, inUnit, onKeypad, before, control, end, lines, IsRead, Later, Gives, Rich}
+
+abbrev tokens : List Token
+tokens =
+    Sign 1 ∷ Symbol 1 ∷ Sign 15 ∷ Symbol 2 ∷ Sign 16 ∷ Sign 17
+    ∷ Sign 2 ∷ Symbol 3 ∷ Sign 20 ∷ Sign 4 ∷ Symbol 4 ∷ Sign 20 ∷ Sign 5 ∷ Sign 3 ∷ Symbol 5 ∷ Sign 20
+    ∷ Symbol 3 ∷ Sign 21 ∷ Symbol 2 ∷ Sign 32 ∷ Symbol 2 ∷ Sign 20
+    ∷ Sign 7 ∷ Sign 15 ∷ Symbol 5 ∷ Sign 16 ∷ Sign 17 ∷ Symbol 4 ∷ Sign 21 ∷ Symbol 3 ∷ Sign 32 ∷ Symbol 5 ∷ Sign 20 ∷ Sign 18
+    ∷ Sign 8 ∷ Sign 17 ∷ Symbol 4 ∷ Sign 21 ∷ Symbol 3 ∷ Sign 20 ∷ Sign 18
+    ∷ Sign 6 ∷ Sign 15 ∷ Symbol 4 ∷ Sign 16 ∷ Sign 20 ∷ Sign 18
+    ∷ Sign 1 ∷ Symbol 6 ∷ Sign 15 ∷ Sign 16 ∷ Sign 17 ∷ Sign 18 ∷ []
+
+sized : Sized bytes tokens
+unfolding tokensAfter tokenFrom opened since bracketsKept stretchesKept ofBits fits size
+sized = record { short = omega arith; tokens = refl; within = refl }
+
+derived : Orchestra tree tokens
+derived =
+    next
+    (is 1 (some·fields (one 2)) (some·decls ivar (one 3) (some·decls asig (one 4) (some·decls imports (one 5) no·decls)))
+    (set 3 (sides {m = 0} {l = 5} plus (omega arith) (a·name 2) (a·name 2))
+    (either (a·name 5) (set 4 (sides {m = 0} {l = 5} plus (omega arith) (a·name 3) (a·name 5)) none) (set 4 (a·name 3) none)
+    (out (a·name 4) none))))
+    (last (is 6 no·fields no·decls none))
+
+accepted : Accepted bytes tree
+unfolding named namedBy has apart knownIn known eachKept placeFrom putIn put rate ratesKept rateRules
+accepted = record { tokens = tokens; sized = sized; derived = derived; named = refl; rated = refl }
+
+stick-read : IsRead stick onStick before
+unfolding bitstream-bits.bit bitstream-bits.field bitstream-bits.bitsOf bitstream-bits.valueOf bitstream-fields.roomFor bitstream-fields.written bitstream-filling.filled bitstream-filling.filledUp bitstream-filling.bytesFrom bitstream-filling.bytesOf bitstream-reads.readAt score-line-reading.numberFrom score-line-reading.smallFrom score-line-reading.inRange score-line-reading.floatFrom score-line-reading.timedFrom score-line-reading.whenFrom score-line-reading.labelFrom score-line-reading.instrFrom score-line-reading.labelledFrom score-line-reading.controlFrom score-line-reading.tempoFrom score-line-reading.eventFrom score-line-reading.valuesFrom score-line-reading.countedFrom score-line-reading.valuesAfter score-line-reading.padded score-line-reading.lineOf score-line-reading.withValues score-line-reading.afterEvent score-line-reading.afterWhen score-line-reading.lineFrom score-line-reading.answerOf score-line-reading.refusedLine score-line-reading.lineRead score-line-reading.lineAt score-line-reading.lineInWords score-line-reading.wholeRun score-line-reading.keypadLine score-line-source.bitSource score-line-source.keypadSource score-score.linesFrom score-score.ended score-score.counted score-score.scoreOf score-score.firstOf score-score.nextOf score-score.walked score-score.wholeLine score-score.opened score-score.unitOf timebase-range.checked timebase-time.finiteBits timebase-time.timeBits timebase-time.durationBits timebase-time.tempoBits timebase-time.upTo timebase-time.ticksOf timebase-time.ticksIn timebase-time.cycleOf timebase-time.cycleIn ofBits le
+stick-read = (refl, refl)
+
+unit-read : IsRead unit inUnit (control ∷ [])
+unfolding bitstream-bits.bit bitstream-bits.field bitstream-bits.bitsOf bitstream-bits.valueOf bitstream-fields.roomFor bitstream-fields.written bitstream-filling.filled bitstream-filling.filledUp bitstream-filling.bytesFrom bitstream-filling.bytesOf bitstream-reads.readAt score-line-reading.numberFrom score-line-reading.smallFrom score-line-reading.inRange score-line-reading.floatFrom score-line-reading.timedFrom score-line-reading.whenFrom score-line-reading.labelFrom score-line-reading.instrFrom score-line-reading.labelledFrom score-line-reading.controlFrom score-line-reading.tempoFrom score-line-reading.eventFrom score-line-reading.valuesFrom score-line-reading.countedFrom score-line-reading.valuesAfter score-line-reading.padded score-line-reading.lineOf score-line-reading.withValues score-line-reading.afterEvent score-line-reading.afterWhen score-line-reading.lineFrom score-line-reading.answerOf score-line-reading.refusedLine score-line-reading.lineRead score-line-reading.lineAt score-line-reading.lineInWords score-line-reading.wholeRun score-line-reading.keypadLine score-line-source.bitSource score-line-source.keypadSource score-score.linesFrom score-score.ended score-score.counted score-score.scoreOf score-score.firstOf score-score.nextOf score-score.walked score-score.wholeLine score-score.opened score-score.unitOf timebase-range.checked timebase-time.finiteBits timebase-time.timeBits timebase-time.durationBits timebase-time.tempoBits timebase-time.upTo timebase-time.ticksOf timebase-time.ticksIn timebase-time.cycleOf timebase-time.cycleIn ofBits le
+unit-read = (refl, refl)
+
+keypad-read : IsRead keypad onKeypad (end ∷ [])
+unfolding bitstream-bits.bit bitstream-bits.field bitstream-bits.bitsOf bitstream-bits.valueOf bitstream-fields.roomFor bitstream-fields.written bitstream-filling.filled bitstream-filling.filledUp bitstream-filling.bytesFrom bitstream-filling.bytesOf bitstream-reads.readAt score-line-reading.numberFrom score-line-reading.smallFrom score-line-reading.inRange score-line-reading.floatFrom score-line-reading.timedFrom score-line-reading.whenFrom score-line-reading.labelFrom score-line-reading.instrFrom score-line-reading.labelledFrom score-line-reading.controlFrom score-line-reading.tempoFrom score-line-reading.eventFrom score-line-reading.valuesFrom score-line-reading.countedFrom score-line-reading.valuesAfter score-line-reading.padded score-line-reading.lineOf score-line-reading.withValues score-line-reading.afterEvent score-line-reading.afterWhen score-line-reading.lineFrom score-line-reading.answerOf score-line-reading.refusedLine score-line-reading.lineRead score-line-reading.lineAt score-line-reading.lineInWords score-line-reading.wholeRun score-line-reading.keypadLine score-line-source.bitSource score-line-source.keypadSource score-score.linesFrom score-score.ended score-score.counted score-score.scoreOf score-score.firstOf score-score.nextOf score-score.walked score-score.wholeLine score-score.opened score-score.unitOf timebase-range.checked timebase-time.finiteBits timebase-time.timeBits timebase-time.durationBits timebase-time.tempoBits timebase-time.upTo timebase-time.ticksOf timebase-time.ticksIn timebase-time.cycleOf timebase-time.cycleIn ofBits le
+keypad-read = (refl, refl)
+
+in-time : Later control × Later end
+unfolding plainAt plainStart ticksIn ticksOf upTo ofBits le lt eq
+in-time = (omega arith, omega arith)
+
+first : Gives 0 (pos 8192)
+unfolding answerAt answerOf blockAt blockOf limited bandOf startedOf runAll runFrom started controlled dueAt laterThan plainAt cycled plainStart sixty endsBy anyEnd played goesOn lastTempo cycleIn cycleOf keep fold each isDue insert ordered joinedBy born controlledBy ticksIn ticksOf upTo treeVoices instrumentOf importsOf silent sampleOf held binaryOf cycle kPass aPasses pass outputs assigned value fresh birth put putIn namedBy named placeFrom add mul round ofBits lt le eq code.named truth ne
+first = (refl, refl)
+
+second : Gives 1 (pos 16384)
+unfolding answerAt answerOf blockAt blockOf limited bandOf startedOf runAll runFrom started controlled dueAt laterThan plainAt cycled plainStart sixty endsBy anyEnd played goesOn lastTempo cycleIn cycleOf keep fold each isDue insert ordered joinedBy born controlledBy ticksIn ticksOf upTo treeVoices instrumentOf importsOf silent sampleOf held binaryOf cycle kPass aPasses pass outputs assigned value fresh birth put putIn namedBy named placeFrom add mul round ofBits lt le eq code.named truth ne
+second = (refl, refl)
+
+missed : plainAt (treeVoices tree) (settings ceiling) lines 1 .plays .counts .missed ≡ 1
+unfolding answerAt answerOf blockAt blockOf limited bandOf startedOf runAll runFrom started controlled dueAt laterThan plainAt cycled plainStart sixty endsBy anyEnd played goesOn lastTempo cycleIn cycleOf keep fold each isDue insert ordered joinedBy born controlledBy ticksIn ticksOf upTo treeVoices instrumentOf importsOf silent sampleOf held binaryOf cycle kPass aPasses pass outputs assigned value fresh birth put putIn namedBy named placeFrom add mul round ofBits lt le eq code.named truth ne
+missed = refl
+
+over : answerAt (treeVoices tree) (settings ceiling) lines 2 ≡ 9
+unfolding answerAt answerOf blockAt blockOf limited bandOf startedOf runAll runFrom started controlled dueAt laterThan plainAt cycled plainStart sixty endsBy anyEnd played goesOn lastTempo cycleIn cycleOf keep fold each isDue insert ordered joinedBy born controlledBy ticksIn ticksOf upTo treeVoices instrumentOf importsOf silent sampleOf held binaryOf cycle kPass aPasses pass outputs assigned value fresh birth put putIn namedBy named placeFrom add mul round ofBits lt le eq code.named truth ne
+over = refl
+
+pub rich : Rich
+rich =
+    record {
+      accepted = accepted;
+      stick = stick-read;
+      unit = unit-read;
+      keypad = keypad-read;
+      inTime = in-time;
+      first = first;
+      second = second;
+      missed = missed;
+      over = over;
+    }

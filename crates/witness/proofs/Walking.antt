@@ -1,0 +1,222 @@
+-- The richer piece by the panel's own calls: each answer by its history, the cycles by condition 3.
+use mathlib.Core.Path.{_≡_, refl, sym, ap, _∙_, subst, subst⁻¹}
+use mathlib.Core.Bool.{true, false, cond, _&&_}
+use mathlib.Core.List.{List, [], _∷_, _++_}
+use native.Mathlib.Omega.{arith}
+use Prim.Native.Nat.{ℕ, zero, suc, _+_, _≤_, _<_}
+use lib.IntN.{ℤ, pos}
+use lib.Dec.{eqb}
+use lib.ListN.{replicate}
+use lib.Ieee.{binary32, ofBits, fits, size, add, mul, round, lt, le, eq, ne}
+use Rattle.syntax.specs.Names.{named, namedBy, has, apart, knownIn, known, eachKept, placeFrom, putIn, put}
+use Rattle.meaning.specs.Meaning.{value, assigned, outputs, pass, fresh as freshValues, birth, kPass, aPasses, cycle as noteCycle}
+use Rattle.players.specs.Lists.{keep, fold, each, All}
+use Rattle.players.specs.Cycle.{isDue, insert, ordered, anyEnd, lastTempo, limited, joinedBy, goesOn, born, started, controlledBy, controlled, runFrom, runAll}
+use Rattle.players.specs.Holds.{Counts, behind, sixty, dueAt, laterThan, endsBy, answerOf, startedOf, bandOf, blockOf, played, cycled}
+use Rattle.players.specs.Plain.{plainStart, plainAt, answerAt, blockAt}
+use Rattle.float32.specs.Limit.{held, sampleOf}
+use Rattle.float32.specs.Builtins.{truth}
+use Rattle.float32.specs.Operators.{binaryOf}
+use Rattle.timebase.specs.Time.{upTo, ticksOf, ticksIn, cycleOf, cycleIn}
+use Rattle.sounding.specs.Voices as code
+use Rattle.voices.specs.Tree.{silent, instrumentOf, importsOf, treeVoices}
+use Rattle.score_line.specs.declared.Line.{Line}
+use Rattle.players.specs.Calls.{stick, unit, keypad, bring, cycle, Answer, one, numbered, linesOf, takenOf, isZero, Last, latest, none, Moment, takenIn, lastWith, momentOf, traceFrom, trace, allTaken, afterAll}
+use Rattle.players.specs.Condition3.{inTime, InTime, AsPlain, PlainAlike}
+use Rattle.players.specs.History.{History, nowhere, withCycle, historyFrom}
+use Rattle.panel.specs.declared.Panel.{Panel}
+use Rattle.claims.specs.Verdict.{here, there, taken, plays, Verdict, AllFit}
+use Rattle.claims.specs.Claims.{afterOf, panel, fresh, Given, settings, past, Condition3, CallVerdict}
+use Rattle.claims.proofs.Past.{condition-3}
+use Rattle.claims.proofs.Answers.{call-verdict}
+use Rattle.sounding.specs.Voices.{Held}
+use Rattle.witness.specs.Growing.{ceiling}
+use Rattle.witness.specs.Calls.{lent}
+use Rattle.witness.specs.Rich.{bytes, tree, tone, rest, control, end, onStick, inUnit, onKeypad, before, lines, calls, moments, p1, p2, p3, p4, answersOf, Walked}
+use Rattle.witness.proofs.Hearing.{no-line}
+use Rattle.witness.proofs.Rich.{rich}
+
+given : Given bytes tree ceiling
+given = record { accepted = rich .accepted; low = omega arith; high = omega arith }
+
+-- ---- the stick
+
+none-needed : 0 ≤ 0
+none-needed = omega arith
+
+one-field : 1 ≤ 1
+one-field = omega arith
+
+other-name : _≡_ {A = ℕ} 1 6 → ⊥
+other-name e = omega arith
+
+-- the rests fit as long as there is room
+rests-fit : (n k : ℕ) → n + k ≤ 64 → AllFit tree stick nowhere k (replicate n rest)
+rests-fit zero k h = tt
+rests-fit (suc n) k h = (
+  record {
+    timed = λ q. refl;
+    playable = there other-name (here refl none-needed);
+    early = refl;
+    room = omega arith;
+  },
+  rests-fit n (suc k) (omega arith),
+)
+
+on-stick : Verdict tree (past bytes tree ceiling []) (bring stick onStick) 0 0
+unfolding historyFrom traceFrom plainStart
+on-stick =
+    taken before (refl, rich .stick .0, rich .stick .1)
+    (record { timed = λ q. refl; playable = here refl one-field; early = refl; room = omega arith }, rests-fit 16 1 (omega arith))
+
+stick-answer : afterOf (fresh bytes ceiling) (bring stick onStick) .answers ≡ one 0 0
+unfolding CallVerdict afterAll
+stick-answer = call-verdict bytes tree ceiling given [] (bring stick onStick) .1 0 0 on-stick
+
+stick-lines : takenOf (linesOf (bring stick onStick)) (afterOf (fresh bytes ceiling) (bring stick onStick) .answers) ≡ before
+stick-lines = ap (takenOf (linesOf (bring stick onStick))) stick-answer ∙ ap (λ (ls : List Line). ls ++ []) (rich .stick .1)
+
+-- ---- histories
+
+after-stick : History Held
+after-stick = record { holds = behind before (plainStart (settings ceiling 0) []); reached = nowhere }
+
+past-stick : past bytes tree ceiling (bring stick onStick ∷ []) ≡ after-stick
+unfolding historyFrom traceFrom after-stick
+past-stick = λ i. record { holds = behind (stick-lines i) (plainStart (settings ceiling 0) []); reached = nowhere }
+
+-- cycle 0 plays
+first-plays : Verdict tree after-stick (cycle lent) 0 0
+unfolding after-stick behind answerAt answerOf blockAt blockOf limited bandOf startedOf runAll runFrom started controlled dueAt laterThan plainAt cycled plainStart sixty endsBy anyEnd played goesOn lastTempo cycleIn cycleOf keep fold each isDue insert ordered joinedBy born controlledBy ticksIn ticksOf upTo treeVoices instrumentOf importsOf silent sampleOf held binaryOf noteCycle kPass aPasses pass outputs assigned value freshValues birth put putIn namedBy named placeFrom add mul round ofBits lt le eq code.named truth ne
+first-plays = plays refl refl refl
+
+first-answer : afterOf p1 (cycle lent) .answers ≡ one 0 0
+unfolding CallVerdict afterAll
+first-answer =
+    call-verdict bytes tree ceiling given (bring stick onStick ∷ []) (cycle lent) .1 0 0
+    (subst⁻¹ (λ (h : History Held). Verdict tree h (cycle lent) 0 0) past-stick first-plays)
+
+after-first : History Held
+after-first = withCycle (treeVoices tree) (settings ceiling) 0 after-stick
+
+past-first : past bytes tree ceiling (bring stick onStick ∷ cycle lent ∷ []) ≡ after-first
+unfolding historyFrom traceFrom after-first after-stick
+past-first =
+    λ i. withCycle (treeVoices tree) (settings ceiling) 0 (record { holds = behind (stick-lines i) (plainStart (settings ceiling 0) []); reached = nowhere })
+
+-- ---- the unit
+
+unit-fits : Verdict tree after-first (bring unit inUnit) 0 0
+unfolding after-first after-stick behind answerAt answerOf blockAt blockOf limited bandOf startedOf runAll runFrom started controlled dueAt laterThan plainAt cycled plainStart sixty endsBy anyEnd played goesOn lastTempo cycleIn cycleOf keep fold each isDue insert ordered joinedBy born controlledBy ticksIn ticksOf upTo treeVoices instrumentOf importsOf silent sampleOf held binaryOf noteCycle kPass aPasses pass outputs assigned value freshValues birth put putIn namedBy named placeFrom add mul round ofBits lt le eq code.named truth ne
+unit-fits = taken (control ∷ []) (refl, rich .unit .0, rich .unit .1) (record { timed = λ q. refl; playable = tt; early = refl; room = omega arith }, tt)
+
+unit-answer : afterOf p2 (bring unit inUnit) .answers ≡ one 0 0
+unfolding CallVerdict afterAll
+unit-answer =
+    call-verdict bytes tree ceiling given (bring stick onStick ∷ cycle lent ∷ []) (bring unit inUnit) .1 0 0
+    (subst⁻¹ (λ (h : History Held). Verdict tree h (bring unit inUnit) 0 0) past-first unit-fits)
+
+unit-lines : takenOf (linesOf (bring unit inUnit)) (afterOf p2 (bring unit inUnit) .answers) ≡ control ∷ []
+unit-lines = ap (takenOf (linesOf (bring unit inUnit))) unit-answer ∙ ap (λ (ls : List Line). ls ++ []) (rich .unit .1)
+
+after-unit : History Held
+after-unit = record { holds = behind (control ∷ []) (after-first .holds); reached = after-first .reached }
+
+past-unit : past bytes tree ceiling (bring stick onStick ∷ cycle lent ∷ bring unit inUnit ∷ []) ≡ after-unit
+unfolding historyFrom traceFrom after-unit after-first after-stick
+past-unit =
+    λ i. let h = withCycle (treeVoices tree) (settings ceiling) 0 (record { holds = behind (stick-lines i) (plainStart (settings ceiling 0) []); reached = nowhere }) in
+    record { holds = behind (unit-lines i) (h .holds); reached = h .reached }
+
+-- ---- the keypad
+
+keypad-fits : Verdict tree after-unit (bring keypad onKeypad) 0 0
+unfolding after-unit after-first after-stick behind answerAt answerOf blockAt blockOf limited bandOf startedOf runAll runFrom started controlled dueAt laterThan plainAt cycled plainStart sixty endsBy anyEnd played goesOn lastTempo cycleIn cycleOf keep fold each isDue insert ordered joinedBy born controlledBy ticksIn ticksOf upTo treeVoices instrumentOf importsOf silent sampleOf held binaryOf noteCycle kPass aPasses pass outputs assigned value freshValues birth put putIn namedBy named placeFrom add mul round ofBits lt le eq code.named truth ne
+keypad-fits = taken (end ∷ []) (refl, rich .keypad .0, rich .keypad .1) (record { timed = λ q. refl; playable = tt; early = refl; room = omega arith }, tt)
+
+keypad-answer : afterOf p3 (bring keypad onKeypad) .answers ≡ one 0 0
+unfolding CallVerdict afterAll
+keypad-answer =
+    call-verdict bytes tree ceiling given (bring stick onStick ∷ cycle lent ∷ bring unit inUnit ∷ []) (bring keypad onKeypad) .1 0 0
+    (subst⁻¹ (λ (h : History Held). Verdict tree h (bring keypad onKeypad) 0 0) past-unit keypad-fits)
+
+keypad-lines : takenOf (linesOf (bring keypad onKeypad)) (afterOf p3 (bring keypad onKeypad) .answers) ≡ end ∷ []
+keypad-lines = ap (takenOf (linesOf (bring keypad onKeypad))) keypad-answer ∙ ap (λ (ls : List Line). ls ++ []) (rich .keypad .1)
+
+-- ---- condition 3's premise
+
+p5 : Panel
+p5 = afterOf p4 (cycle lent) .player
+
+lines-taken : allTaken moments ≡ lines
+unfolding allTaken traceFrom p5
+lines-taken =
+    λ i. stick-lines i ++ (no-line (afterOf p1 (cycle lent) .answers) i ++ (unit-lines i ++ (keypad-lines i
+    ++ (no-line (afterOf p4 (cycle lent) .answers) i ++ (no-line (afterOf p5 (cycle lent) .answers) i ++ [])))))
+
+abbrev Timely : Last → List Line → Type 0
+Timely z ls = All (inTime panel (treeVoices tree) (settings ceiling) lines z) ls
+
+rests-timely : (n : ℕ) → Timely none (replicate n rest)
+rests-timely zero = tt
+rests-timely (suc n) = (tt, rests-timely n)
+
+-- the last cycle when the unit and the keypad line come
+abbrev lastOf : Panel → ℕ → Last → Last
+lastOf p k z = cond (numbered (cycle lent) && isZero (afterOf p (cycle lent) .answers)) (latest k) z
+
+last-is : lastOf p1 0 none ≡ latest 0
+last-is = ap (λ (a : List Answer). cond (numbered (cycle lent) && isZero a) (latest 0) none) first-answer
+
+none-timely : (z : Last) (given : List Answer) → Timely z (takenOf ([] ∷ []) given)
+none-timely z given = subst⁻¹ (Timely z) (no-line given) tt
+
+in-time : All (InTime panel (treeVoices tree) (settings ceiling) lines) moments
+unfolding traceFrom p5
+in-time = (
+  subst⁻¹ (Timely none) stick-lines (tt, rests-timely 16),
+  (
+    none-timely none (afterOf p1 (cycle lent) .answers),
+    (
+      subst⁻¹ (λ (z : Last). Timely z (takenOf (linesOf (bring unit inUnit)) (afterOf p2 (bring unit inUnit) .answers))) last-is
+          (subst⁻¹ (Timely (latest 0)) unit-lines (rich .inTime .0, tt)),
+      (
+        subst⁻¹ (λ (z : Last). Timely z (takenOf (linesOf (bring keypad onKeypad)) (afterOf p3 (bring keypad onKeypad) .answers))) last-is
+            (subst⁻¹ (Timely (latest 0)) keypad-lines (rich .inTime .1, tt)),
+        (none-timely (lastOf p1 0 none) (afterOf p4 (cycle lent) .answers), (none-timely (lastOf p4 1 (lastOf p1 0 none)) (afterOf p5 (cycle lent) .answers), tt)),
+      ),
+    ),
+  ),
+)
+
+as-plain : All (AsPlain panel (treeVoices tree) (settings ceiling) lines) moments
+unfolding Condition3 PlainAlike
+as-plain =
+    subst (λ (ls : List Line). All (AsPlain panel (treeVoices tree) (settings ceiling) ls) moments) lines-taken
+    (condition-3 bytes tree ceiling given calls (subst⁻¹ (λ (ls : List Line). All (InTime panel (treeVoices tree) (settings ceiling) ls) moments) lines-taken in-time))
+
+-- ---- what is heard
+
+module _ (m : Moment Panel) (a : AsPlain panel (treeVoices tree) (settings ceiling) lines m) where
+  answers : (n : ℕ) → numbered (m .call) ≡ true → answerAt (treeVoices tree) (settings ceiling) lines (m .cycles) ≡ n → m .after .answers ≡ one n 0
+  answers n q e = a .answer q ∙ ap (λ (y : ℕ). one y 0) e
+
+  sounds : {b : List ℤ} → numbered (m .call) ≡ true → answerAt (treeVoices tree) (settings ceiling) lines (m .cycles) ≡ 0
+      → blockAt (treeVoices tree) (settings ceiling) lines (m .cycles) ≡ b → m .after .block ≡ b
+  sounds q e f = a .block q (ap isZero (answers 0 q e)) ∙ f
+
+pub walked : Walked
+unfolding traceFrom p5 each
+walked =
+    record {
+      taken = lines-taken;
+      inTime = in-time;
+      answers = λ i.
+          stick-answer i ∷ first-answer i ∷ unit-answer i ∷ keypad-answer i
+          ∷ answers _ (as-plain .1 .1 .1 .1 .0) 0 refl (rich .second .0) i
+          ∷ answers _ (as-plain .1 .1 .1 .1 .1 .0) 9 refl (rich .over) i
+          ∷ [];
+      first = sounds _ (as-plain .1 .0) refl (rich .first .0) (rich .first .1);
+      missed = ap (λ (c : Counts). c .missed) (as-plain .1 .0 .counts) ∙ rich .missed;
+      second = sounds _ (as-plain .1 .1 .1 .1 .0) refl (rich .second .0) (rich .second .1);
+    }
