@@ -16,10 +16,11 @@ use Rattle.bitstream.specs.Reads.{readAt}
 use Rattle.bitstream.specs.Filling.{filled}
 use Rattle.bitstream.specs.declared.Got.{Got}
 use Rattle.bitstream.specs.declared.Got.the-variants.{Value, Short}
-use Rattle.score_line.specs.Source.{bitSource, keypadSource}
-use Rattle.score_line.specs.Reading.{Read, got, refused, lineFrom, lineAt, lineRead, lineInWords, wholeRun, refusedLine, answerOf, keypadLine}
-use Rattle.score_line.specs.declared.Fault.{Fault}
-use Rattle.score_line.specs.declared.Fault.the-variants as fault
+use Rattle.formats.specs.Source.{bitSource, keypadSource}
+use Rattle.formats.specs.Reading.{Read, got, refused}
+use Rattle.formats.specs.declared.Fault.{Fault}
+use Rattle.formats.specs.declared.Fault.the-variants as fault
+use Rattle.score_line.specs.Reading.{lineFrom, lineAt, lineRead, lineInWords, wholeRun, refusedLine, answerOf, keypadLine}
 use Rattle.score_line.specs.declared.When.{When}
 use Rattle.score_line.specs.declared.When.the-variants.{Timed, Untimed}
 use Rattle.score_line.specs.declared.Event.{Event}
