@@ -8,8 +8,11 @@ use Rattle.bitstream.specs.Bits as bitstream-bits
 use Rattle.bitstream.specs.Fields as bitstream-fields
 use Rattle.bitstream.specs.Filling as bitstream-filling
 use Rattle.bitstream.specs.Reads as bitstream-reads
+use Rattle.formats.specs.Source as formats-source
+use Rattle.formats.specs.Reading as formats-reading
+use Rattle.formats.specs.Format as formats-format
+use Rattle.score_line.specs.LineFormat as score-line-format
 use Rattle.score_line.specs.Reading as score-line-reading
-use Rattle.score_line.specs.Source as score-line-source
 use Rattle.score.specs.Score as score-score
 use Rattle.timebase.specs.Range as timebase-range
 use Rattle.timebase.specs.Time as timebase-time
@@ -65,48 +68,31 @@ accepted : Accepted bytes tree
 unfolding named namedBy has apart knownIn known eachKept placeFrom putIn put rate ratesKept rateRules
 accepted = record { tokens = tokens; sized = sized; derived = derived; named = refl; rated = refl }
 
-stick-read : IsRead stick onStick before
-unfolding bitstream-bits.bit bitstream-bits.field bitstream-bits.bitsOf bitstream-bits.valueOf bitstream-fields.roomFor bitstream-fields.written bitstream-filling.filled bitstream-filling.filledUp bitstream-filling.bytesFrom bitstream-filling.bytesOf bitstream-reads.readAt score-line-reading.numberFrom score-line-reading.smallFrom score-line-reading.inRange score-line-reading.floatFrom score-line-reading.timedFrom score-line-reading.whenFrom score-line-reading.labelFrom score-line-reading.instrFrom score-line-reading.labelledFrom score-line-reading.controlFrom score-line-reading.tempoFrom score-line-reading.eventFrom score-line-reading.valuesFrom score-line-reading.countedFrom score-line-reading.valuesAfter score-line-reading.padded score-line-reading.lineOf score-line-reading.withValues score-line-reading.afterEvent score-line-reading.afterWhen score-line-reading.lineFrom score-line-reading.answerOf score-line-reading.refusedLine score-line-reading.lineRead score-line-reading.lineAt score-line-reading.lineInWords score-line-reading.wholeRun score-line-reading.keypadLine score-line-source.bitSource score-line-source.keypadSource score-score.linesFrom score-score.ended score-score.counted score-score.scoreOf score-score.firstOf score-score.nextOf score-score.walked score-score.wholeLine score-score.opened score-score.unitOf timebase-range.checked timebase-time.finiteBits timebase-time.timeBits timebase-time.durationBits timebase-time.tempoBits timebase-time.upTo timebase-time.ticksOf timebase-time.ticksIn timebase-time.cycleOf timebase-time.cycleIn ofBits le
-stick-read = (refl, refl)
-
-unit-read : IsRead unit inUnit (control ∷ [])
-unfolding bitstream-bits.bit bitstream-bits.field bitstream-bits.bitsOf bitstream-bits.valueOf bitstream-fields.roomFor bitstream-fields.written bitstream-filling.filled bitstream-filling.filledUp bitstream-filling.bytesFrom bitstream-filling.bytesOf bitstream-reads.readAt score-line-reading.numberFrom score-line-reading.smallFrom score-line-reading.inRange score-line-reading.floatFrom score-line-reading.timedFrom score-line-reading.whenFrom score-line-reading.labelFrom score-line-reading.instrFrom score-line-reading.labelledFrom score-line-reading.controlFrom score-line-reading.tempoFrom score-line-reading.eventFrom score-line-reading.valuesFrom score-line-reading.countedFrom score-line-reading.valuesAfter score-line-reading.padded score-line-reading.lineOf score-line-reading.withValues score-line-reading.afterEvent score-line-reading.afterWhen score-line-reading.lineFrom score-line-reading.answerOf score-line-reading.refusedLine score-line-reading.lineRead score-line-reading.lineAt score-line-reading.lineInWords score-line-reading.wholeRun score-line-reading.keypadLine score-line-source.bitSource score-line-source.keypadSource score-score.linesFrom score-score.ended score-score.counted score-score.scoreOf score-score.firstOf score-score.nextOf score-score.walked score-score.wholeLine score-score.opened score-score.unitOf timebase-range.checked timebase-time.finiteBits timebase-time.timeBits timebase-time.durationBits timebase-time.tempoBits timebase-time.upTo timebase-time.ticksOf timebase-time.ticksIn timebase-time.cycleOf timebase-time.cycleIn ofBits le
-unit-read = (refl, refl)
-
-keypad-read : IsRead keypad onKeypad (end ∷ [])
-unfolding bitstream-bits.bit bitstream-bits.field bitstream-bits.bitsOf bitstream-bits.valueOf bitstream-fields.roomFor bitstream-fields.written bitstream-filling.filled bitstream-filling.filledUp bitstream-filling.bytesFrom bitstream-filling.bytesOf bitstream-reads.readAt score-line-reading.numberFrom score-line-reading.smallFrom score-line-reading.inRange score-line-reading.floatFrom score-line-reading.timedFrom score-line-reading.whenFrom score-line-reading.labelFrom score-line-reading.instrFrom score-line-reading.labelledFrom score-line-reading.controlFrom score-line-reading.tempoFrom score-line-reading.eventFrom score-line-reading.valuesFrom score-line-reading.countedFrom score-line-reading.valuesAfter score-line-reading.padded score-line-reading.lineOf score-line-reading.withValues score-line-reading.afterEvent score-line-reading.afterWhen score-line-reading.lineFrom score-line-reading.answerOf score-line-reading.refusedLine score-line-reading.lineRead score-line-reading.lineAt score-line-reading.lineInWords score-line-reading.wholeRun score-line-reading.keypadLine score-line-source.bitSource score-line-source.keypadSource score-score.linesFrom score-score.ended score-score.counted score-score.scoreOf score-score.firstOf score-score.nextOf score-score.walked score-score.wholeLine score-score.opened score-score.unitOf timebase-range.checked timebase-time.finiteBits timebase-time.timeBits timebase-time.durationBits timebase-time.tempoBits timebase-time.upTo timebase-time.ticksOf timebase-time.ticksIn timebase-time.cycleOf timebase-time.cycleIn ofBits le
-keypad-read = (refl, refl)
+-- what the three doors read
+all-read : IsRead stick onStick before × IsRead unit inUnit (control ∷ []) × IsRead keypad onKeypad (end ∷ [])
+unfolding bitstream-bits.bit bitstream-bits.field bitstream-bits.bitsOf bitstream-bits.valueOf bitstream-fields.roomFor bitstream-fields.written bitstream-filling.filled bitstream-filling.filledUp bitstream-filling.bytesFrom bitstream-filling.bytesOf bitstream-reads.readAt formats-reading.numberFrom formats-format.small score-line-format.inRange score-line-format.float score-line-format.number score-line-format.timed score-line-format.when score-line-format.label score-line-format.kind score-line-format.labelled score-line-format.body score-line-format.counted score-line-format.values score-line-format.afterTime score-line-format.parts score-line-format.padded score-line-format.line score-line-reading.lineOf score-line-reading.answerOf score-line-reading.refusedLine score-line-reading.lineRead score-line-reading.lineAt score-line-reading.lineInWords score-line-reading.wholeRun score-line-reading.keypadLine formats-source.bitSource formats-source.keypadSource score-score.linesFrom score-score.ended score-score.counted score-score.scoreOf score-score.firstOf score-score.nextOf score-score.walked score-score.wholeLine score-score.opened score-score.unitOf timebase-range.checked timebase-time.finiteBits timebase-time.timeBits timebase-time.durationBits timebase-time.tempoBits timebase-time.upTo timebase-time.ticksOf timebase-time.ticksIn timebase-time.cycleOf timebase-time.cycleIn ofBits le
+all-read = ((refl, refl), (refl, refl), (refl, refl))
 
 in-time : Later control × Later end
 unfolding plainAt plainStart ticksIn ticksOf upTo ofBits le lt eq
 in-time = (omega arith, omega arith)
 
-first : Gives 0 (pos 8192)
+-- the cycles of the plain player
+played-out : Gives 0 (pos 8192) × Gives 1 (pos 16384) × (plainAt (treeVoices tree) (settings ceiling) lines 1 .plays .counts .missed ≡ 1)
+    × (answerAt (treeVoices tree) (settings ceiling) lines 2 ≡ 9)
 unfolding answerAt answerOf blockAt blockOf limited bandOf startedOf runAll runFrom started controlled dueAt laterThan plainAt cycled plainStart sixty endsBy anyEnd played goesOn lastTempo cycleIn cycleOf keep fold each isDue insert ordered joinedBy born controlledBy ticksIn ticksOf upTo treeVoices instrumentOf importsOf silent sampleOf held binaryOf cycle kPass aPasses pass outputs assigned value fresh birth put putIn namedBy named placeFrom add mul round ofBits lt le eq code.named truth ne
-first = (refl, refl)
-
-second : Gives 1 (pos 16384)
-unfolding answerAt answerOf blockAt blockOf limited bandOf startedOf runAll runFrom started controlled dueAt laterThan plainAt cycled plainStart sixty endsBy anyEnd played goesOn lastTempo cycleIn cycleOf keep fold each isDue insert ordered joinedBy born controlledBy ticksIn ticksOf upTo treeVoices instrumentOf importsOf silent sampleOf held binaryOf cycle kPass aPasses pass outputs assigned value fresh birth put putIn namedBy named placeFrom add mul round ofBits lt le eq code.named truth ne
-second = (refl, refl)
-
-missed : plainAt (treeVoices tree) (settings ceiling) lines 1 .plays .counts .missed ≡ 1
-unfolding answerAt answerOf blockAt blockOf limited bandOf startedOf runAll runFrom started controlled dueAt laterThan plainAt cycled plainStart sixty endsBy anyEnd played goesOn lastTempo cycleIn cycleOf keep fold each isDue insert ordered joinedBy born controlledBy ticksIn ticksOf upTo treeVoices instrumentOf importsOf silent sampleOf held binaryOf cycle kPass aPasses pass outputs assigned value fresh birth put putIn namedBy named placeFrom add mul round ofBits lt le eq code.named truth ne
-missed = refl
-
-over : answerAt (treeVoices tree) (settings ceiling) lines 2 ≡ 9
-unfolding answerAt answerOf blockAt blockOf limited bandOf startedOf runAll runFrom started controlled dueAt laterThan plainAt cycled plainStart sixty endsBy anyEnd played goesOn lastTempo cycleIn cycleOf keep fold each isDue insert ordered joinedBy born controlledBy ticksIn ticksOf upTo treeVoices instrumentOf importsOf silent sampleOf held binaryOf cycle kPass aPasses pass outputs assigned value fresh birth put putIn namedBy named placeFrom add mul round ofBits lt le eq code.named truth ne
-over = refl
+played-out = ((refl, refl), (refl, refl), refl, refl)
 
 pub rich : Rich
 rich =
     record {
       accepted = accepted;
-      stick = stick-read;
-      unit = unit-read;
-      keypad = keypad-read;
+      stick = all-read .0;
+      unit = all-read .1;
+      keypad = all-read .2;
       inTime = in-time;
-      first = first;
-      second = second;
-      missed = missed;
-      over = over;
+      first = played-out .0;
+      second = played-out .1;
+      missed = played-out .2;
+      over = played-out .3;
     }

@@ -81,23 +81,30 @@ stick-lines = ap (takenOf (linesOf (bring stick onStick))) stick-answer ∙ ap (
 after-stick : History Held
 after-stick = record { holds = behind before (plainStart (settings ceiling 0) []); reached = nowhere }
 
+after-first : History Held
+after-first = withCycle (treeVoices tree) (settings ceiling) 0 after-stick
+
+after-unit : History Held
+after-unit = record { holds = behind (control ∷ []) (after-first .holds); reached = after-first .reached }
+
+-- cycle 0 plays; then nothing waits, and the control line and the end fit
+computed : Verdict tree after-stick (cycle lent) 0 0 × Verdict tree after-first (bring unit inUnit) 0 0 × Verdict tree after-unit (bring keypad onKeypad) 0 0
+unfolding after-unit after-first after-stick behind answerAt answerOf blockAt blockOf limited bandOf startedOf runAll runFrom started controlled dueAt laterThan plainAt cycled plainStart sixty endsBy anyEnd played goesOn lastTempo cycleIn cycleOf keep fold each isDue insert ordered joinedBy born controlledBy ticksIn ticksOf upTo treeVoices instrumentOf importsOf silent sampleOf held binaryOf noteCycle kPass aPasses pass outputs assigned value freshValues birth put putIn namedBy named placeFrom add mul round ofBits lt le eq code.named truth ne
+computed = (
+  plays refl refl refl,
+  taken (control ∷ []) (refl, rich .unit .0, rich .unit .1) (record { timed = λ q. refl; playable = tt; early = refl; room = omega arith }, tt),
+  taken (end ∷ []) (refl, rich .keypad .0, rich .keypad .1) (record { timed = λ q. refl; playable = tt; early = refl; room = omega arith }, tt),
+)
+
 past-stick : past bytes tree ceiling (bring stick onStick ∷ []) ≡ after-stick
 unfolding historyFrom traceFrom after-stick
 past-stick = λ i. record { holds = behind (stick-lines i) (plainStart (settings ceiling 0) []); reached = nowhere }
-
--- cycle 0 plays
-first-plays : Verdict tree after-stick (cycle lent) 0 0
-unfolding after-stick behind answerAt answerOf blockAt blockOf limited bandOf startedOf runAll runFrom started controlled dueAt laterThan plainAt cycled plainStart sixty endsBy anyEnd played goesOn lastTempo cycleIn cycleOf keep fold each isDue insert ordered joinedBy born controlledBy ticksIn ticksOf upTo treeVoices instrumentOf importsOf silent sampleOf held binaryOf noteCycle kPass aPasses pass outputs assigned value freshValues birth put putIn namedBy named placeFrom add mul round ofBits lt le eq code.named truth ne
-first-plays = plays refl refl refl
 
 first-answer : afterOf p1 (cycle lent) .answers ≡ one 0 0
 unfolding CallVerdict afterAll
 first-answer =
     call-verdict bytes tree ceiling given (bring stick onStick ∷ []) (cycle lent) .1 0 0
-    (subst⁻¹ (λ (h : History Held). Verdict tree h (cycle lent) 0 0) past-stick first-plays)
-
-after-first : History Held
-after-first = withCycle (treeVoices tree) (settings ceiling) 0 after-stick
+    (subst⁻¹ (λ (h : History Held). Verdict tree h (cycle lent) 0 0) past-stick (computed .0))
 
 past-first : past bytes tree ceiling (bring stick onStick ∷ cycle lent ∷ []) ≡ after-first
 unfolding historyFrom traceFrom after-first after-stick
@@ -106,21 +113,14 @@ past-first =
 
 -- ---- the unit
 
-unit-fits : Verdict tree after-first (bring unit inUnit) 0 0
-unfolding after-first after-stick behind answerAt answerOf blockAt blockOf limited bandOf startedOf runAll runFrom started controlled dueAt laterThan plainAt cycled plainStart sixty endsBy anyEnd played goesOn lastTempo cycleIn cycleOf keep fold each isDue insert ordered joinedBy born controlledBy ticksIn ticksOf upTo treeVoices instrumentOf importsOf silent sampleOf held binaryOf noteCycle kPass aPasses pass outputs assigned value freshValues birth put putIn namedBy named placeFrom add mul round ofBits lt le eq code.named truth ne
-unit-fits = taken (control ∷ []) (refl, rich .unit .0, rich .unit .1) (record { timed = λ q. refl; playable = tt; early = refl; room = omega arith }, tt)
-
 unit-answer : afterOf p2 (bring unit inUnit) .answers ≡ one 0 0
 unfolding CallVerdict afterAll
 unit-answer =
     call-verdict bytes tree ceiling given (bring stick onStick ∷ cycle lent ∷ []) (bring unit inUnit) .1 0 0
-    (subst⁻¹ (λ (h : History Held). Verdict tree h (bring unit inUnit) 0 0) past-first unit-fits)
+    (subst⁻¹ (λ (h : History Held). Verdict tree h (bring unit inUnit) 0 0) past-first (computed .1))
 
 unit-lines : takenOf (linesOf (bring unit inUnit)) (afterOf p2 (bring unit inUnit) .answers) ≡ control ∷ []
 unit-lines = ap (takenOf (linesOf (bring unit inUnit))) unit-answer ∙ ap (λ (ls : List Line). ls ++ []) (rich .unit .1)
-
-after-unit : History Held
-after-unit = record { holds = behind (control ∷ []) (after-first .holds); reached = after-first .reached }
 
 past-unit : past bytes tree ceiling (bring stick onStick ∷ cycle lent ∷ bring unit inUnit ∷ []) ≡ after-unit
 unfolding historyFrom traceFrom after-unit after-first after-stick
@@ -130,15 +130,11 @@ past-unit =
 
 -- ---- the keypad
 
-keypad-fits : Verdict tree after-unit (bring keypad onKeypad) 0 0
-unfolding after-unit after-first after-stick behind answerAt answerOf blockAt blockOf limited bandOf startedOf runAll runFrom started controlled dueAt laterThan plainAt cycled plainStart sixty endsBy anyEnd played goesOn lastTempo cycleIn cycleOf keep fold each isDue insert ordered joinedBy born controlledBy ticksIn ticksOf upTo treeVoices instrumentOf importsOf silent sampleOf held binaryOf noteCycle kPass aPasses pass outputs assigned value freshValues birth put putIn namedBy named placeFrom add mul round ofBits lt le eq code.named truth ne
-keypad-fits = taken (end ∷ []) (refl, rich .keypad .0, rich .keypad .1) (record { timed = λ q. refl; playable = tt; early = refl; room = omega arith }, tt)
-
 keypad-answer : afterOf p3 (bring keypad onKeypad) .answers ≡ one 0 0
 unfolding CallVerdict afterAll
 keypad-answer =
     call-verdict bytes tree ceiling given (bring stick onStick ∷ cycle lent ∷ bring unit inUnit ∷ []) (bring keypad onKeypad) .1 0 0
-    (subst⁻¹ (λ (h : History Held). Verdict tree h (bring keypad onKeypad) 0 0) past-unit keypad-fits)
+    (subst⁻¹ (λ (h : History Held). Verdict tree h (bring keypad onKeypad) 0 0) past-unit (computed .2))
 
 keypad-lines : takenOf (linesOf (bring keypad onKeypad)) (afterOf p3 (bring keypad onKeypad) .answers) ≡ end ∷ []
 keypad-lines = ap (takenOf (linesOf (bring keypad onKeypad))) keypad-answer ∙ ap (λ (ls : List Line). ls ++ []) (rich .keypad .1)
