@@ -33,7 +33,6 @@ use Rattle.syntax.specs.Names.{has, titleOf}
 use Rattle.voices.specs.Tree.{instrumentOf, fieldsOf}
 use Rattle.voices.proofs.Lines.{fields-tree}
 use Rattle.sounding.specs.Voices.{Held, fieldsIn}
-use Rattle.sounding.specs.declared.Instrument as row
 use Rattle.players.specs.Holds.{dueOf, endsBy}
 use Rattle.players.specs.Calls.{Door, stick, unit, keypad, mustBeTimed, hasTime, reads, Call, bring, cycle, Answer, one, After, numbered}
 use Rattle.players.specs.History.{Reached, nowhere, at, History}

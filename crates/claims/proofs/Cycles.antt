@@ -13,11 +13,11 @@ use Rattle.answer.specs.declared.Answer.the-variants as answer
 use Rattle.score_line.specs.declared.Line.{Line}
 use Rattle.synth.specs.declared.Note.{Note}
 use Rattle.players.specs.Lists.{each, keep, over}
-use Rattle.players.specs.Cycle.{Voices, isDue, samples}
+use Rattle.players.specs.Cycle.{isDue, samples}
 use Rattle.players.specs.Cycle as cycle
-use Rattle.players.specs.Holds.{Plays, Holds, settingsOf, laterThan, dueOf, endsBy, marked, capped, blockOf, played}
+use Rattle.players.specs.Holds.{Plays, settingsOf, laterThan, dueOf, endsBy, marked, capped, blockOf, played}
 use Rattle.players.specs.Calls.{bring, cycle as cycle-call, one, numbered, After, isZero}
-use Rattle.players.specs.History.{Reached, at}
+use Rattle.players.specs.History.{at}
 use Rattle.players.proofs.Lists.{length-keep}
 use Rattle.players.proofs.Loops.{length-over}
 use Rattle.waiting.specs.Admission.{waitingIn}
@@ -26,7 +26,6 @@ use Rattle.sounding.proofs.Steps.{length-each}
 use Rattle.turning.specs.Steps.{playsOf, laidOver, advanced}
 use Rattle.turning.specs.Turn as turn
 use Rattle.turning.specs.declared.Playing.{Playing}
-use Rattle.turning.specs.declared.State.{State}
 use Rattle.panel.specs.State.{voicesOf, holdsOf, endedOf}
 use Rattle.panel.specs.Calls.{playedOf, cycleOf, blockAfter}
 use Rattle.panel.specs.declared.Panel.{Panel}

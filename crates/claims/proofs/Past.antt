@@ -22,16 +22,16 @@ use Rattle.voices.proofs.Alike.{Alike, Notes, block-same, played-same, played-g
 use Rattle.sounding.specs.Voices.{Held}
 use Rattle.players.specs.Lists.{each, All}
 use Rattle.players.specs.Cycle.{Voices, farthest}
-use Rattle.players.specs.Holds.{Settings, settingsOf, sixty, Plays, Holds, behind, laterThan, dueOf, endsBy, marked, answerOf, capped, blockOf, played, cycled}
+use Rattle.players.specs.Holds.{Settings, settingsOf, Holds, behind, laterThan, dueOf, endsBy, marked, answerOf, capped, blockOf, played, cycled}
 use Rattle.players.specs.Plain.{plainStart}
-use Rattle.players.specs.Calls.{Door, stick, unit, keypad, reads, single, Call, bring, cycle, Answer, one, After, numbered, linesOf, takenOf, isZero, Last, none, Moment, takenIn, cyclesWith, lastWith, momentOf, traceFrom, trace, afterAll}
+use Rattle.players.specs.Calls.{Door, stick, unit, keypad, reads, single, Call, bring, cycle, Answer, one, After, numbered, linesOf, takenOf, isZero, Last, none, cyclesWith, lastWith, momentOf, traceFrom, trace, afterAll}
 use Rattle.players.specs.Condition3.{WithinCeiling}
-use Rattle.players.specs.History.{Reached, nowhere, at, History, unbegun, withCycle, withMoment, historyFrom}
+use Rattle.players.specs.History.{nowhere, at, History, unbegun, withCycle, withMoment, historyFrom}
 use Rattle.players.proofs.Lists.{cond-true, cond-false, all-append}
 use Rattle.players.proofs.Join.{behind-none}
 use Rattle.players.proofs.Count.{AllSteady, steady, Slow, within-limit, cap-none, slow-played, starting}
 use Rattle.players.proofs.Ceiling.{block-within}
-use Rattle.players.proofs.Alike.{Follows, AllFollow, plain-alike}
+use Rattle.players.proofs.Alike.{AllFollow, plain-alike}
 use Rattle.waiting.specs.declared.Queue.{Queue}
 use Rattle.entrances.specs.Entrances.{emptyLine}
 use Rattle.turning.specs.Turn as turn
@@ -229,9 +229,6 @@ module _ (program : Program) (ceiling : ℕ) (is : List Instrument) (r : StandsF
       door-step : (d : Door) (handed : List ℕ) → Step (bring d handed)
       door-step d handed = go (brings p d handed)
         where
-          ls : List Line
-          ls = reads d handed .lines
-
           -- the history with the lines that answers say
           told : List Answer → History Held
           told given = record { holds = behind (takenOf (linesOf (bring d handed)) given) (holdsOf p); reached = reachedOf p }

@@ -25,7 +25,7 @@ use Rattle.timebase.specs.Time as timebase-time
 use Rattle.score.specs.Score.{Score, scoreOf}
 use Rattle.players.specs.Lists.{All}
 use Rattle.players.specs.Plain.{plainStart, answerAt, blockAt}
-use Rattle.players.specs.Calls.{stick, bring, cycle, Answer, one, numbered, linesOf, takenOf, isZero, latest, none, Moment, takenIn, cyclesWith, lastWith, momentOf, traceFrom, trace, allTaken, afterAll}
+use Rattle.players.specs.Calls.{stick, bring, cycle, Answer, one, numbered, linesOf, takenOf, isZero, none, Moment, lastWith, momentOf, traceFrom, allTaken, afterAll}
 use Rattle.players.specs.Condition3.{inTime, InTime, AsPlain, PlainAlike}
 use Rattle.players.specs.History.{historyFrom}
 use Rattle.voices.specs.Tree.{treeVoices}
