@@ -35,8 +35,8 @@ def filled(statement):
         body.append(text)
 
 
-def chain(operator):
-    return lambda n: "x = x" + f" {operator} y" * ((n - 4) // 2) + ";" if n >= 6 else ""
+def chain(operator, operand="y"):
+    return lambda n: "x = x" + f" {operator} {operand}" * ((n - 4) // 2) + ";" if n >= 6 else ""
 
 
 def prefixes(operator):
@@ -69,7 +69,9 @@ def pieces():
     yield "eight-by-2", "".join(tone(name) for name in names), [(name, "440") for name in names] * 2
     costly = [("times", chain("*"), "1"), ("over", chain("/"), "1"), ("plus", chain("+"), "1"), ("less", chain("<"), "1"),
               ("and", chain("&&"), "1"), ("not", prefixes("!"), "1"), ("minus", prefixes("-"), "1"), ("choices", choices, "1"),
-              ("ifs", fixed("if (x) { x = y; }"), "1"), ("outputs", fixed("output(x);"), "0.001"), ("fracs", fracs, "0.5")]
+              ("ifs", fixed("if (x) { x = y; }"), "1"), ("outputs", fixed("output(x);"), "0.001"), ("fracs", fracs, "0.5"),
+              # subnormal floats, with which processors multiply far more slowly
+              ("tiny", chain("*", "1"), "1e-40")]
     for name, statement, value in costly:
         orchestra = filled(statement)
         assert count(orchestra) <= MOST_TOKENS
