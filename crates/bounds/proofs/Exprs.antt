@@ -8,58 +8,49 @@ use lib.Ieee.{Float, binary32, ofInt}
 use lib.IntN.{pos}
 use Rattle.tokens.specs.declared.Token.{Token}
 use Rattle.syntax.specs.Tree.{Expr, number, name, unary, binary, choose, Statements, done, assign, output, branch}
-use Rattle.syntax.specs.Program.{Ins, ins, compile, code}
-use Rattle.expressions.specs.Grammar.{Derives, real, whole, named, prefixed, bracketed, called, called2, sides, chosen, Operator, or, and, equal, unequal, less, greater, atMost, atLeast, plus, minus, times, over, Prefix, negative, not, Call, abs, sgn, int, frac, Call2, min, max as larger}
+use Rattle.signs.specs.Operators.{Unary, Binary}
+use Rattle.syntax.specs.Program.{Ins, ins, unaryOp, binaryOp, compile, code}
+use Rattle.syntax.specs.Grammar.{Derives, real, whole, named, prefixed, bracketed, called, called2, sides, chosen}
 use Rattle.synth.specs.Run.{kindOf}
 use Rattle.lowered.specs.Lowered.{after, past}
 use Rattle.lowered.specs.Statements.{depth, Proper}
 
 -- ---- operators
 
-prefix-one : {s o : ℕ} → Prefix s o → kindOf o ≡ 1
+unary-one : (o : Unary) → kindOf (unaryOp o) ≡ 1
 unfolding kindOf
-prefix-one negative = refl
-prefix-one not = refl
+unary-one Unary.absolute = refl
+unary-one Unary.signum = refl
+unary-one Unary.whole = refl
+unary-one Unary.fraction = refl
+unary-one Unary.not = refl
+unary-one Unary.negative = refl
 
-call-one : {o : ℕ} → Call o → kindOf o ≡ 1
+binary-two : (o : Binary) → kindOf (binaryOp o) ≡ 2
 unfolding kindOf
-call-one abs = refl
-call-one sgn = refl
-call-one int = refl
-call-one frac = refl
-
-call2-two : {o : ℕ} → Call2 o → kindOf o ≡ 2
-unfolding kindOf
-call2-two min = refl
-call2-two larger = refl
-
-operator-two : {o l : ℕ} → Operator o l → kindOf o ≡ 2
-unfolding kindOf
-operator-two or = refl
-operator-two and = refl
-operator-two equal = refl
-operator-two unequal = refl
-operator-two less = refl
-operator-two greater = refl
-operator-two atMost = refl
-operator-two atLeast = refl
-operator-two plus = refl
-operator-two minus = refl
-operator-two times = refl
-operator-two over = refl
+binary-two Binary.least = refl
+binary-two Binary.greatest = refl
+binary-two Binary.or = refl
+binary-two Binary.and = refl
+binary-two Binary.equal = refl
+binary-two Binary.unequal = refl
+binary-two Binary.less = refl
+binary-two Binary.greater = refl
+binary-two Binary.atMost = refl
+binary-two Binary.atLeast = refl
+binary-two Binary.plus = refl
+binary-two Binary.minus = refl
+binary-two Binary.times = refl
+binary-two Binary.over = refl
 
 -- each operator has its number of operands
-pub proper : {m : ℕ} {e : Expr} {ts : List Token} → Derives m e ts → Proper e
+pub proper : (e : Expr) → Proper e
 unfolding Proper
-proper (real x) = tt
-proper (whole w) = tt
-proper (named n) = tt
-proper (prefixed p d) = (prefix-one p, proper d)
-proper (bracketed d) = proper d
-proper (called p d) = (call-one p, proper d)
-proper (called2 p d f) = (call2-two p, (proper d, proper f))
-proper (sides p l d f) = (operator-two p, (proper d, proper f))
-proper (chosen c d f) = (proper c, (proper d, proper f))
+proper (number x) = tt
+proper (name n) = tt
+proper (unary o e) = (unary-one o, proper e)
+proper (binary o a b) = (binary-two o, (proper a, proper b))
+proper (choose c a b) = (proper c, (proper a, proper b))
 
 -- ---- lengths
 
@@ -75,11 +66,11 @@ pub length-name : (c : ℕ) → length (compile (name c)) ≡ 1
 unfolding compile
 length-name c = refl
 
-pub length-unary : (o : ℕ) (e : Expr) → length (compile (unary o e)) ≡ suc (length (compile e))
+pub length-unary : (o : Unary) (e : Expr) → length (compile (unary o e)) ≡ suc (length (compile e))
 unfolding compile
-length-unary o e = length-last (compile e) (ins o)
+length-unary o e = length-last (compile e) (ins (unaryOp o))
 
-pub length-binary : (o : ℕ) (a b : Expr) → length (compile (binary o a b)) ≡ suc (length (compile a) + length (compile b))
+pub length-binary : (o : Binary) (a b : Expr) → length (compile (binary o a b)) ≡ suc (length (compile a) + length (compile b))
 unfolding compile
 length-binary o a b = simp length-append (omega arith)
 

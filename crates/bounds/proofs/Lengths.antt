@@ -7,8 +7,8 @@ use lib.ListN.{length, length-append}
 use lib.Dec.{eqb}
 use Rattle.syntax.specs.Tree.{Expr, number, name, unary, binary, choose, Statements, done, assign, output, branch, Instrument}
 use Rattle.syntax.specs.Program.{compile, code, instrument, program}
-use Rattle.syntax.specs.Rates.{rateOf, placeOf}
-use Rattle.syntax.specs.Names.{placed as put}
+use Rattle.syntax.specs.Placed.{rateOf, placeOf}
+use Rattle.syntax.specs.Placed.{placed as put}
 use Rattle.lowered.specs.Lowered.{after, past, placed, partsTo, parts, stored, sent, opened, lowered}
 use Rattle.lowered.proofs.Lengths.{stored-length}
 use Rattle.bounds.specs.Sizes.{bodyAt, allLowered, LoweredFits}

@@ -10,10 +10,11 @@ use lib.Ieee.{Float}
 use borrow.Author.Tests.{leb-true}
 use Rattle.laws.proofs.Choice.{both-true}
 use Rattle.tokens.specs.declared.Token.{Token}
+use Rattle.signs.specs.Operators.{Unary, Binary, unarySign, binarySign}
 use Rattle.tokens.specs.declared.Token.the-variants.{Number, Symbol, Whole, Sign}
 use Rattle.tokens.specs.Measures.{kindOf, opened, bracketsKept, since, stretchesKept}
 use Rattle.syntax.specs.Tree.{Expr}
-use Rattle.expressions.specs.Grammar.{Derives, real, whole, named, prefixed, bracketed, called, called2, sides, chosen, Operator, or, and, equal, unequal, less, greater, atMost, atLeast, plus, minus, times, over, Prefix, negative, not, Call, abs, sgn, int, frac, Call2, min, max}
+use Rattle.syntax.specs.Grammar.{Derives, real, whole, named, prefixed, bracketed, called, called2, sides, chosen, sign, Binds, or, and, equal, unequal, less, greater, atMost, atLeast, plus, minus, times, over, Prefix, negative, not, Call, abs, sgn, int, frac, Call2, min, max}
 
 -- the measures of tokens that follow n open brackets, and k tokens since the last of ; { }
 pub record Kept (n k : ℕ) (ts : List Token) : Type 0 where
@@ -82,21 +83,21 @@ pub plain-sign : (s : ℕ) → (eqb s 15 || eqb s 17) ≡ false → (eqb s 16 ||
 unfolding opened since
 plain-sign s a b c = record { opens = λ n. rw (a, b); goes = λ k. rw c }
 
-plain-prefix : {s o : ℕ} → Prefix s o → Plain (Sign s)
+plain-prefix : {o : Unary} → Prefix o → Plain (sign (unarySign o))
 plain-prefix negative = plain-sign 33 refl refl refl
 plain-prefix not = plain-sign 36 refl refl refl
 
-plain-call : {o : ℕ} → Call o → Plain (Sign o)
+plain-call : {o : Unary} → Call o → Plain (sign (unarySign o))
 plain-call abs = plain-sign 9 refl refl refl
 plain-call sgn = plain-sign 10 refl refl refl
 plain-call int = plain-sign 11 refl refl refl
 plain-call frac = plain-sign 12 refl refl refl
 
-plain-call2 : {o : ℕ} → Call2 o → Plain (Sign o)
+plain-call2 : {o : Binary} → Call2 o → Plain (sign (binarySign o))
 plain-call2 min = plain-sign 13 refl refl refl
 plain-call2 max = plain-sign 14 refl refl refl
 
-plain-operator : {o l : ℕ} → Operator o l → Plain (Sign o)
+plain-operator : {o : Binary} {l : ℕ} → Binds o l → Plain (sign (binarySign o))
 plain-operator or = plain-sign 24 refl refl refl
 plain-operator and = plain-sign 25 refl refl refl
 plain-operator equal = plain-sign 26 refl refl refl
@@ -150,15 +151,15 @@ pub within : {m : ℕ} {e : Expr} {ts : List Token} → Derives m e ts → Withi
 within (real x) = within-one (Number x) (plain-number x)
 within (whole w) = within-one (Whole w) (plain-whole w)
 within (named n) = within-one (Symbol n) (plain-symbol n)
-within (prefixed {s = s} {ts = ts} p d) = within-cons (Sign s) ts (plain-prefix p) (within d)
+within (prefixed {o = o} {ts = ts} p d) = within-cons (sign (unarySign o)) ts (plain-prefix p) (within d)
 within (bracketed {ts = ts} d) = within-bracket ts (within d)
-within (called {o = o} {ts = ts} p d) = within-cons (Sign o) (Sign 15 ∷ (ts ++ Sign 16 ∷ [])) (plain-call p) (within-bracket ts (within d))
+within (called {o = o} {ts = ts} p d) = within-cons (sign (unarySign o)) (Sign 15 ∷ (ts ++ Sign 16 ∷ [])) (plain-call p) (within-bracket ts (within d))
 within (called2 {o = o} {ts = ts} {us = us} p d f) =
-    within-cons (Sign o) (Sign 15 ∷ (ts ++ Sign 19 ∷ (us ++ Sign 16 ∷ []))) (plain-call2 p)
+    within-cons (sign (binarySign o)) (Sign 15 ∷ (ts ++ Sign 19 ∷ (us ++ Sign 16 ∷ []))) (plain-call2 p)
     (subst (λ (l : List Token). Within (Sign 15 ∷ l)) (append-assoc ts (Sign 19 ∷ us) (Sign 16 ∷ []))
     (within-bracket (ts ++ Sign 19 ∷ us)
     (within-append ts (Sign 19 ∷ us) (within d) (within-cons (Sign 19) us (plain-sign 19 refl refl refl) (within f)))))
-within (sides {o = o} {ts = ts} {us = us} p l d f) = within-append ts (Sign o ∷ us) (within d) (within-cons (Sign o) us (plain-operator p) (within f))
+within (sides {o = o} {ts = ts} {us = us} p l d f) = within-append ts (sign (binarySign o) ∷ us) (within d) (within-cons (sign (binarySign o)) us (plain-operator p) (within f))
 within (chosen {ts = ts} {us = us} {vs = vs} c d f) =
     within-append ts (Sign 22 ∷ (us ++ Sign 23 ∷ vs)) (within c)
     (within-cons (Sign 22) (us ++ Sign 23 ∷ vs) (plain-sign 22 refl refl refl)

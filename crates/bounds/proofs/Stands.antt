@@ -7,6 +7,7 @@ use lib.ListN.{length, length-append, length-map, drop, getD}
 use lib.Seq.{drop-drop, drop-append-seam, getD-drop}
 use lib.Ieee.{Float}
 use Rattle.syntax.specs.Tree.{Expr, number, name, unary, binary, choose, Statements, done, assign, output, branch}
+use Rattle.syntax.specs.Program.{unaryOp, binaryOp}
 use Rattle.syntax.specs.Program.{Ins, ins, insArg, chooseOp, storeOp, outputOp, ifOp, elseOp, endOp, zeroF, compile, code}
 use Rattle.expressions.specs.Areas.{valOf}
 use Rattle.lowered.specs.Lowered.{after, past}
@@ -57,9 +58,9 @@ module _ (vals : List Float) where
   unfolding Holds compile
   holds n (number x) s = holds-number n x s
   holds n (name c) s = tt
-  holds n (unary o e) s = holds n e (first n (compile e) (ins o ∷ []) s)
+  holds n (unary o e) s = holds n e (first n (compile e) (ins (unaryOp o) ∷ []) s)
   holds n (binary o a b) s =
-      let ab = first n (compile a ++ compile b) (ins o ∷ []) s in
+      let ab = first n (compile a ++ compile b) (ins (binaryOp o) ∷ []) s in
       (holds n a (first n (compile a) (compile b) ab), holds (after n a) b (rw (after-length n a) (second n (compile a) (compile b) ab)))
   holds n (choose c a b) s =
       let k = after n c in

@@ -9,9 +9,9 @@ use Rattle.tokens.specs.declared.Token.{Token}
 use Rattle.tokens.specs.Measures.{measured}
 use Rattle.syntax.specs.Tree.{Expr, Statements, done, assign, output, branch, Instrument, fieldKind}
 use Rattle.syntax.specs.Program.{Ins, declare, declared, instrument, program}
-use Rattle.syntax.specs.Names.{placed}
+use Rattle.syntax.specs.Placed.{placed}
 use Rattle.expressions.specs.Areas.{valOf}
-use Rattle.grammar.specs.Grammar.{Orchestra}
+use Rattle.syntax.specs.Grammar.{Orchestra}
 use Rattle.lowered.specs.Lowered.{lowered}
 use Rattle.lowered.specs.Statements.{depth, Proper, Playable}
 

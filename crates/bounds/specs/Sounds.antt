@@ -9,9 +9,9 @@ use Rattle.tokens.specs.declared.Token.{Token}
 use Rattle.tokens.specs.Measures.{measured}
 use Rattle.syntax.specs.Tree.{Statements, Instrument}
 use Rattle.syntax.specs.Program.{program}
-use Rattle.syntax.specs.Names.{placed}
-use Rattle.meaning.specs.Meaning.{birth, kPass, aPasses}
-use Rattle.grammar.specs.Grammar.{Orchestra}
+use Rattle.syntax.specs.Placed.{placed}
+use Rattle.meaning.specs.Placed.{birth, kPass, aPasses}
+use Rattle.syntax.specs.Grammar.{Orchestra}
 use Rattle.synth.specs.Passes.{freshOf, once, played}
 use Rattle.lowered.specs.Lowered.{lowered}
 use Rattle.lowered.specs.Statements.{AllFit}

@@ -11,12 +11,13 @@ use borrow.Author.Tests.{leb-true, le-leb}
 use Rattle.answer.specs.Numbers.{numberOf, isTaken}
 use Rattle.answer.specs.declared.Answer.the-variants.{Taken, OutOfRange, Ended, BlockLength}
 use Rattle.tokens.specs.declared.Token.{Token}
-use Rattle.tokens.specs.Bytes.{none, some}
-use Rattle.tokens.specs.Measures.{measured}
+use Rattle.tokens.specs.Spelling.{Bytes}
+use Rattle.tokens.proofs.Laws.{one-spelling}
+use Rattle.tokens.specs.Measures.{longest, measured}
 use Rattle.syntax.specs.Tree.{Instrument}
 use Rattle.syntax.specs.Names.{nameRules}
 use Rattle.syntax.specs.Rates.{rateRules}
-use Rattle.grammar.specs.Grammar.{Orchestra}
+use Rattle.syntax.specs.Grammar.{Orchestra}
 use Rattle.grammar.proofs.Unique.{unique}
 use Rattle.orchestra.specs.Reading.{readOf}
 use Rattle.orchestra.specs.declared.Outcome.{Outcome}
@@ -47,14 +48,8 @@ first-one (holds a r) (fails g) = absurd (g a)
 first-one (holds a r) (holds b s) = first-one r s
 first-one all all = refl
 
-apart : {ts : List Token} → none ≡ some ts → ⊥
-apart q = let z : _≡_ {A = ℕ} 0 1 = cc in omega arith
-
-too-long : (bs : List ℕ) → orchestra.longest < length bs → length bs ≤ orchestra.longest → ⊥
+too-long : (bs : List ℕ) → longest < length bs → length bs ≤ longest → ⊥
 too-long bs lt le = omega (arith, lt, le)
-
-same-tokens : {ts us : List Token} → some ts ≡ some us → ts ≡ us
-same-tokens q = cc
 
 module _ (bs : List ℕ) (ceiling : ℕ) (law : (1 ≤ ceiling) × (ceiling ≤ 32767)) where
   abbrev names : Check
@@ -68,34 +63,34 @@ module _ (bs : List ℕ) (ceiling : ℕ) (law : (1 ≤ ceiling) × (ceiling ≤ 
 
   measured-so : (ts : List Token) → orchestra.Sized bs ts → {n : ℕ} → First (grammar ∷ names ∷ rates ∷ []) n → First (checks bs ceiling) n
   measured-so ts s f =
-      let is-tokens : Tokens bs (λ us. Unit {0}) = (ts, s .tokens, tt) in
-      let within : Tokens bs (λ us. measured us ≡ true) = (ts, s .tokens, s .within) in
+      let is-tokens : Tokens bs (λ us. Unit {0}) = (ts, s .spells, tt) in
+      let within : Tokens bs (λ us. measured us ≡ true) = (ts, s .spells, s .within) in
       holds law (holds (s .short) (holds is-tokens (holds within f)))
 
   derived-so : (ts : List Token) (is : List Instrument) → orchestra.Sized bs ts → Orchestra is ts → {n : ℕ} → First (names ∷ rates ∷ []) n → First (checks bs ceiling) n
   derived-so ts is s d f =
-      let derived : Tree bs (λ js. Unit {0}) = (ts, is, s .tokens, d, tt) in measured-so ts s (holds derived f)
+      let derived : Tree bs (λ js. Unit {0}) = (ts, is, s .spells, d, tt) in measured-so ts s (holds derived f)
 
   by-verdict : (o : Outcome) → orchestra.Verdict bs o → First (checks bs ceiling) (numberOf (o .answer))
   by-verdict o (orchestra.tooLong lt) = holds law (fails (too-long bs lt))
-  by-verdict o (orchestra.noTokens le e) = holds law (holds le (fails (λ (x : Tokens bs (λ ts. Unit {0})). apart (sym e ∙ x .1))))
+  by-verdict o (orchestra.noTokens le e) = holds law (holds le (fails (λ (x : Tokens bs (λ ts. Unit {0})). e (x .0) (x .1))))
   by-verdict o (orchestra.tooLarge ts le e m) =
       let is-tokens : Tokens bs (λ us. Unit {0}) = (ts, e, tt) in
-      holds law (holds le (holds is-tokens (fails (λ (x : Tokens bs (λ ts. measured ts ≡ true)). differ (sym (x .2) ∙ ap measured (same-tokens (sym (x .1) ∙ e)) ∙ m)))))
+      holds law (holds le (holds is-tokens (fails (λ (x : Tokens bs (λ ts. measured ts ≡ true)). differ (sym (x .2) ∙ ap measured (one-spelling bs (x .0) ts (x .1) e) ∙ m)))))
   by-verdict o (orchestra.outside ts s f) =
       measured-so ts s
-      (fails (λ (x : Tree bs (λ js. Unit {0})). f (x .1) (subst (Orchestra (x .1)) (same-tokens (sym (x .2) ∙ s .tokens)) (x .3))))
+      (fails (λ (x : Tree bs (λ js. Unit {0})). f (x .1) (subst (Orchestra (x .1)) (one-spelling bs (x .0) ts (x .2) (s .spells)) (x .3))))
   by-verdict o (orchestra.misnamed ts is s d n) =
       derived-so ts is s d
-      (fails (λ (x : Tree bs (λ js. nameRules js ≡ true)). differ (sym (x .4) ∙ ap nameRules (unique (x .3) d (same-tokens (sym (x .2) ∙ s .tokens))) ∙ n)))
+      (fails (λ (x : Tree bs (λ js. nameRules js ≡ true)). differ (sym (x .4) ∙ ap nameRules (unique (x .3) d (one-spelling bs (x .0) ts (x .2) (s .spells))) ∙ n)))
   by-verdict o (orchestra.misrated ts is s d n r) =
-      let named : Tree bs (λ js. nameRules js ≡ true) = (ts, is, s .tokens, d, n) in
+      let named : Tree bs (λ js. nameRules js ≡ true) = (ts, is, s .spells, d, n) in
       derived-so ts is s d
       (holds named
-      (fails (λ (x : Tree bs (λ js. rateRules js ≡ true)). differ (sym (x .4) ∙ ap rateRules (unique (x .3) d (same-tokens (sym (x .2) ∙ s .tokens))) ∙ r))))
+      (fails (λ (x : Tree bs (λ js. rateRules js ≡ true)). differ (sym (x .4) ∙ ap rateRules (unique (x .3) d (one-spelling bs (x .0) ts (x .2) (s .spells))) ∙ r))))
   by-verdict o (orchestra.accepted is a) =
-      let named : Tree bs (λ js. nameRules js ≡ true) = (a .tokens, is, a .sized .tokens, a .derived, a .named) in
-      let rated : Tree bs (λ js. rateRules js ≡ true) = (a .tokens, is, a .sized .tokens, a .derived, a .rated) in
+      let named : Tree bs (λ js. nameRules js ≡ true) = (a .tokens, is, a .sized .spells, a .derived, a .named) in
+      let rated : Tree bs (λ js. rateRules js ≡ true) = (a .tokens, is, a .sized .spells, a .derived, a .rated) in
       derived-so (a .tokens) is (a .sized) (a .derived) (holds named (holds rated all))
 
 -- a panel that has ended
@@ -136,11 +131,11 @@ out bs ceiling law taken =
     (cond taken (record { panel = startOf (loadOf bs .program) ceiling false; answer = loadOf bs .answer }) (noPanel (loadOf bs .program) (loadOf bs .answer)))
     (noPanel (loadOf [] .program) OutOfRange)
 
-module _ (bs : List ℕ) (ceiling : ℕ) where
+module _ (bs : List ℕ) (ceiling : ℕ) (bytes : Bytes bs) where
   -- the number
   law-first : leb 1 ceiling ≡ true → leb ceiling 32767 ≡ true → First (checks bs ceiling) (numberOf (loadOf bs .answer))
   unfolding loadOf
-  law-first l h = by-verdict bs ceiling (leb-true 1 ceiling l, leb-true ceiling 32767 h) (readOf bs) (every-verdict bs)
+  law-first l h = by-verdict bs ceiling (leb-true 1 ceiling l, leb-true ceiling 32767 h) (readOf bs) (every-verdict bs bytes)
 
   number-is : (a b t : Bool) → leb 1 ceiling ≡ a → leb ceiling 32767 ≡ b → First (checks bs ceiling) (numberOf (out bs ceiling (a && b) t .answer))
   unfolding out noPanel
@@ -169,7 +164,7 @@ module _ (bs : List ℕ) (ceiling : ℕ) where
   begun-is : loadOf bs .answer ≡ Taken → Begun bs ceiling (startOf (loadOf bs .program) ceiling false)
   unfolding startOf
   begun-is e =
-      let x = taken-only bs e in
+      let x = taken-only bs bytes e in
       record {
         tree = x .0;
         accepted = x .1;
@@ -194,10 +189,10 @@ module _ (bs : List ℕ) (ceiling : ℕ) where
 
 pub fresh-verdict : FreshVerdict
 unfolding Kinds
-fresh-verdict bs ceiling =
+fresh-verdict bs ceiling bytes =
     record {
-      given = number bs ceiling;
-      only = λ n f. first-one (number bs ceiling) f;
-      begun = kinds bs ceiling .0;
-      noPanel = λ n cs. all-ended cs 0 none-yet (freshOf bs ceiling .panel) (kinds bs ceiling .1 n);
+      given = number bs ceiling bytes;
+      only = λ n f. first-one (number bs ceiling bytes) f;
+      begun = kinds bs ceiling bytes .0;
+      noPanel = λ n cs. all-ended cs 0 none-yet (freshOf bs ceiling .panel) (kinds bs ceiling bytes .1 n);
     }

@@ -10,6 +10,7 @@ use Rattle.answer.specs.Numbers.{numberOf}
 use Rattle.answer.specs.declared.Answer.the-variants.{Taken}
 use Rattle.score_line.specs.declared.Line.{Line}
 use Rattle.syntax.specs.Tree.{Instrument}
+use Rattle.tokens.specs.Spelling.{Bytes}
 use Rattle.orchestra.specs.Verdict.{Accepted}
 use Rattle.voices.specs.Tree.{treeVoices}
 use Rattle.sounding.specs.Voices.{Held}
@@ -73,7 +74,7 @@ pub record FreshStart (orchestra : List ℕ) (ceiling : ℕ) : Type 1 where
   pub noPanel : (freshOf orchestra ceiling .answer ≡ Taken → ⊥) → (cs : List Call) → All AsEnded (trace panel (freshOf orchestra ceiling .panel) cs)
 
 abbrev pub FreshVerdict : Type 1
-FreshVerdict = (orchestra : List ℕ) (ceiling : ℕ) → FreshStart orchestra ceiling
+FreshVerdict = (orchestra : List ℕ) (ceiling : ℕ) → Bytes orchestra → FreshStart orchestra ceiling
 
 -- ---- every call on every panel
 

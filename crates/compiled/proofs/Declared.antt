@@ -5,10 +5,10 @@ use mathlib.Core.List.{List, [], _∷_, map}
 use Rattle.tokens.specs.declared.Token.{Token}
 use Rattle.syntax.specs.Tree.{Declaration, Instrument}
 use Rattle.syntax.specs.Program.{actOf}
-use Rattle.syntax.specs.Names.{placed}
+use Rattle.syntax.specs.Placed.{placed}
 use Rattle.syntax.specs.declared.Act.the-variants.{Declare}
-use Rattle.grammar.specs.Grammar as grammar
-use Rattle.grammar.specs.Grammar.{Kinds, Decls, Instr, Orchestra}
+use Rattle.syntax.specs.Grammar as grammar
+use Rattle.syntax.specs.Grammar.{Kinds, Decls, Instr, Orchestra}
 use Rattle.rules.specs.Formed.{FormedKinds}
 use Rattle.compiled.specs.Compiled.{KindsAll}
 

@@ -7,6 +7,7 @@ use lib.ListN.{length, length-append}
 use lib.Ieee.{Float}
 use borrow.Author.Tests.{ne-eqb}
 use Rattle.syntax.specs.Tree.{Expr, number, name, unary, binary, choose, Statements, done, assign, output, branch, Declaration, Instrument, fieldKind}
+use Rattle.syntax.specs.Program.{unaryOp, binaryOp}
 use Rattle.syntax.specs.Program.{Ins, ins, insArg, actOf, compile, code as codeOfTree, declare, declared, instrument, program, storeOp, outputOp, ifOp, elseOp, endOp, chooseOp}
 use Rattle.syntax.specs.declared.Act.the-variants.{Declare, Instr}
 use Rattle.rules.specs.Formed.{FormedKinds, opsOf, argsOf}
@@ -43,9 +44,9 @@ quiet-expr : (e : Expr) → Proper e → Quiet (compile e)
 unfolding Quiet compile Proper
 quiet-expr (number x) p = (λ z. omega arith, tt)
 quiet-expr (name c) p = (λ z. omega arith, tt)
-quiet-expr (unary o e) p = quiet-append (compile e) (ins o ∷ []) (quiet-expr e (p .1)) (not-one o 0 (p .0), tt)
+quiet-expr (unary o e) p = quiet-append (compile e) (ins (unaryOp o) ∷ []) (quiet-expr e (p .1)) (not-one (unaryOp o) 0 (p .0), tt)
 quiet-expr (binary o a b) p =
-    quiet-append (compile a ++ compile b) (ins o ∷ []) (quiet-append (compile a) (compile b) (quiet-expr a (p .1 .0)) (quiet-expr b (p .1 .1))) (not-one o 1 (p .0), tt)
+    quiet-append (compile a ++ compile b) (ins (binaryOp o) ∷ []) (quiet-append (compile a) (compile b) (quiet-expr a (p .1 .0)) (quiet-expr b (p .1 .1))) (not-one (binaryOp o) 1 (p .0), tt)
 quiet-expr (choose c a b) p =
     quiet-append ((compile c ++ compile a) ++ compile b) (ins chooseOp ∷ [])
     (quiet-append (compile c ++ compile a) (compile b) (quiet-append (compile c) (compile a) (quiet-expr c (p .0)) (quiet-expr a (p .1 .0))) (quiet-expr b (p .1 .1)))

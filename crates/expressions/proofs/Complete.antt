@@ -12,12 +12,15 @@ use borrow.Author.Tests.{le-leb, lt-leb}
 use Rattle.tokens.specs.declared.Token.{Token}
 use Rattle.tokens.specs.declared.Token.the-variants.{Number, Symbol, Whole, Sign}
 use Rattle.syntax.specs.Tree.{Expr, number, name, unary, binary, choose}
-use Rattle.syntax.specs.Program.{Ins, ins, chooseOp, compile}
+use Rattle.signs.specs.Signs as S
+use Rattle.signs.specs.Operators as O
+use Rattle.signs.specs.Operators.{unarySign, binarySign}
+use Rattle.syntax.specs.Program.{Ins, ins, chooseOp, compile, unaryOp, binaryOp}
 use Rattle.expressions.specs.declared.Tail.{Tail}
 use Rattle.expressions.specs.declared.Tail.the-variants.{Binary, Question, Stop}
 use Rattle.expressions.specs.Roles.{headL, tailOf, tailL, tailSign}
 use Rattle.expressions.specs.Reader.{Res, no, ok, prepend, seq, sign, lastly, byHead, byTail, reader}
-use Rattle.expressions.specs.Grammar.{Derives, real, whole, named, prefixed, bracketed, called, called2, sides, chosen, Operator}
+use Rattle.syntax.specs.Grammar.{Derives, real, whole, named, prefixed, bracketed, called, called2, sides, chosen, Binds}
 use Rattle.expressions.proofs.Laws.{expr·law, more·law}
 use Rattle.expressions.proofs.Tables as Tables
 use Rattle.expressions.proofs.Tables.{Tails, tails, levels, tail-operator, head-prefix, head-call, head-call2}
@@ -107,20 +110,20 @@ pub prepend-prepend : (c d : List Ins) (x : Res) → prepend c (prepend d x) ≡
 prepend-prepend c d no = refl
 prepend-prepend c d (ok f r) = ap (λ z. ok z r) (sym (append-assoc c d f))
 
-sides-reads : {m l o : ℕ} (a b : Expr) (ts us : List Token) → Reads l a ts → Reads (suc l) b us → Operator o l → m ≤ l
-    → Reads m (binary o a b) (ts ++ Sign o ∷ us)
+sides-reads : {m l : ℕ} {o : O.Binary} (a b : Expr) (ts us : List Token) → Reads l a ts → Reads (suc l) b us → Binds o l → m ≤ l
+    → Reads m (binary o a b) (ts ++ Sign (binaryOp o) ∷ us)
 unfolding compile
 sides-reads {m} {l} {o} a b ts us A B p f j r le h =
     let n = levels p in
     let w : reader .expr (suc l) (us ++ r) ≡ ok (compile b) r =
     reads-whole (suc l) b us B r (ends-more (tailL r) (omega (arith, guard-le m)) h) (ends-more (tailL r) (omega (arith, guard-le m)) h) in
-    let u : reader .more j (Sign o ∷ (us ++ r)) ≡ prepend (compile b ++ ins o ∷ []) (reader .more j r) =
-    more·law j (Sign o ∷ (us ++ r)) ∙ rw (tail-operator p, le-leb j l (omega arith), w) in
-    ap (reader .expr j) (append-assoc ts (Sign o ∷ us) r)
-    ∙ A j (Sign o ∷ (us ++ r)) (omega arith) (rw (guard-pos l (n .0), tail-operator p) (omega arith))
+    let u : reader .more j (Sign (binaryOp o) ∷ (us ++ r)) ≡ prepend (compile b ++ ins (binaryOp o) ∷ []) (reader .more j r) =
+    more·law j (Sign (binaryOp o) ∷ (us ++ r)) ∙ rw (tail-operator p, le-leb j l (omega arith), w) in
+    ap (reader .expr j) (append-assoc ts (Sign (binaryOp o) ∷ us) r)
+    ∙ A j (Sign (binaryOp o) ∷ (us ++ r)) (omega arith) (rw (guard-pos l (n .0), tail-operator p) (omega arith))
     ∙ ap (prepend (compile a)) u
-    ∙ prepend-prepend (compile a) (compile b ++ ins o ∷ []) (reader .more j r)
-    ∙ rw (append-assoc (compile a) (compile b) (ins o ∷ []))
+    ∙ prepend-prepend (compile a) (compile b ++ ins (binaryOp o) ∷ []) (reader .more j r)
+    ∙ rw (append-assoc (compile a) (compile b) (ins (binaryOp o) ∷ []))
 
 chosen-reads : (d a b : Expr) (ts us vs : List Token) → Reads 1 d ts → Reads 0 a us → Reads 0 b vs → (r : List Token) → Ends 0 (tailL r)
     → reader .expr 0 ((ts ++ Sign 22 ∷ (us ++ Sign 23 ∷ vs)) ++ r) ≡ prepend (compile (choose d a b)) (reader .more 0 r)
@@ -142,17 +145,17 @@ unfolding compile
 reads (real {m = m} x) = reads-operand m (number x) (Number x ∷ []) (λ r. refl)
 reads (whole {m = m} w) = reads-operand m (number (ofInt binary32 (pos w))) (Whole w ∷ []) (λ r. refl)
 reads (named {m = m} n) = reads-operand m (name n) (Symbol n ∷ []) (λ r. refl)
-reads (prefixed {m = m} {s = s} {o = o} {e = e} {ts = ts} p d) =
+reads (prefixed {m = m} {o = o} {e = e} {ts = ts} p d) =
     let R = reads d in
-    reads-operand m (unary o e) (Sign s ∷ ts) (λ r. rw (head-prefix p, tight-reads e ts R r))
+    reads-operand m (unary o e) (Sign (S.number (unarySign o)) ∷ ts) (λ r. rw (head-prefix p, tight-reads e ts R r))
 reads (bracketed {m = m} {e = e} {ts = ts} d) = let R = reads d in reads-operand m e (Sign 15 ∷ (ts ++ Sign 16 ∷ [])) (bracket-reads e ts R)
 reads (called {m = m} {o = o} {e = e} {ts = ts} p d) =
     let R = reads d in
-    reads-operand m (unary o e) (Sign o ∷ Sign 15 ∷ (ts ++ Sign 16 ∷ [])) (λ r. rw (head-call p) (last-reads e ts R 15 o refl r))
+    reads-operand m (unary o e) (Sign (S.number (unarySign o)) ∷ Sign 15 ∷ (ts ++ Sign 16 ∷ [])) (λ r. rw (head-call p) (last-reads e ts R 15 (unaryOp o) refl r))
 reads (called2 {m = m} {o = o} {a = a} {b = b} {ts = ts} {us = us} p d f) =
     let A = reads d in
     let B = reads f in
-    reads-operand m (binary o a b) (Sign o ∷ Sign 15 ∷ (ts ++ Sign 19 ∷ (us ++ Sign 16 ∷ []))) (λ r. rw (head-call2 p) (call2-reads a b ts us A B o r))
+    reads-operand m (binary o a b) (Sign (binaryOp o) ∷ Sign 15 ∷ (ts ++ Sign 19 ∷ (us ++ Sign 16 ∷ []))) (λ r. rw (head-call2 p) (call2-reads a b ts us A B (binaryOp o) r))
 reads (sides {a = a} {b = b} {ts = ts} {us = us} p le d f) =
     let A = reads d in
     let B = reads f in

@@ -5,8 +5,8 @@ use native.Mathlib.Omega.{arith}
 use mathlib.Core.Path.{_≡_, refl, sym, ap, _∙_}
 use mathlib.Core.List.{List, [], _∷_, _++_, map}
 use mathlib.Core.Bool.{Bool, true, false, cond}
-use lib.ListN.{length, drop, set, length-append, length-drop, length-map}
-use lib.Seq.{drop-drop, sets, length-sets}
+use lib.ListN.{length, take, drop, set, length-append, length-drop, length-map}
+use lib.Seq.{drop-drop, sets, length-sets, take-set-le}
 use Rattle.laws.proofs.Lists.{map-append}
 use Rattle.tokens.specs.declared.Token.{Token}
 use Rattle.syntax.specs.Program.{Ins}
@@ -14,7 +14,7 @@ use Rattle.expressions.specs.declared.Got.{Got}
 use Rattle.expressions.specs.declared.Got.the-variants.{Next, Refused}
 use Rattle.expressions.specs.Roles.{signL}
 use Rattle.expressions.specs.Reader.{Res, ok, seq, sign, emit}
-use Rattle.expressions.specs.Areas.{Areas, opOf, argOf, valOf, stored, storedAt, oneMore, passed, left, Holds, Place, Ready, gone, come, Runs, refused, done}
+use Rattle.expressions.specs.Areas.{Areas, opOf, argOf, valOf, stored, storedAt, oneMore, passed, left, Holds, Place, Ready, gone, come, Runs, refused, done, StoredStays}
 use Rattle.expressions.proofs.Moves.{sign-in}
 use Rattle.expressions.proofs.Laws.{All, some, Took}
 
@@ -52,16 +52,18 @@ holds-less le h = record { ops = omega (arith, h .ops); args = omega (arith, h .
 
 pub runs-seq : {ts : List Token} {f : List Token → Res} (k : List Token → Res) {g h i : Got} {m n u : Areas}
     → Runs ts f g m h n → Runs ts k h n i u → Runs ts (λ z. seq (f z) k) g m i u
-runs-seq k (gone e f) (gone x y) = gone e y
-runs-seq k (gone e f) (refused at out x w y) = let z : _≡_ {A = ℕ} 0 1 = cc in absurd (omega arith)
-runs-seq k (gone e f) (done at out to c x w le y s) = let z : _≡_ {A = ℕ} 0 1 = cc in absurd (omega arith)
-runs-seq k (refused at out e v f) (gone x y) = refused at out e (rw v) y
-runs-seq k (refused at out e v f) (refused at′ out′ x w y) = let z : _≡_ {A = ℕ} 0 1 = cc in absurd (omega arith)
-runs-seq k (refused at out e v f) (done at′ out′ to c x w le y s) = let z : _≡_ {A = ℕ} 0 1 = cc in absurd (omega arith)
-runs-seq k (done at out to c e v le f s) (gone x y) = let z : _≡_ {A = ℕ} 0 1 = cc in absurd (omega arith)
-runs-seq k (done at out to c e v le f s) (refused at′ out′ x w y) =
+runs-seq k (gone e f q) (gone x y r) = gone e y (r ∙ q)
+runs-seq k (gone e f q) (refused at out d x w y r) = let z : _≡_ {A = ℕ} 0 1 = cc in absurd (omega arith)
+runs-seq k (gone e f q) (done at out to c x w le y s) = let z : _≡_ {A = ℕ} 0 1 = cc in absurd (omega arith)
+runs-seq k (refused at out c e v f q) (gone x y r) = refused at out c e (rw v) y (r ∙ q)
+runs-seq k (refused at out c e v f q) (refused at′ out′ d x w y r) = let z : _≡_ {A = ℕ} 0 1 = cc in absurd (omega arith)
+runs-seq k (refused at out b e v f q) (done at′ out′ to c x w le y s) = let z : _≡_ {A = ℕ} 0 1 = cc in absurd (omega arith)
+runs-seq k (done at out to c e v le f s) (gone x y r) = let z : _≡_ {A = ℕ} 0 1 = cc in absurd (omega arith)
+runs-seq k {m = m} (done at out to c e v le f s) (refused at′ out′ d x w y s′) =
     let p : at′ ≡ to = cc in
-    refused at out e (rw (v, rw p at w)) y
+    let q : out′ ≡ out + length c = cc in
+    refused at out (c ++ d) e (rw (v, rw p at w)) y
+    (s′ ∙ ap (λ z. stored z out′ d) s ∙ ap (λ z. stored (stored m out c) z d) q ∙ stored-append m out c d)
 runs-seq {ts} k {m = m} {u = u} (done at out to c e v le f s) (done at′ out′ to′ d x w le′ y s′) =
     let p : at′ ≡ to = cc in
     let q : out′ ≡ out + length c = cc in
@@ -75,10 +77,11 @@ drop-one ts at = drop-drop 1 at ts
 
 module _ {ts : List Token} {f : List Token → Res} {at out : ℕ} {m n : Areas} {h : Got} where
   pub runs-after : Runs ts f (Next (at + 1) out) m h n → Runs ts (λ z. f (drop 1 z)) (Next at out) m h n
-  runs-after (gone e x) = let z : _≡_ {A = ℕ} 0 1 = cc in absurd (omega arith)
-  runs-after (refused at′ out′ e v x) =
+  runs-after (gone e x q) = let z : _≡_ {A = ℕ} 0 1 = cc in absurd (omega arith)
+  runs-after (refused at′ out′ c e v x s) =
       let p : at′ ≡ at + 1 = cc in
-      refused at out refl (ap f (drop-one ts at ∙ ap (λ z. drop z ts) (sym p)) ∙ v) x
+      let q : out′ ≡ out = cc in
+      refused at out c refl (ap f (drop-one ts at ∙ ap (λ z. drop z ts) (sym p)) ∙ v) x (rw q at s)
   runs-after (done at′ out′ to c e v le x s) =
       let p : at′ ≡ at + 1 = cc in
       let q : out′ ≡ out = cc in
@@ -86,22 +89,22 @@ module _ {ts : List Token} {f : List Token → Res} {at out : ℕ} {m n : Areas}
 
   -- another definition that reads the same there
   pub runs-as : {g : Got} (k : List Token → Res) → g ≡ Next at out → k (drop at ts) ≡ f (drop at ts) → Runs ts f g m h n → Runs ts k g m h n
-  runs-as k q l (gone e x) = gone e x
-  runs-as k q l (refused at′ out′ e v x) =
+  runs-as k q l (gone e x s) = gone e x s
+  runs-as k q l (refused at′ out′ c e v x s) =
       let p : at′ ≡ at = cc in
-      refused at′ out′ e (ap (λ z. k (drop z ts)) p ∙ l ∙ ap (λ z. f (drop z ts)) (sym p) ∙ v) x
+      refused at′ out′ c e (ap (λ z. k (drop z ts)) p ∙ l ∙ ap (λ z. f (drop z ts)) (sym p) ∙ v) x s
   runs-as k q l (done at′ out′ to c e v le x s) =
       let p : at′ ≡ at = cc in
       done at′ out′ to c e (ap (λ z. k (drop z ts)) p ∙ l ∙ ap (λ z. f (drop z ts)) (sym p) ∙ v) le x s
 
 pub runs-sign : (ts : List Token) (s : ℕ) (g : Got) {h : Got} {m : Areas} → h ≡ passed s ts g → Runs ts (sign s) g m h m
-runs-sign ts s Refused e = gone refl e
+runs-sign ts s Refused e = gone refl e refl
 runs-sign ts s (Next at out) {m = m} e = go (signL (drop at ts) s) refl e
   where
     go : {h : Got} (b : Bool) → signL (drop at ts) s ≡ b → h ≡ cond b (Next (at + 1) out) Refused → Runs ts (sign s) (Next at out) m h m
     go true f q = let lt = sign-in ts at s f in
         done at out (at + 1) [] refl (rw (f, drop-one ts at)) (omega arith) (q ∙ ap (λ z. Next (at + 1) z) (omega arith)) refl
-    go false f q = refused at out refl (rw f) q
+    go false f q = refused at out [] refl (rw f) q refl
 
 took-ok : {P : List Ins → List Token → Type 0} {c : List Ins} {r : List Token} → All P (ok c r) → P c r
 took-ok (some h) = h
@@ -111,7 +114,7 @@ took-of all e = took-ok (rw e at all)
 
 module _ {ts : List Token} {k : ℕ} {g : Got} {m : Areas} where
   pub runs-emit : {h : Got} {n : Areas} (i : Ins) → Ready ts k g m → h ≡ oneMore g → n ≡ storedAt g m i → Runs ts (emit i) g m h n
-  runs-emit i (gone e) x y = gone e (x ∙ rw e)
+  runs-emit i (gone e) x y = gone e (x ∙ rw e) (y ∙ rw e)
   runs-emit i (come at out e le r) x y = done at out at (i ∷ []) e refl le (x ∙ rw e) (y ∙ rw e)
 
   -- ---- room for what comes next, and fewer tokens
@@ -140,8 +143,8 @@ module _ {ts : List Token} {k : ℕ} {g : Got} {m : Areas} where
 
   pub ready-runs : {f : List Token → Res} {h : Got} {n : Areas} → ((z : List Token) → All (Took z) (f z)) → Ready ts k g m → Runs ts f g m h n
       → Ready ts k h n
-  ready-runs b r (gone e x) = gone x
-  ready-runs b r (refused at out e v x) = gone x
+  ready-runs b r (gone e x q) = gone x
+  ready-runs b r (refused at out c e v x q) = gone x
   ready-runs b (gone q) (done at out to c e v le x s) = let z : _≡_ {A = ℕ} 0 1 = cc in absurd (omega arith)
   ready-runs b (come p o q l r) (done at out to c e v le x s) =
       let y : p ≡ at = cc in
@@ -150,8 +153,8 @@ module _ {ts : List Token} {k : ℕ} {g : Got} {m : Areas} where
       come to (out + length c) x le (rw s (holds-stored out c (holds-less (omega (arith, t, length-drop to ts, length-drop at ts)) r)))
 
 pub left-runs : {ts : List Token} {f : List Token → Res} {g h : Got} {m n : Areas} → ((z : List Token) → All (Took z) (f z)) → Runs ts f g m h n → left ts h ≤ left ts g
-left-runs b (gone e x) = rw (x, e) (omega arith)
-left-runs b (refused at out e v x) = rw x (omega arith)
+left-runs b (gone e x q) = rw (x, e) (omega arith)
+left-runs b (refused at out c e v x q) = rw x (omega arith)
 left-runs {ts} b (done at out to c e v le x s) =
     let t = took-of (b (drop at ts)) v in
     rw (x, e) (omega (arith, t, length-drop to ts, length-drop at ts))
@@ -213,3 +216,18 @@ past-passed {ts} {t} {g = g} s {h} {at} {out} r e x q = record { ready = ready-s
     go : (g : Got) → left ts g ≡ t → passed s ts g ≡ Next at out → left ts h < t
     go Refused e y = let z : _≡_ {A = ℕ} 0 1 = cc in absurd (omega arith)
     go (Next p o) e y = on p o (signL (drop p ts) s) refl e y
+
+-- ---- what stays
+
+sets-front : {A : Type 0} (l : List A) (i j : ℕ) (xs : List A) → i ≤ j → take i (sets l j xs) ≡ take i l
+sets-front l i j [] h = refl
+sets-front l i j (x ∷ xs) h = sets-front (set l j x) i (suc j) xs (omega arith) ∙ take-set-le i l j x h
+
+pub stored-stays : StoredStays
+stored-stays m out c =
+    record {
+      ops = sets-front (m .ops) out out (map opOf c) (omega arith);
+      args = sets-front (m .args) out out (map argOf c) (omega arith);
+      vals = sets-front (m .vals) out out (map valOf c) (omega arith);
+      sizes = (length-sets (m .ops) out (map opOf c), (length-sets (m .args) out (map argOf c), length-sets (m .vals) out (map valOf c)));
+    }

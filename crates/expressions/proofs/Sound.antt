@@ -9,13 +9,15 @@ use borrow.Author.Tests.{leb-true, leb-false}
 use Rattle.tokens.specs.declared.Token.{Token}
 use Rattle.tokens.specs.declared.Token.the-variants.{Sign}
 use Rattle.syntax.specs.Tree.{Expr, unary, binary, choose}
-use Rattle.syntax.specs.Program.{Ins, ins, chooseOp, compile}
+use Rattle.signs.specs.Signs as signs
+use Rattle.signs.specs.Operators.{unarySign, binarySign}
+use Rattle.syntax.specs.Program.{Ins, ins, chooseOp, compile, unaryOp, binaryOp}
 use Rattle.expressions.specs.declared.Head.{Head}
 use Rattle.expressions.specs.declared.Tail.{Tail}
 use Rattle.expressions.specs.declared.Tail.the-variants.{Binary, Question, Stop}
 use Rattle.expressions.specs.Roles.{tailOf, tailL}
 use Rattle.expressions.specs.Reader.{sign, emit, Sys, lastly, byHead, right, parts, byTail, step, deep, reader}
-use Rattle.expressions.specs.Grammar.{Derives, prefixed, bracketed, called, called2, sides, chosen}
+use Rattle.syntax.specs.Grammar.{Derives, prefixed, bracketed, called, called2, sides, chosen}
 use Rattle.expressions.proofs.Laws.{All, none, some, All-weaken, All-seq, All-cond, All-sign, signed}
 use Rattle.expressions.proofs.Tables as Tables
 use Rattle.expressions.proofs.Tables.{Heads, heads, Tails, tails, levels}
@@ -142,10 +144,10 @@ module _ (S : Sys) (X : Sound S) where
   unfolding compile
   byTail-sound t ts (Tables.binary {o = o} {l = l} e w) i m a p d f =
       All-cond (leb m l) _ _ (λ v.
-      All-seq (S .more m) (right-sound o (suc l) ts) (λ c r b.
-      let made : (j : ℕ) → j ≤ l → Derives j (binary o a (b .tree)) (p ++ Sign o ∷ b .pre) = λ j le. sides w le f (b .derives) in
-      All-weaken (X .more m r (binary o a (b .tree)) (p ++ Sign o ∷ b .pre) (made m (leb-true m l v)) (fit-below (tailL r) l (levels w .0) (b .ends) made))
-      (λ d q g. goes-on a p (b .pre) c e (b .eq) (rw (b .code) (sym (append-assoc (compile a) (compile (b .tree)) (ins o ∷ [])))) g)))
+      All-seq (S .more m) (right-sound (binaryOp o) (suc l) ts) (λ c r b.
+      let made : (j : ℕ) → j ≤ l → Derives j (binary o a (b .tree)) (p ++ Sign (binaryOp o) ∷ b .pre) = λ j le. sides w le f (b .derives) in
+      All-weaken (X .more m r (binary o a (b .tree)) (p ++ Sign (binaryOp o) ∷ b .pre) (made m (leb-true m l v)) (fit-below (tailL r) l (levels w .0) (b .ends) made))
+      (λ d q g. goes-on a p (b .pre) c e (b .eq) (rw (b .code) (sym (append-assoc (compile a) (compile (b .tree)) (ins (binaryOp o) ∷ [])))) g)))
       (λ v. some (stopped d (rw i (leb-false m l v))))
   byTail-sound t ts (Tables.question e) i m a p d f =
       All-cond (leb m 0) _ _ (λ v.
@@ -171,12 +173,12 @@ module _ (S : Sys) (X : Sound S) where
   byHead-sound : {h : Head} (t : Token) (ts : List Token) → Heads t h → All (Primary (t ∷ ts)) (byHead S h ts)
   unfolding compile
   byHead-sound t ts (Tables.push a) = some (record { pre = t ∷ []; tree = a .tree; eq = refl; code = a .code; derives = a .derives })
-  byHead-sound t ts (Tables.unary {s = s} {o = o} e w) =
-      All-seq (emit (ins o)) (X .expr 7 ts) (λ c r b. some (record {
-        pre = Sign s ∷ b .pre;
+  byHead-sound t ts (Tables.unary {o = o} e w) =
+      All-seq (emit (ins (unaryOp o))) (X .expr 7 ts) (λ c r b. some (record {
+        pre = Sign (signs.number (unarySign o)) ∷ b .pre;
         tree = unary o (b .tree);
-        eq = ap (λ z. z ∷ ts) e ∙ ap (λ z. Sign s ∷ z) (b .eq);
-        code = ap (λ z. z ++ ins o ∷ []) (b .code);
+        eq = ap (λ z. z ∷ ts) e ∙ ap (λ z. Sign (signs.number (unarySign o)) ∷ z) (b .eq);
+        code = ap (λ z. z ++ ins (unaryOp o) ∷ []) (b .code);
         derives = λ m. prefixed w (b .derives);
       }))
   byHead-sound t ts (Tables.opens e) =
@@ -189,22 +191,22 @@ module _ (S : Sys) (X : Sound S) where
         derives = λ m. bracketed (b .derives);
       }))
   byHead-sound t ts (Tables.call {o = o} e w) =
-      All-weaken (lastly-sound 15 o ts) (λ c r b. record {
-        pre = Sign o ∷ Sign 15 ∷ (b .pre ++ Sign 16 ∷ []);
+      All-weaken (lastly-sound 15 (unaryOp o) ts) (λ c r b. record {
+        pre = Sign (signs.number (unarySign o)) ∷ Sign 15 ∷ (b .pre ++ Sign 16 ∷ []);
         tree = unary o (b .tree);
-        eq = ap (λ z. z ∷ ts) e ∙ ap (λ z. Sign o ∷ z) (b .eq);
+        eq = ap (λ z. z ∷ ts) e ∙ ap (λ z. Sign (signs.number (unarySign o)) ∷ z) (b .eq);
         code = b .code;
         derives = λ m. called w (b .derives);
       })
   byHead-sound t ts (Tables.call2 {o = o} e w) =
       All-sign 15 ts _ (λ p f.
       All-seq _ (X .expr 0 p) (λ c r a.
-      All-weaken (lastly-sound 19 o r) (λ d q b. record {
-        pre = Sign o ∷ Sign 15 ∷ (a .pre ++ Sign 19 ∷ (b .pre ++ Sign 16 ∷ []));
+      All-weaken (lastly-sound 19 (binaryOp o) r) (λ d q b. record {
+        pre = Sign (binaryOp o) ∷ Sign 15 ∷ (a .pre ++ Sign 19 ∷ (b .pre ++ Sign 16 ∷ []));
         tree = binary o (a .tree) (b .tree);
         eq = ap (λ z. z ∷ ts) e
-            ∙ ap (λ z. Sign o ∷ z) (f ∙ ap (λ z. Sign 15 ∷ z) (a .eq ∙ ap (λ z. a .pre ++ z) (b .eq) ∙ sym (append-assoc (a .pre) (Sign 19 ∷ (b .pre ++ Sign 16 ∷ [])) q)));
-        code = rw (a .code, b .code) (sym (append-assoc (compile (a .tree)) (compile (b .tree)) (ins o ∷ [])));
+            ∙ ap (λ z. Sign (binaryOp o) ∷ z) (f ∙ ap (λ z. Sign 15 ∷ z) (a .eq ∙ ap (λ z. a .pre ++ z) (b .eq) ∙ sym (append-assoc (a .pre) (Sign 19 ∷ (b .pre ++ Sign 16 ∷ [])) q)));
+        code = rw (a .code, b .code) (sym (append-assoc (compile (a .tree)) (compile (b .tree)) (ins (binaryOp o) ∷ [])));
         derives = λ m. called2 w (a .derives) (b .derives);
       })))
   byHead-sound t ts Tables.bad = none

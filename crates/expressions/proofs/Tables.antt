@@ -9,15 +9,18 @@ use lib.Ieee.{Float}
 use borrow.Author.Tests.{eqb-true}
 use Rattle.tokens.specs.declared.Token.{Token}
 use Rattle.tokens.specs.declared.Token.the-variants.{Number, Symbol, Whole, Sign}
+use Rattle.signs.specs.Signs as S
+use Rattle.signs.specs.Operators as O
+use Rattle.signs.specs.Operators.{unarySign, binarySign}
 use Rattle.syntax.specs.Tree.{Expr, number, name}
-use Rattle.syntax.specs.Program.{Ins, compile}
+use Rattle.syntax.specs.Program.{Ins, compile, unaryOp, binaryOp}
 use Rattle.expressions.specs.declared.Head.{Head}
 use Rattle.expressions.specs.declared.Head.the-variants.{Push, Unary, Open, Call, Call2, Bad}
 use Rattle.expressions.specs.declared.Tail.{Tail}
 use Rattle.expressions.specs.declared.Tail.the-variants.{Binary, Question, Stop}
 use Rattle.expressions.specs.Roles.{headSign, headOf, tailSign, tailOf}
-use Rattle.expressions.specs.Grammar as G
-use Rattle.expressions.specs.Grammar.{Derives, real, whole, named, Operator, Prefix, or, and, equal, unequal, less, greater, atMost, atLeast, plus, minus, times, over, negative, not, abs, sgn, int, frac, min, max}
+use Rattle.syntax.specs.Grammar as G
+use Rattle.syntax.specs.Grammar.{sign, Derives, real, whole, named, Binds, Prefix, or, and, equal, unequal, less, greater, atMost, atLeast, plus, minus, times, over, negative, not, abs, sgn, int, frac, min, max}
 
 split : {A : Type 0} (P : A → Type 0) (b : Bool) (x y : A) → (b ≡ true → P x) → P y → P (cond b x y)
 split P true x y f g = f refl
@@ -31,10 +34,10 @@ pub record Atom (t : Token) (i : Ins) : Type 0 where
 
 pub data Heads (t : Token) : Head → Type 0 where
   push : {o a : ℕ} {x : Float} → Atom t (record { op = o; arg = a; val = x }) → Heads t (Push o a x)
-  unary : {s o : ℕ} → t ≡ Sign s → Prefix s o → Heads t (Unary o)
-  opens : t ≡ Sign 15 → Heads t Open
-  call : {o : ℕ} → t ≡ Sign o → G.Call o → Heads t (Call o)
-  call2 : {o : ℕ} → t ≡ Sign o → G.Call2 o → Heads t (Call2 o)
+  unary : {o : O.Unary} → t ≡ sign (unarySign o) → Prefix o → Heads t (Unary (unaryOp o))
+  opens : t ≡ sign S.roundOpen → Heads t Open
+  call : {o : O.Unary} → t ≡ sign (unarySign o) → G.Call o → Heads t (Call (unaryOp o))
+  call2 : {o : O.Binary} → t ≡ sign (binarySign o) → G.Call2 o → Heads t (Call2 (binaryOp o))
   bad : Heads t Bad
 
 pub heads : (t : Token) → Heads t (headOf t)
@@ -55,8 +58,8 @@ heads (Sign s) =
     (split P (eqb s 36) (Unary 36) Bad (λ e. unary (ap Sign (eqb-true s 36 e)) not) bad))))))))
 
 pub data Tails (t : Token) : Tail → Type 0 where
-  binary : {o l : ℕ} → t ≡ Sign o → Operator o l → Tails t (Binary o l)
-  question : t ≡ Sign 22 → Tails t Question
+  binary : {o : O.Binary} {l : ℕ} → t ≡ sign (binarySign o) → Binds o l → Tails t (Binary (binaryOp o) l)
+  question : t ≡ sign S.question → Tails t Question
   stop : Tails t Stop
 
 pub tails : (t : Token) → Tails t (tailOf t)
@@ -79,7 +82,7 @@ tails (Sign s) =
     (split P (eqb s 34) (Binary 34 6) _ (λ e. binary (ap Sign (eqb-true s 34 e)) times)
     (split P (eqb s 35) (Binary 35 6) Stop (λ e. binary (ap Sign (eqb-true s 35 e)) over) stop))))))))))))
 
-pub levels : {o l : ℕ} → Operator o l → (1 ≤ l) × (l < 7)
+pub levels : {o : O.Binary} {l : ℕ} → Binds o l → (1 ≤ l) × (l < 7)
 levels or = (omega arith, omega arith)
 levels and = (omega arith, omega arith)
 levels equal = (omega arith, omega arith)
@@ -93,7 +96,7 @@ levels minus = (omega arith, omega arith)
 levels times = (omega arith, omega arith)
 levels over = (omega arith, omega arith)
 
-pub tail-operator : {o l : ℕ} → Operator o l → tailSign o ≡ Binary o l
+pub tail-operator : {o : O.Binary} {l : ℕ} → Binds o l → tailSign (binaryOp o) ≡ Binary (binaryOp o) l
 tail-operator or = refl
 tail-operator and = refl
 tail-operator equal = refl
@@ -107,16 +110,24 @@ tail-operator minus = refl
 tail-operator times = refl
 tail-operator over = refl
 
-pub head-prefix : {s o : ℕ} → Prefix s o → headSign s ≡ Unary o
+pub head-prefix : {o : O.Unary} → Prefix o → headSign (S.number (unarySign o)) ≡ Unary (unaryOp o)
 head-prefix negative = refl
 head-prefix not = refl
 
-pub head-call : {o : ℕ} → G.Call o → headSign o ≡ Call o
+pub head-call : {o : O.Unary} → G.Call o → headSign (S.number (unarySign o)) ≡ Call (unaryOp o)
 head-call abs = refl
 head-call sgn = refl
 head-call int = refl
 head-call frac = refl
 
-pub head-call2 : {o : ℕ} → G.Call2 o → headSign o ≡ Call2 o
+pub head-call2 : {o : O.Binary} → G.Call2 o → headSign (binaryOp o) ≡ Call2 (binaryOp o)
 head-call2 min = refl
 head-call2 max = refl
+
+-- ---- a sign by its number
+
+pub sign-starts : {t : Token} {s : ℕ} (k : ℕ) {h : Head} → h ≡ headSign k → t ≡ Sign s → s ≡ k → h ≡ headOf t
+sign-starts k e f g = rw (f, g) e
+
+pub sign-goes-on : {t : Token} {s : ℕ} (k : ℕ) {h : Tail} → h ≡ tailSign k → t ≡ Sign s → s ≡ k → h ≡ tailOf t
+sign-goes-on k e f g = rw (f, g) e

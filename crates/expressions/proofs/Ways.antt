@@ -91,9 +91,9 @@ expr-as ts j at h q x y w =
     let z : headL (drop at ts) ≡ h = sym x ∙ y in
     rw q (runs-as (reader .expr j) refl (expr·law j (drop at ts) ∙ rw z) (runs-after w))
 
-pub expr-bad : (ts : List Token) (j at : ℕ) {out : ℕ} {g : Got} {m n : Areas} {k : Head} → g ≡ Next at out → k ≡ headL (drop at ts) → k ≡ Bad
-    → Runs ts (reader .expr j) g m Refused n
-expr-bad ts j at q x y = let z : headL (drop at ts) ≡ Bad = sym x ∙ y in refused _ _ q (expr·law j (drop at ts) ∙ rw z) refl
+pub expr-bad : (ts : List Token) (j at : ℕ) {out : ℕ} {g : Got} {m : Areas} {k : Head} → g ≡ Next at out → k ≡ headL (drop at ts) → k ≡ Bad
+    → Runs ts (reader .expr j) g m Refused m
+expr-bad ts j at q x y = let z : headL (drop at ts) ≡ Bad = sym x ∙ y in refused _ _ [] q (expr·law j (drop at ts) ∙ rw z) refl refl
 
 -- ---- what goes on after an operand
 

@@ -3,7 +3,7 @@ use Prim.Native.Nat.{ℕ, _+_, _-_, _≤_}
 use mathlib.Core.Path.{_≡_}
 use mathlib.Core.List.{List, [], _∷_, map}
 use mathlib.Core.Bool.{cond}
-use lib.ListN.{length, drop}
+use lib.ListN.{length, take, drop}
 use lib.Seq.{sets}
 use lib.Ieee.{Float}
 use Rattle.tokens.specs.declared.Token.{Token}
@@ -69,9 +69,20 @@ pub data Ready (ts : List Token) (k : ℕ) (g : Got) (m : Areas) : Type 0 where
   gone : g ≡ Refused → Ready ts k g m
   come : (at out : ℕ) → g ≡ Next at out → at ≤ length ts → Holds (out + k + (length ts - at)) m → Ready ts k g m
 
--- The code, which has come to g, reads on as f does, and comes to h: what the areas, m before, then hold. At a refusal they hold anything.
+-- The code, which has come to g, reads on as f does, and comes to h: what the areas, m before, then hold. At a refusal they hold some code from the
+-- first free place on, and are as they were before that place.
 pub data Runs (ts : List Token) (f : List Token → Res) (g : Got) (m : Areas) (h : Got) (n : Areas) : Type 0 where
-  gone : g ≡ Refused → h ≡ Refused → Runs ts f g m h n
-  refused : (at out : ℕ) → g ≡ Next at out → f (drop at ts) ≡ no → h ≡ Refused → Runs ts f g m h n
+  gone : g ≡ Refused → h ≡ Refused → n ≡ m → Runs ts f g m h n
+  refused : (at out : ℕ) (c : List Ins) → g ≡ Next at out → f (drop at ts) ≡ no → h ≡ Refused → n ≡ stored m out c → Runs ts f g m h n
   done : (at out to : ℕ) (c : List Ins) → g ≡ Next at out → f (drop at ts) ≡ ok c (drop to ts) → to ≤ length ts → h ≡ Next to (out + length c)
       → n ≡ stored m out c → Runs ts f g m h n
+
+-- Whatever is stored from a place on, all that stands before it stays, and so does each area's length.
+pub record Stays (m : Areas) (out : ℕ) (n : Areas) : Type 0 where
+  pub ops : take out (n .ops) ≡ take out (m .ops)
+  pub args : take out (n .args) ≡ take out (m .args)
+  pub vals : take out (n .vals) ≡ take out (m .vals)
+  pub sizes : (length (n .ops) ≡ length (m .ops)) × ((length (n .args) ≡ length (m .args)) × (length (n .vals) ≡ length (m .vals)))
+
+abbrev pub StoredStays : Type 0
+StoredStays = (m : Areas) (out : ℕ) (c : List Ins) → Stays m out (stored m out c)

@@ -1,4 +1,3 @@
 pub mod Roles
 pub mod Reader
-pub mod Grammar
 pub mod Areas

@@ -10,7 +10,7 @@ use Rattle.expressions.specs.declared.Head.{Head}
 use Rattle.expressions.specs.declared.Head.the-variants.{Push, Unary, Open, Call, Call2, Bad}
 use Rattle.expressions.specs.declared.Tail.{Tail}
 use Rattle.expressions.specs.declared.Tail.the-variants.{Binary, Question, Stop}
-use Rattle.expressions.specs.Roles.{headL, tailL, signL}
+use Rattle.expressions.specs.Roles.{headL, tailL, signL, roundOpen, roundClose, comma, colon}
 
 pub data Res : Type 0 where
   no : Res
@@ -41,15 +41,15 @@ pub record Sys : Type 0 where
 module _ (S : Sys) where
   -- the sign before the last argument of a call, that argument, its bracket, and the call's operation
   abbrev pub lastly : ℕ → ℕ → List Token → Res
-  lastly s o ts = seq (sign s ts) (λ p. seq (S .expr 0 p) (λ q. seq (sign 16 q) (emit (ins o))))
+  lastly s o ts = seq (sign s ts) (λ p. seq (S .expr 0 p) (λ q. seq (sign roundClose q) (emit (ins o))))
 
   -- an operand, after its first token
   abbrev pub byHead : Head → List Token → Res
   byHead (Push o a x) ts = emit (record { op = o; arg = a; val = x }) ts
   byHead (Unary o) ts = seq (S .expr 7 ts) (emit (ins o))
-  byHead Open ts = seq (S .expr 0 ts) (sign 16)
-  byHead (Call o) ts = lastly 15 o ts
-  byHead (Call2 o) ts = seq (sign 15 ts) (λ p. seq (S .expr 0 p) (lastly 19 o))
+  byHead Open ts = seq (S .expr 0 ts) (sign roundClose)
+  byHead (Call o) ts = lastly roundOpen o ts
+  byHead (Call2 o) ts = seq (sign roundOpen ts) (λ p. seq (S .expr 0 p) (lastly comma o))
   byHead Bad ts = no
 
   -- an operator with its right side, after the operator's token
@@ -58,7 +58,7 @@ module _ (S : Sys) where
 
   -- the two last parts of a ? : after the ?
   abbrev pub parts : List Token → Res
-  parts ts = seq (S .expr 0 ts) (λ p. seq (sign 23 p) (λ q. seq (S .expr 0 q) (emit (ins chooseOp))))
+  parts ts = seq (S .expr 0 ts) (λ p. seq (sign colon p) (λ q. seq (S .expr 0 q) (emit (ins chooseOp))))
 
   abbrev pub byTail : Tail → ℕ → List Token → Res
   byTail (Binary o l) m ts = cond (leb m l) (seq (right o (suc l) (drop 1 ts)) (S .more m)) (ok [] ts)

@@ -7,24 +7,30 @@ use lib.Ieee.{binary32, ofInt}
 use lib.IntN.{pos}
 use Rattle.tokens.specs.declared.Token.{Token}
 use Rattle.tokens.specs.declared.Token.the-variants.{Number, Symbol, Whole, Sign}
-use Rattle.syntax.specs.Program.{zeroF, nameOp, numberOp}
+use Rattle.signs.specs.Signs as S
+use Rattle.signs.specs.Operators as O
+use Rattle.syntax.specs.Program.{zeroF, nameOp, numberOp, unaryOp, binaryOp}
 use Rattle.expressions.specs.declared.Head.{Head}
 use Rattle.expressions.specs.declared.Head.the-variants.{Push, Unary, Open, Call, Call2, Bad}
 use Rattle.expressions.specs.declared.Tail.{Tail}
 use Rattle.expressions.specs.declared.Tail.the-variants.{Binary, Question, Stop}
 
+-- the number s is that of a sign
+abbrev is : ℕ → S.Sign → Bool
+is s k = eqb s (S.number k)
+
 -- what a sign starts
 abbrev pub headSign : ℕ → Head
 headSign s =
-    cond (eqb s 9) (Call 9)
-    (cond (eqb s 10) (Call 10)
-    (cond (eqb s 11) (Call 11)
-    (cond (eqb s 12) (Call 12)
-    (cond (eqb s 13) (Call2 13)
-    (cond (eqb s 14) (Call2 14)
-    (cond (eqb s 15) Open
-    (cond (eqb s 33) (Unary 37)
-    (cond (eqb s 36) (Unary 36) Bad))))))))
+    cond (is s S.abs) (Call (unaryOp O.absolute))
+    (cond (is s S.sgn) (Call (unaryOp O.signum))
+    (cond (is s S.int) (Call (unaryOp O.whole))
+    (cond (is s S.frac) (Call (unaryOp O.fraction))
+    (cond (is s S.min) (Call2 (binaryOp O.least))
+    (cond (is s S.max) (Call2 (binaryOp O.greatest))
+    (cond (is s S.roundOpen) Open
+    (cond (is s S.-) (Unary (unaryOp O.negative))
+    (cond (is s S.!) (Unary (unaryOp O.not)) Bad))))))))
 
 abbrev pub headOf : Token → Head
 headOf (Number x) = Push numberOp 0 x
@@ -35,19 +41,19 @@ headOf (Sign s) = headSign s
 -- what a sign does after an operand: an operator and its level
 abbrev pub tailSign : ℕ → Tail
 tailSign s =
-    cond (eqb s 22) Question
-    (cond (eqb s 24) (Binary 24 1)
-    (cond (eqb s 25) (Binary 25 2)
-    (cond (eqb s 26) (Binary 26 3)
-    (cond (eqb s 27) (Binary 27 3)
-    (cond (eqb s 28) (Binary 28 4)
-    (cond (eqb s 29) (Binary 29 4)
-    (cond (eqb s 30) (Binary 30 4)
-    (cond (eqb s 31) (Binary 31 4)
-    (cond (eqb s 32) (Binary 32 5)
-    (cond (eqb s 33) (Binary 33 5)
-    (cond (eqb s 34) (Binary 34 6)
-    (cond (eqb s 35) (Binary 35 6) Stop))))))))))))
+    cond (is s S.question) Question
+    (cond (is s S.||) (Binary (binaryOp O.or) 1)
+    (cond (is s S.&&) (Binary (binaryOp O.and) 2)
+    (cond (is s S.==) (Binary (binaryOp O.equal) 3)
+    (cond (is s S.!=) (Binary (binaryOp O.unequal) 3)
+    (cond (is s S.<) (Binary (binaryOp O.less) 4)
+    (cond (is s S.>) (Binary (binaryOp O.greater) 4)
+    (cond (is s S.<=) (Binary (binaryOp O.atMost) 4)
+    (cond (is s S.>=) (Binary (binaryOp O.atLeast) 4)
+    (cond (is s S.+) (Binary (binaryOp O.plus) 5)
+    (cond (is s S.-) (Binary (binaryOp O.minus) 5)
+    (cond (is s S.*) (Binary (binaryOp O.times) 6)
+    (cond (is s S./) (Binary (binaryOp O.over) 6) Stop))))))))))))
 
 abbrev pub tailOf : Token → Tail
 tailOf (Number x) = Stop
@@ -61,6 +67,19 @@ isSign (Number x) s = false
 isSign (Symbol n) s = false
 isSign (Whole w) s = false
 isSign (Sign k) s = eqb k s
+
+-- the signs that the reader looks for, by number
+abbrev pub roundOpen : ℕ
+roundOpen = S.number S.roundOpen
+
+abbrev pub roundClose : ℕ
+roundClose = S.number S.roundClose
+
+abbrev pub comma : ℕ
+comma = S.number S.comma
+
+abbrev pub colon : ℕ
+colon = S.number S.colon
 
 -- the same of the first of some tokens: past the end nothing starts, nothing goes on, and no sign stands
 abbrev pub headL : List Token → Head

@@ -7,6 +7,23 @@ ghost use Rattle.expressions.specs.Roles.{headOf, tailOf, isSign, headL,
 ghost use Rattle.expressions.specs.Reader.{reader, lastly};
 ghost use Rattle.expressions.specs.Areas.{areas, storedAt, oneMore, passed, Place, Ready, Runs};
 
+// The levels of operators, loosest first: ? : is of level 0, and ! and unary - are tighter than all with two sides.
+pub const LOOSEST: u8 = 0;
+
+const EITHER: u8 = 1;
+
+const BOTH: u8 = 2;
+
+const EQUALITY: u8 = 3;
+
+const ORDER: u8 = 4;
+
+const SUM: u8 = 5;
+
+const PRODUCT: u8 = 6;
+
+const TIGHTEST: u8 = 7;
+
 // What a token may start: a number or a name is pushed.
 pub enum Head {
     Push(u8, u16, f32),
@@ -34,22 +51,22 @@ pub fn head_of(t: Token) -> Head
     ensures { λ r. ⌜ r ≡ headOf t ⌝ }
 {
     match t {
-        Token::Number(x) => Head::Push(0xf1, 0, x),
-        Token::Symbol(n) => Head::Push(0xf0, n, 0.0),
+        Token::Number(x) => Head::Push(syntax::NUMBER, 0, x),
+        Token::Symbol(n) => Head::Push(syntax::NAME, n, 0.0),
         Token::Whole(w) => {
             let x = std::num::nearest_u32_to_f32(w);
-            Head::Push(0xf1, 0, x)
+            Head::Push(syntax::NUMBER, 0, x)
         }
         Token::Sign(s) => match s {
-            9 => Head::Call(9),
-            10 => Head::Call(10),
-            11 => Head::Call(11),
-            12 => Head::Call(12),
-            13 => Head::Call2(13),
-            14 => Head::Call2(14),
-            15 => Head::Open,
-            33 => Head::Unary(37),
-            36 => Head::Unary(36),
+            signs::ABS => Head::Call(signs::ABS),
+            signs::SGN => Head::Call(signs::SGN),
+            signs::INT => Head::Call(signs::INT),
+            signs::FRAC => Head::Call(signs::FRAC),
+            signs::MIN => Head::Call2(signs::MIN),
+            signs::MAX => Head::Call2(signs::MAX),
+            signs::ROUND_OPEN => Head::Open,
+            signs::MINUS => Head::Unary(syntax::NEGATIVE),
+            signs::NOT => Head::Unary(signs::NOT),
             _ => Head::Bad,
         },
     }
@@ -60,19 +77,19 @@ pub fn tail_of(t: Token) -> Tail
 {
     match t {
         Token::Sign(s) => match s {
-            22 => Tail::Question,
-            24 => Tail::Binary(24, 1),
-            25 => Tail::Binary(25, 2),
-            26 => Tail::Binary(26, 3),
-            27 => Tail::Binary(27, 3),
-            28 => Tail::Binary(28, 4),
-            29 => Tail::Binary(29, 4),
-            30 => Tail::Binary(30, 4),
-            31 => Tail::Binary(31, 4),
-            32 => Tail::Binary(32, 5),
-            33 => Tail::Binary(33, 5),
-            34 => Tail::Binary(34, 6),
-            35 => Tail::Binary(35, 6),
+            signs::QUESTION => Tail::Question,
+            signs::OR => Tail::Binary(signs::OR, EITHER),
+            signs::AND => Tail::Binary(signs::AND, BOTH),
+            signs::EQUAL => Tail::Binary(signs::EQUAL, EQUALITY),
+            signs::UNEQUAL => Tail::Binary(signs::UNEQUAL, EQUALITY),
+            signs::LESS => Tail::Binary(signs::LESS, ORDER),
+            signs::GREATER => Tail::Binary(signs::GREATER, ORDER),
+            signs::AT_MOST => Tail::Binary(signs::AT_MOST, ORDER),
+            signs::AT_LEAST => Tail::Binary(signs::AT_LEAST, ORDER),
+            signs::PLUS => Tail::Binary(signs::PLUS, SUM),
+            signs::MINUS => Tail::Binary(signs::MINUS, SUM),
+            signs::TIMES => Tail::Binary(signs::TIMES, PRODUCT),
+            signs::OVER => Tail::Binary(signs::OVER, PRODUCT),
             _ => Tail::Stop,
         },
         Token::Number(_) => Tail::Stop,
@@ -188,7 +205,7 @@ pub fn expr(
                 words,
                 reals,
                 Got::Next(at + 1, out),
-                7,
+                TIGHTEST,
                 ops,
                 args,
                 vals,
@@ -202,12 +219,12 @@ pub fn expr(
                 words,
                 reals,
                 Got::Next(at + 1, out),
-                0,
+                LOOSEST,
                 ops,
                 args,
                 vals,
             );
-            let b = pass(kinds, words, reals, a, 16);
+            let b = pass(kinds, words, reals, a, signs::ROUND_CLOSE);
             more(kinds, words, reals, b, min, ops, args, vals)
         }
         Head::Call(op) => {
@@ -216,7 +233,7 @@ pub fn expr(
                 words,
                 reals,
                 Got::Next(at + 1, out),
-                15,
+                signs::ROUND_OPEN,
                 op,
                 ops,
                 args,
@@ -225,9 +242,15 @@ pub fn expr(
             more(kinds, words, reals, a, min, ops, args, vals)
         }
         Head::Call2(op) => {
-            let a = pass(kinds, words, reals, Got::Next(at + 1, out), 15);
-            let b = expr(kinds, words, reals, a, 0, ops, args, vals);
-            let c = last(kinds, words, reals, b, 19, op, ops, args, vals);
+            let a = pass(
+                kinds,
+                words,
+                reals,
+                Got::Next(at + 1, out),
+                signs::ROUND_OPEN,
+            );
+            let b = expr(kinds, words, reals, a, LOOSEST, ops, args, vals);
+            let c = last(kinds, words, reals, b, signs::COMMA, op, ops, args, vals);
             more(kinds, words, reals, c, min, ops, args, vals)
         }
         Head::Bad => Got::Refused,
@@ -252,8 +275,17 @@ fn last(
     let Got::Next(at, out) = pass(kinds, words, reals, got, s) else {
         return Got::Refused;
     };
-    let a = expr(kinds, words, reals, Got::Next(at, out), 0, ops, args, vals);
-    let b = pass(kinds, words, reals, a, 16);
+    let a = expr(
+        kinds,
+        words,
+        reals,
+        Got::Next(at, out),
+        LOOSEST,
+        ops,
+        args,
+        vals,
+    );
+    let b = pass(kinds, words, reals, a, signs::ROUND_CLOSE);
     emit(ops, args, vals, b, op, 0, 0.0)
 }
 
@@ -294,20 +326,20 @@ fn more(
             }
         }
         Tail::Question => {
-            if min == 0 {
+            if min == LOOSEST {
                 let a = expr(
                     kinds,
                     words,
                     reals,
                     Got::Next(at + 1, out),
-                    0,
+                    LOOSEST,
                     ops,
                     args,
                     vals,
                 );
-                let b = pass(kinds, words, reals, a, 23);
-                let c = expr(kinds, words, reals, b, 0, ops, args, vals);
-                let d = emit(ops, args, vals, c, 22, 0, 0.0);
+                let b = pass(kinds, words, reals, a, signs::COLON);
+                let c = expr(kinds, words, reals, b, LOOSEST, ops, args, vals);
+                let d = emit(ops, args, vals, c, signs::QUESTION, 0, 0.0);
                 more(kinds, words, reals, d, min, ops, args, vals)
             } else {
                 got

@@ -10,7 +10,7 @@ use mir.Syntax.{w16}
 use mir.Val.{SFits, toZ, ofZ}
 use mir.Facts.{toZ-pos, toZ-ofZ, sfits-lit}
 use lib.Dec.{T, lt→ltb}
-use lib.Ieee.{Float, nan, inf, fin, lt, neg, toUnsigned, up, down}
+use lib.Ieee.{Float, nan, inf, fin, lt, neg, ofBits, toUnsigned, up, down}
 use lib.Ieee.Fits.{down-pos}
 use Rattle.float32.specs.Builtins.{zeroF, minusOneF}
 use Rattle.float32.specs.Limit.{held}
@@ -39,7 +39,7 @@ held-none (fin false m d) c p =
 -- a sample's sign and size
 module _ (c : ℕ) (h : c ≤ 32767) where
   pub sample-below : (y : Float) → lt y zeroF ≡ true → held c y ≡ negℤ (pos (min (toUnsigned 64 (neg y)) c))
-  unfolding lt toUnsigned held neg
+  unfolding lt toUnsigned held neg ofBits
   sample-below nan p = absurd (true≢false (sym p))
   sample-below (inf false) p = absurd (true≢false (sym p))
   sample-below (inf true) p = let e : c ≡ min (2 ^ 64 - 1) c = omega arith in ap (λ (n : ℕ). negℤ (pos n)) e
@@ -49,7 +49,7 @@ module _ (c : ℕ) (h : c ≤ 32767) where
       let e : min v c ≡ min (min v (2 ^ 64 - 1)) c = omega arith in ap (λ (n : ℕ). negℤ (pos n)) e
 
   pub sample-above : (y : Float) → lt y zeroF ≡ false → held c y ≡ pos (min (toUnsigned 64 y) c)
-  unfolding lt toUnsigned held
+  unfolding lt toUnsigned held ofBits
   sample-above nan p = rw zero-min
   sample-above (inf true) p = absurd (true≢false p)
   sample-above (inf false) p = let e : c ≡ min (2 ^ 64 - 1) c = omega arith in ap pos e

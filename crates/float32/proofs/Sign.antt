@@ -6,7 +6,7 @@ use native.Mathlib.Omega.{arith}
 use borrow.Author.Tests.{ltb-true, ltb-false, eqb-true, eq-eqb}
 use lib.IntN.{ℤ}
 use lib.Dec.{T}
-use lib.Ieee.{Float, nan, inf, fin, fits, lt, eq, neg, binary32, up, down}
+use lib.Ieee.{Float, nan, inf, fin, fits, lt, eq, neg, ofBits, binary32, up, down}
 use lib.Ieee.Back.{whole-unique}
 use Rattle.float32.specs.Builtins.{absOf, zeroF}
 
@@ -20,7 +20,7 @@ fits-abs s zero e t = t
 fits-abs s (suc m) e t = t
 
 pub abs-below : (x : Float) → lt x zeroF ≡ true → neg x ≡ absOf x
-unfolding lt neg absOf
+unfolding lt neg absOf ofBits
 abs-below nan e = cc
 abs-below (inf true) e = refl
 abs-below (inf false) e = cc
@@ -28,7 +28,7 @@ abs-below (fin true m d) e = refl
 abs-below (fin false m d) e = absurd (let h : m * up d * 1 < 0 * down d = ltb-true _ _ e in omega arith)
 
 pub abs-zero : (x : Float) → T (fits binary32 x) → eq x zeroF ≡ true → zeroF ≡ absOf x
-unfolding eq absOf fits
+unfolding eq absOf fits ofBits
 abs-zero nan t e = cc
 abs-zero (inf s) t e = cc
 abs-zero (fin s m d) t e =
@@ -36,7 +36,7 @@ abs-zero (fin s m d) t e =
     whole-unique binary32 zeroF (fin false m d) false 0 tt (fits-abs s m d t) (refl, refl) (refl, h)
 
 pub abs-above : (x : Float) → lt x zeroF ≡ false → eq x zeroF ≡ false → x ≡ absOf x
-unfolding lt eq absOf
+unfolding lt eq absOf ofBits
 abs-above nan e f = refl
 abs-above (inf true) e f = cc
 abs-above (inf false) e f = refl

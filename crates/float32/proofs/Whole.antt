@@ -8,7 +8,7 @@ use borrow.Author.Tests.{ltb-true, ltb-false, ne-eqb}
 use lib.IntN.{ℤ, pos, negsuc, negℤ}
 use lib.Dec.{T, ltb, leb, eqb, ltb→lt, lt→ltb, le→leb, eqb·suc-zero}
 use lib.Pow.{pow-add, pow-pos}
-use lib.Ieee.{Float, nan, inf, fin, fits, lt, le, eq, neg, round, ofInt, toSigned, inFloat, binary32, up, down}
+use lib.Ieee.{Float, nan, inf, fin, fits, lt, le, eq, neg, round, ofBits, ofInt, toSigned, inFloat, binary32, up, down}
 use lib.Ieee.Back.{whole-unique}
 use lib.Ieee.Exact.{round-exact}
 use lib.Ieee.Fits.{down-pos, round-fits}
@@ -116,7 +116,7 @@ signed-in true (suc n) h = lt→ltb n (2 ^ 24) (omega arith)
 signed-in false n h = le→leb n (2 ^ 24) (omega arith)
 
 signed-of : (s : Bool) (n : ℕ) → ofInt binary32 (cond s (negℤ (pos n)) (pos n)) ≡ cond (eqb n 0) zeroF (round binary32 s n 1)
-unfolding ofInt round
+unfolding ofInt round ofBits
 signed-of true zero = refl
 signed-of true (suc n) = rw (eqb·suc-zero)
 signed-of false zero = refl

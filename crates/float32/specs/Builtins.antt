@@ -3,11 +3,11 @@ use Prim.Native.Nat.{_*_, _/_}
 use mathlib.Core.Bool.{Bool, not, true, false, cond, _&&_, _||_}
 use lib.IntN.{pos}
 use lib.Dec.{eqb}
-use lib.Ieee.{Float, nan, inf, fin, binary32, up, down, sub, lt, ne, round}
+use lib.Ieee.{Float, nan, inf, fin, binary32, up, down, sub, lt, ne, round, ofBits}
 
 -- +0, 1 and -1
 abbrev pub zeroF : Float
-zeroF = fin false 0 (pos 0)
+zeroF = ofBits binary32 0
 
 abbrev pub oneF : Float
 oneF = fin false 1 (pos 0)

@@ -13,7 +13,7 @@ use Rattle.expressions.specs.Reader.{Res, no, ok, prepend}
 use Rattle.grammar.specs.declared.Lead.the-variants.{Stop as No}
 use Rattle.grammar.specs.Starts.{leadL}
 use Rattle.grammar.specs.Reader.{setTo, bracketed, branches, statements, names, listed, byLead, declarations, fields, header, body, instrument, orchestra}
-use Rattle.grammar.specs.Grammar.{IsExpr, Stmts, none, set, out, when, either, Names, one, more, Fields, none as no·fields, some as some·fields, Kinds, ivar, ksig, asig, imports, Decls, none as no·decls, some as some·decls, Instr, is, Orchestra, last, next}
+use Rattle.syntax.specs.Grammar.{IsExpr, Stmts, none, set, out, when, either, Names, one, more, Fields, none as no·fields, some as some·fields, Kinds, ivar, ksig, asig, imports, Decls, none as no·decls, some as some·decls, Instr, is, Orchestra, last, next}
 use Rattle.grammar.proofs.Steps.{statements·law, names·law, declarations·law, orchestra·law}
 use Rattle.expressions.proofs.Complete.{complete as expr-complete}
 

@@ -6,7 +6,7 @@ use lib.ListN.{length, drop}
 use lib.Ieee.{Float}
 use Rattle.tokens.specs.Token.{tokenAt, toks}
 use Rattle.tokens.specs.declared.Token.{Token}
-use Rattle.tokens.specs.declared.Token.the-variants.{Symbol}
+use Rattle.tokens.specs.declared.Token.the-variants.{Symbol, Sign}
 use Rattle.expressions.proofs.Toks.{drop-toks, drop-past}
 use Rattle.grammar.specs.declared.Start.{Start}
 use Rattle.grammar.specs.declared.Start.the-variants.{Name, Stop}
@@ -14,13 +14,16 @@ use Rattle.grammar.specs.declared.Lead.{Lead}
 use Rattle.grammar.specs.declared.Lead.the-variants.{Stop as No}
 use Rattle.grammar.specs.declared.Word.{Word}
 use Rattle.grammar.specs.declared.Word.the-variants.{Is, Not}
-use Rattle.grammar.specs.Starts.{startL, startOf, leadL, leadOf, wordL, wordOf}
+use Rattle.grammar.specs.Starts.{startL, startOf, leadL, leadOf, leadSign, wordL, wordOf}
 
 pub name-start : {t : Token} {n : ℕ} → t ≡ Symbol n → Name n ≡ startOf t
 name-start e = rw e
 
 pub name-word : {t : Token} {n : ℕ} → t ≡ Symbol n → Is n ≡ wordOf t
 name-word e = rw e
+
+pub sign-leads : {t : Token} {s : ℕ} (k : ℕ) {h : Lead} → h ≡ leadSign k → t ≡ Sign s → s ≡ k → h ≡ leadOf t
+sign-leads k e f g = rw (f, g) e
 
 module _ (ks ws : List ℕ) (xs : List Float) (at : ℕ) where
   module _ {t : Token} (lt : at < length ks) (e : t ≡ tokenAt ks ws xs at) where

@@ -12,7 +12,7 @@ use Rattle.expressions.specs.Roles.{signL, tailL}
 use Rattle.expressions.specs.Reader.{ok, reader}
 use Rattle.grammar.specs.declared.Lead.the-variants.{Stop as No}
 use Rattle.grammar.specs.Starts.{leadL}
-use Rattle.grammar.specs.Grammar.{IsExpr, Stmts, none, set, out, when, either, Names, one, more, Fields, none as no·fields, some as some·fields, Kinds, ivar, ksig, asig, imports, Decls, none as no·decls, some as some·decls, Instr, is, Orchestra, last, next}
+use Rattle.syntax.specs.Grammar.{IsExpr, Stmts, none, set, out, when, either, Names, one, more, Fields, none as no·fields, some as some·fields, Kinds, ivar, ksig, asig, imports, Decls, none as no·decls, some as some·decls, Instr, is, Orchestra, last, next}
 use Rattle.grammar.proofs.Complete.{not-else, no-lead, orchestra-some}
 use Rattle.expressions.proofs.Complete.{complete as expr-complete, Ends}
 use Rattle.expressions.proofs.Unique.{code-unique}
@@ -25,7 +25,7 @@ module _ {e f : Expr} {ts us : List Token} (d : IsExpr e ts) (g : IsExpr f us) w
   expr-once : (p q : List Token) → Ends 0 (tailL p) → Ends 0 (tailL q) → ts ++ p ≡ us ++ q → (e ≡ f) × (p ≡ q)
   expr-once p q a b h =
       let z : ok (compile e) p ≡ ok (compile f) q = sym (expr-complete d p a) ∙ ap (reader .expr 0) h ∙ expr-complete g q b in
-      (code-unique d g (cc), cc)
+      (code-unique e f (cc), cc)
 
   -- up to a ; and up to a )
   semicolon : (x y : List Token) → ts ++ Sign 20 ∷ x ≡ us ++ Sign 20 ∷ y → (e ≡ f) × (x ≡ y)

@@ -6,7 +6,8 @@ use lib.ListN.{length, drop}
 use Rattle.tokens.specs.declared.Token.{Token}
 use Rattle.syntax.specs.Tree.{fieldKind, importsKind}
 use Rattle.syntax.specs.Program.{ins, insArg, instrOp, outputOp, ifOp, elseOp, endOp, storeOp}
-use Rattle.expressions.specs.Roles.{signL}
+use Rattle.signs.specs.Signs as S
+use Rattle.expressions.specs.Roles.{signL, roundOpen, roundClose, comma}
 use Rattle.expressions.specs.Reader.{Res, no, ok, seq, sign, emit, reader}
 use Rattle.grammar.specs.declared.Start.{Start}
 use Rattle.grammar.specs.declared.Start.the-variants.{Name, Output, If, Stop}
@@ -15,6 +16,28 @@ use Rattle.grammar.specs.declared.Lead.the-variants.{Kind, Imports, Stop
 use Rattle.grammar.specs.declared.Word.{Word}
 use Rattle.grammar.specs.declared.Word.the-variants.{Is, Not}
 use Rattle.grammar.specs.Starts.{startL, leadL, wordL}
+
+-- the signs that the reader looks for, by number
+abbrev instr : ℕ
+instr = S.number S.instr
+
+abbrev ksig : ℕ
+ksig = S.number S.ksig
+
+abbrev else : ℕ
+else = S.number S.else
+
+abbrev curlyOpen : ℕ
+curlyOpen = S.number S.curlyOpen
+
+abbrev curlyClose : ℕ
+curlyClose = S.number S.curlyClose
+
+abbrev semicolon : ℕ
+semicolon = S.number S.semicolon
+
+abbrev becomes : ℕ
+becomes = S.number S.becomes
 
 -- a reader that calls itself for fewer tokens, n calls deep
 unfoldable pub deep : ((List Token → Res) → List Token → Res) → ℕ → List Token → Res
@@ -29,27 +52,27 @@ whole step ts = deep step (suc (length ts)) ts
 
 -- = expression ;
 abbrev pub setTo : ℕ → List Token → Res
-setTo n ts = seq (sign 21 ts) (λ p. seq (reader .expr 0 p) (λ q. seq (sign 20 q) (emit (insArg storeOp n))))
+setTo n ts = seq (sign becomes ts) (λ p. seq (reader .expr 0 p) (λ q. seq (sign semicolon q) (emit (insArg storeOp n))))
 
 -- ( expression ) and a sign
 abbrev pub bracketed : ℕ → ℕ → List Token → Res
-bracketed s o ts = seq (sign 15 ts) (λ p. seq (reader .expr 0 p) (λ q. seq (sign 16 q) (λ r. seq (sign s r) (emit (ins o)))))
+bracketed s o ts = seq (sign roundOpen ts) (λ p. seq (reader .expr 0 p) (λ q. seq (sign roundClose q) (λ r. seq (sign s r) (emit (ins o)))))
 
 -- the } of a block
 abbrev pub close : ℕ → List Token → Res
-close o ts = seq (sign 18 ts) (emit (ins o))
+close o ts = seq (sign curlyClose ts) (emit (ins o))
 
 -- with or without else { statements }
 abbrev pub otherwise : (List Token → Res) → List Token → Res
-otherwise B ts = cond (signL ts 8) (seq (sign 17 (drop 1 ts)) (λ p. seq (B p) (close endOp))) (emit (ins endOp) ts)
+otherwise B ts = cond (signL ts else) (seq (sign curlyOpen (drop 1 ts)) (λ p. seq (B p) (close endOp))) (emit (ins endOp) ts)
 
 -- an if, after its first token
 abbrev pub branches : (List Token → Res) → List Token → Res
-branches B ts = seq (bracketed 17 ifOp ts) (λ p. seq (B p) (λ q. seq (close elseOp q) (otherwise B)))
+branches B ts = seq (bracketed curlyOpen ifOp ts) (λ p. seq (B p) (λ q. seq (close elseOp q) (otherwise B)))
 
 abbrev pub byStart : (List Token → Res) → Start → List Token → Res
 byStart B (Name n) ts = seq (setTo n (drop 1 ts)) B
-byStart B Output ts = seq (bracketed 20 outputOp (drop 1 ts)) B
+byStart B Output ts = seq (bracketed semicolon outputOp (drop 1 ts)) B
 byStart B If ts = seq (branches B (drop 1 ts)) B
 byStart B Stop ts = ok [] ts
 
@@ -71,7 +94,7 @@ abbrev pub name : ℕ → List Token → Res
 name o ts = byWord o (wordL ts) (drop 1 ts)
 
 abbrev pub stepNames : ℕ → (List Token → Res) → List Token → Res
-stepNames k N ts = seq (name k ts) (λ r. cond (signL r 19) (N (drop 1 r)) (ok [] r))
+stepNames k N ts = seq (name k ts) (λ r. cond (signL r comma) (N (drop 1 r)) (ok [] r))
 
 -- one or more names parted by commas
 abbrev pub names : ℕ → List Token → Res
@@ -79,11 +102,11 @@ names k = whole (stepNames k)
 
 -- names and ;
 abbrev pub listed : ℕ → List Token → Res
-listed k ts = seq (names k ts) (sign 20)
+listed k ts = seq (names k ts) (sign semicolon)
 
 abbrev pub byLead : (List Token → Res) → Lead → List Token → Res
 byLead D (Kind k) ts = seq (listed k (drop 1 ts)) D
-byLead D Imports ts = seq (sign 3 (drop 1 ts)) (λ p. seq (listed importsKind p) D)
+byLead D Imports ts = seq (sign ksig (drop 1 ts)) (λ p. seq (listed importsKind p) D)
 byLead D No ts = ok [] ts
 
 abbrev pub stepDeclarations : (List Token → Res) → List Token → Res
@@ -97,18 +120,18 @@ declarations = whole stepDeclarations
 
 -- names parted by commas, or none before )
 abbrev pub fields : List Token → Res
-fields ts = cond (signL ts 16) (ok [] ts) (names fieldKind ts)
+fields ts = cond (signL ts roundClose) (ok [] ts) (names fieldKind ts)
 
 -- name ( fields )
 abbrev pub header : List Token → Res
-header ts = seq (name instrOp ts) (λ p. seq (sign 15 p) (λ q. seq (fields q) (sign 16)))
+header ts = seq (name instrOp ts) (λ p. seq (sign roundOpen p) (λ q. seq (fields q) (sign roundClose)))
 
 -- { declarations statements }
 abbrev pub body : List Token → Res
-body ts = seq (sign 17 ts) (λ p. seq (declarations p) (λ q. seq (statements q) (sign 18)))
+body ts = seq (sign curlyOpen ts) (λ p. seq (declarations p) (λ q. seq (statements q) (sign curlyClose)))
 
 abbrev pub instrument : List Token → Res
-instrument ts = seq (sign 1 ts) (λ p. seq (header p) body)
+instrument ts = seq (sign instr ts) (λ p. seq (header p) body)
 
 -- no tokens are left
 abbrev pub none : List Token → Bool

@@ -1,8 +1,10 @@
 -- What a token starts above expressions.
 use Prim.Native.Nat.{ℕ}
-use mathlib.Core.Bool.{cond}
+use mathlib.Core.Bool.{Bool, cond}
 use mathlib.Core.List.{List, [], _∷_}
 use lib.Dec.{eqb}
+use Rattle.signs.specs.Signs as S
+use Rattle.syntax.specs.Tree.{ivarKind, ksigKind, asigKind}
 use Rattle.tokens.specs.declared.Token.{Token}
 use Rattle.tokens.specs.declared.Token.the-variants.{Number, Symbol, Whole, Sign}
 use Rattle.grammar.specs.declared.Start.{Start}
@@ -12,9 +14,13 @@ use Rattle.grammar.specs.declared.Lead.the-variants.{Kind, Imports, Stop
 use Rattle.grammar.specs.declared.Word.{Word}
 use Rattle.grammar.specs.declared.Word.the-variants.{Is, Not}
 
+-- the number s is that of a sign
+abbrev is : ℕ → S.Sign → Bool
+is s k = eqb s (S.number k)
+
 -- a statement
 abbrev pub startSign : ℕ → Start
-startSign s = cond (eqb s 6) Output (cond (eqb s 7) If Stop)
+startSign s = cond (is s S.output) Output (cond (is s S.if) If Stop)
 
 abbrev pub startOf : Token → Start
 startOf (Number x) = Stop
@@ -22,9 +28,9 @@ startOf (Symbol n) = Name n
 startOf (Whole w) = Stop
 startOf (Sign s) = startSign s
 
--- a declaration, by its kind's number
+-- a declaration, by its kind
 abbrev pub leadSign : ℕ → Lead
-leadSign s = cond (eqb s 2) (Kind 2) (cond (eqb s 3) (Kind 3) (cond (eqb s 4) (Kind 4) (cond (eqb s 5) Imports No)))
+leadSign s = cond (is s S.ivar) (Kind ivarKind) (cond (is s S.ksig) (Kind ksigKind) (cond (is s S.asig) (Kind asigKind) (cond (is s S.imports) Imports No)))
 
 abbrev pub leadOf : Token → Lead
 leadOf (Number x) = No

@@ -34,8 +34,8 @@ pub fn start_of(t: Token) -> Start
         Token::Symbol(n) => Start::Name(n),
         Token::Whole(_) => Start::Stop,
         Token::Sign(s) => match s {
-            6 => Start::Output,
-            7 => Start::If,
+            signs::OUTPUT => Start::Output,
+            signs::IF => Start::If,
             _ => Start::Stop,
         },
     }
@@ -49,10 +49,10 @@ pub fn lead_of(t: Token) -> Lead
         Token::Symbol(_) => Lead::Stop,
         Token::Whole(_) => Lead::Stop,
         Token::Sign(s) => match s {
-            2 => Lead::Kind(2),
-            3 => Lead::Kind(3),
-            4 => Lead::Kind(4),
-            5 => Lead::Imports,
+            signs::IVAR => Lead::Kind(signs::IVAR),
+            signs::KSIG => Lead::Kind(signs::KSIG),
+            signs::ASIG => Lead::Kind(signs::ASIG),
+            signs::IMPORTS => Lead::Imports,
             _ => Lead::Stop,
         },
     }

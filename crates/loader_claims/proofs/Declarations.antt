@@ -12,8 +12,8 @@ use Rattle.tokens.specs.declared.Token.{Token}
 use Rattle.syntax.specs.Tree.{Expr, number, name, unary, binary, choose, Statements, done, assign, output, branch, Declaration, Instrument, fieldKind}
 use Rattle.syntax.specs.Names.{named, namedBy, namesOf}
 use Rattle.syntax.specs.Program.{Ins, compile, code, declare, declared, program}
-use Rattle.grammar.specs.Grammar as grammar
-use Rattle.grammar.specs.Grammar.{Kinds, Decls, Instr, Orchestra}
+use Rattle.syntax.specs.Grammar as grammar
+use Rattle.syntax.specs.Grammar.{Kinds, Decls, Instr, Orchestra}
 use Rattle.rules.specs.Formed.{opsOf, argsOf}
 use Rattle.voices.specs.Tree.{importOf, importsOf}
 use Rattle.loader.specs.Loading.{laidIn, declares, noImport, fieldCount, importsAt}

@@ -10,9 +10,10 @@ use lib.Ieee.{Float}
 use Rattle.tokens.specs.declared.Token.{Token}
 use Rattle.tokens.specs.Measures.{measured}
 use Rattle.syntax.specs.Tree.{Instrument}
-use Rattle.syntax.specs.Names.{placed, nameRules}
+use Rattle.syntax.specs.Names.{nameRules}
+use Rattle.syntax.specs.Placed.{placed}
 use Rattle.syntax.specs.Program.{zeroF, program, instrument}
-use Rattle.grammar.specs.Grammar.{Orchestra}
+use Rattle.syntax.specs.Grammar.{Orchestra}
 use Rattle.rules.specs.Formed.{opOf, argOf, opsOf, argsOf, valsOf}
 use Rattle.lowering.specs.Orchestra.{Code, code, codeOf, filled}
 use Rattle.bounds.proofs.Whole.{program-fits, orchestra-playable}
@@ -128,4 +129,4 @@ loaded bs is a =
 
 pub taken-only : TakenOnly
 unfolding loadOf
-taken-only bs e = accepted-exactly bs .0 e
+taken-only bs b e = accepted-exactly bs .0 b e

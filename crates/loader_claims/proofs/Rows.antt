@@ -10,9 +10,9 @@ use Rattle.laws.proofs.Lists.{map-append}
 use Rattle.tokens.specs.declared.Token.{Token}
 use Rattle.tokens.specs.Measures.{measured}
 use Rattle.syntax.specs.Tree.{Instrument}
-use Rattle.syntax.specs.Names.{placed}
+use Rattle.syntax.specs.Placed.{placed}
 use Rattle.syntax.specs.Program.{Ins, insArg, instrOp, instrument, program}
-use Rattle.grammar.specs.Grammar.{Orchestra}
+use Rattle.syntax.specs.Grammar.{Orchestra}
 use Rattle.rules.specs.Formed.{opOf, argOf, opsOf, argsOf, valsOf}
 use Rattle.synth.specs.Passes.{stretch}
 use Rattle.lowered.specs.Lowered.{lowered}

@@ -4,6 +4,7 @@ use mathlib.Core.Path.{_≡_}
 use mathlib.Core.List.{List}
 use lib.ListN.{take, replicate}
 use Rattle.answer.specs.declared.Answer.the-variants.{Taken}
+use Rattle.tokens.specs.Spelling.{Bytes}
 use Rattle.syntax.specs.Tree.{Instrument}
 use Rattle.syntax.specs.Program.{zeroF}
 use Rattle.sounding.specs.Voices.{blank}
@@ -27,7 +28,7 @@ Loaded = (bs : List ℕ) (is : List Instrument) → Accepted bs is → LoadedAs 
 
 -- and no other is taken.
 abbrev pub TakenOnly : Type 0
-TakenOnly = (bs : List ℕ) → loadOf bs .answer ≡ Taken → (is : List Instrument) × Accepted bs is
+TakenOnly = (bs : List ℕ) → Bytes bs → loadOf bs .answer ≡ Taken → (is : List Instrument) × Accepted bs is
 
 -- no instruments, no code, no numbers
 abbrev pub blankProgram : Program

@@ -7,11 +7,11 @@ use mathlib.Core.Bool.{Bool, true, false, not, _&&_, cond}
 use lib.ListN.{length, getD, set, take, length-set}
 use lib.Seq.{take-set-le, getD-set-other}
 use lib.Dec.{T}
-use lib.Ieee.{Float, binary32, fits, eq, ne}
+use lib.Ieee.{Float, binary32, fits, eq, ne, ofBits}
 use Rattle.syntax.specs.Program.{zeroF}
 use Rattle.float32.specs.Builtins.{truth, flagOf, notOf, bothOf}
 use Rattle.float32.specs.Operators.{unaryOf, binaryOf}
-use Rattle.meaning.specs.Meaning.{Sounding, sounding}
+use Rattle.meaning.specs.Placed.{Sounding, sounding}
 use Rattle.synth.specs.Run.{at, State, state}
 use Rattle.lowered.specs.Lowered.{guardAt}
 
@@ -65,7 +65,7 @@ then g F G s s₁ s₂ d e =
 -- ---- truth
 
 pub truth-flag : (b : Bool) → truth (flagOf b) ≡ b
-unfolding truth flagOf ne eq
+unfolding truth flagOf ne eq ofBits
 truth-flag true = refl
 truth-flag false = refl
 

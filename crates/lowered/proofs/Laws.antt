@@ -9,7 +9,7 @@ use lib.Ieee.{Float, binary32}
 use lib.Ieee.Bits.{ofBits-fits}
 use Rattle.syntax.specs.Tree.{Statements}
 use Rattle.syntax.specs.Program.{zeroF}
-use Rattle.meaning.specs.Meaning.{Sounding, sounding, pass, birth, kPass, aPasses, fresh}
+use Rattle.meaning.specs.Placed.{Sounding, sounding, pass, birth, kPass, aPasses, fresh}
 use Rattle.synth.specs.Run.{state, run}
 use Rattle.synth.specs.Passes.{laid, frameOf, framePlaces, freshOf, once, Sums, sums, played}
 use Rattle.lowered.specs.Lowered.{lowered}

@@ -12,9 +12,9 @@ use lib.Ieee.Fits.{add-fits}
 use borrow.Author.Tests.{eqb-true, ne-eqb}
 use Rattle.syntax.specs.Tree.{Expr, Statements, done, assign, output, branch}
 use Rattle.syntax.specs.Program.{zeroF}
-use Rattle.syntax.specs.Rates.{rateOf, placeOf}
+use Rattle.syntax.specs.Placed.{rateOf, placeOf}
 use Rattle.float32.specs.Builtins.{truth}
-use Rattle.meaning.specs.Meaning.{value, Sounding, sounding, assigned, outputs, pass}
+use Rattle.meaning.specs.Placed.{value, Sounding, sounding, assigned, outputs, pass}
 use Rattle.synth.specs.Run.{State, state, step, run}
 use Rattle.lowered.specs.Lowered.{elseAt, after, placed, parts, selected, stored, sent, opened, turned, past, lowered}
 use Rattle.lowered.specs.Statements.{Workable, Playable}

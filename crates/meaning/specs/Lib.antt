@@ -1,2 +1,4 @@
 pub mod Meaning
+pub mod Placed
+pub mod Translation
 pub mod Outputs

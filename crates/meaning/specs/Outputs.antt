@@ -6,7 +6,7 @@ use lib.Ieee.{Float}
 use Rattle.syntax.specs.Tree.{Statements, done, assign, output, branch}
 use Rattle.syntax.specs.Program.{zeroF}
 use Rattle.float32.specs.Builtins.{truth}
-use Rattle.meaning.specs.Meaning.{value, aRate, sounding, assigned, pass}
+use Rattle.meaning.specs.Placed.{value, aRate, sounding, assigned, pass}
 
 -- a note's values after an a pass; no statement reads the sample
 abbrev pub afterPass : Statements → List Float → List Float

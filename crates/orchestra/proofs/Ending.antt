@@ -15,7 +15,7 @@ use Rattle.answer.specs.declared.Answer.the-variants.{Taken, BadToken, BadGramm
 use Rattle.tokens.specs.declared.Token.{Token}
 use Rattle.tokens.specs.declared.Tokens.{Tokens}
 use Rattle.tokens.specs.Token.{toks}
-use Rattle.tokens.specs.Bytes.{Got as Spelt, none, some, tokensOf}
+use Rattle.tokens.specs.Scanning.{Got as Spelt, none, some, tokensOf}
 use Rattle.tokens.specs.Measures.{measured, bracketsKept, stretchesKept}
 use Rattle.tokens.specs.Reading.{stored as stored·tokens, judged, readOf as tokens·of}
 use Rattle.tokens.proofs.Laws.{tokens-lawful, stored-tokens}
@@ -27,14 +27,14 @@ use Rattle.expressions.specs.declared.Got.{Got}
 use Rattle.expressions.specs.declared.Got.the-variants.{Next, Refused}
 use Rattle.expressions.specs.Areas.{Areas, areas}
 use Rattle.expressions.proofs.Laws.{All, some as took}
-use Rattle.grammar.specs.Grammar.{Orchestra}
+use Rattle.syntax.specs.Grammar.{Orchestra}
 use Rattle.grammar.specs.Reader.{orchestra, stepInstruments}
 use Rattle.grammar.proofs.Results.{Took}
 use Rattle.grammar.proofs.Whole.{whole-took}
 use Rattle.grammar.proofs.Steps.{steady-instruments}
 use Rattle.grammar.proofs.Complete.{complete}
 use Rattle.grammar.proofs.Sound.{Orchestrated, sound}
-use Rattle.instruments.specs.Reading.{Reads, read, refused as unread}
+use Rattle.instrument_reader.specs.Reading.{Reads, read, refused as unread}
 use Rattle.rules.specs.Formed.{opsOf, argsOf, valsOf}
 use Rattle.rules.specs.Naming.{namesPass, placesPass, placedFrom, namesAfter}
 use Rattle.rules.specs.Rating.{ratesPass}
@@ -106,11 +106,11 @@ program-short {is} {ts} d = go (rw (complete d) at (whole-took stepInstruments s
 module _ {ts : List Token} {m n : Areas} {g : Got} where
   pub parsed-fits : {at out : ℕ} → Reads ts m g n → g ≡ Next at out → length ts ≤ 2048 → out ≤ 2048
   parsed-fits {out = out} (read is d e f) h le = let z : out ≡ length (program is) = let y = sym h ∙ e in cc in omega (arith, program-short d)
-  parsed-fits (unread k e) h le = never (let z = sym h ∙ e in cc)
+  parsed-fits (unread c k e f) h le = never (let z = sym h ∙ e in cc)
 
   pub parsed-not : {r : Outcome} → Reads ts m g n → g ≡ Refused → r ≡ refused BadGrammar → r ≡ byGrammar (orchestra ts)
   parsed-not (read is d e f) h k = never (let z = sym h ∙ e in cc)
-  parsed-not {r} (unread none·so e) h k = go (orchestra ts) (sound ts)
+  parsed-not {r} (unread c none·so e f) h k = go (orchestra ts) (sound ts)
     where
       go : (x : Res) → All (Orchestrated ts) x → r ≡ byGrammar x
       go no s = k
@@ -127,7 +127,7 @@ parsed-is {ts} {os = os} {ns = ns} {vs = vs} {out = out} {r = r} (read is d e f)
     let a : ns ≡ padded 2048 0 (argsOf c) = ap (λ (m : Areas). m .args) f ∙ front 0 (argsOf c) (rw length-map (omega arith)) in
     let v : vs ≡ padded 2048 zeroF (valsOf c) = ap (λ (m : Areas). m .vals) f ∙ front zeroF (valsOf c) (rw length-map (omega arith)) in
     k ∙ rw (o, a, v, z, complete d) (finished-is (opsOf c) (argsOf c) (valsOf c) (length c) (length-map c _) (length-map c _))
-parsed-is (unread k e) h le r = never (let z = sym h ∙ e in cc)
+parsed-is (unread c k e f) h le r = never (let z = sym h ∙ e in cc)
 
 -- ---- the tokens
 

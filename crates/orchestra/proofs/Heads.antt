@@ -10,11 +10,14 @@ use lib.Dec.{eqb, leb}
 use borrow.Author.Tests.{eqb-true, leb-true}
 use Rattle.laws.proofs.Lists.{map-append}
 use Rattle.syntax.specs.Tree.{Expr, number, name, unary, binary, choose, Statements, done, assign, output, branch, Declaration, Instrument, fieldKind}
-use Rattle.syntax.specs.Names.{placed, nameRules, distinct, titleOf, eachKept}
+use Rattle.syntax.specs.Names.{nameRules, distinct, titleOf, eachKept}
+use Rattle.syntax.specs.Placed.{placed}
 use Rattle.syntax.specs.Program.{Ins, instrOp, actOf, compile, code, declare, declared, instrument, program}
 use Rattle.syntax.specs.declared.Act.{Act}
 use Rattle.syntax.specs.declared.Act.the-variants.{Value, Declare, Instr}
-use Rattle.rules.specs.Formed.{FormedIn, Formed, FormedKinds, FormedAll, opOf, opsOf}
+use Rattle.syntax.specs.Program.{unaryOp, binaryOp}
+use Rattle.syntax.proofs.Operations.{unary-value, binary-value}
+use Rattle.rules.specs.Formed.{FormedKinds, FormedAll, opOf, opsOf}
 use Rattle.orchestra.specs.Compiled.{headsFrom}
 use Rattle.orchestra.specs.Reading.{startsFrom}
 use Rattle.rules.proofs.PlacesLaw.{ops-stay}
@@ -45,22 +48,21 @@ plain-append (cons i e p) q = cons i e (plain-append p q)
 one : (i : Ins) → eqb (i .op) instrOp ≡ false → Plain (i ∷ [])
 one i e = cons i e nil
 
-expr-plain : (e : Expr) → FormedIn e → Plain (compile e)
-unfolding compile FormedIn
-expr-plain (number x) f = one _ refl
-expr-plain (name n) f = one _ refl
-expr-plain (unary o e) f = plain-append (expr-plain e (f .1)) (one _ (value-apart o (f .0)))
-expr-plain (binary o a b) f = plain-append (plain-append (expr-plain a (f .1 .0)) (expr-plain b (f .1 .1))) (one _ (value-apart o (f .0)))
-expr-plain (choose c a b) f = plain-append (plain-append (plain-append (expr-plain c (f .0)) (expr-plain a (f .1 .0))) (expr-plain b (f .1 .1))) (one _ refl)
+expr-plain : (e : Expr) → Plain (compile e)
+unfolding compile
+expr-plain (number x) = one _ refl
+expr-plain (name n) = one _ refl
+expr-plain (unary o e) = plain-append (expr-plain e) (one _ (value-apart (unaryOp o) (unary-value o)))
+expr-plain (binary o a b) = plain-append (plain-append (expr-plain a) (expr-plain b)) (one _ (value-apart (binaryOp o) (binary-value o)))
+expr-plain (choose c a b) = plain-append (plain-append (plain-append (expr-plain c) (expr-plain a)) (expr-plain b)) (one _ refl)
 
-code-plain : (t : Statements) → Formed t → Plain (code t)
-unfolding code Formed
-code-plain done f = nil
-code-plain (assign n e r) f = plain-append (expr-plain e (f .0)) (cons _ refl (code-plain r (f .1)))
-code-plain (output e r) f = plain-append (expr-plain e (f .0)) (cons _ refl (code-plain r (f .1)))
-code-plain (branch e a b r) f =
-    plain-append (expr-plain e (f .0)) (cons _ refl (plain-append (code-plain a (f .1 .0)) (cons _ refl
-    (plain-append (code-plain b (f .1 .1 .0)) (cons _ refl (code-plain r (f .1 .1 .1)))))))
+code-plain : (t : Statements) → Plain (code t)
+unfolding code
+code-plain done = nil
+code-plain (assign n e r) = plain-append (expr-plain e) (cons _ refl (code-plain r))
+code-plain (output e r) = plain-append (expr-plain e) (cons _ refl (code-plain r))
+code-plain (branch e a b r) =
+    plain-append (expr-plain e) (cons _ refl (plain-append (code-plain a) (cons _ refl (plain-append (code-plain b) (cons _ refl (code-plain r))))))
 
 declare-plain : (k : ℕ) → eqb k instrOp ≡ false → (ns : List ℕ) → Plain (declare k ns)
 unfolding declare
@@ -102,8 +104,8 @@ pub heads-are : (is : List Instrument) → FormedAll is → (n : ℕ) → starts
 unfolding program headsFrom startsFrom FormedAll
 heads-are [] f n = refl
 heads-are (i ∷ is) f n =
-    let p = plain-append (declare-plain fieldKind refl (i .fields)) (plain-append (declared-plain (i .declarations) (f .0)) (code-plain (i .body) (f .1 .0))) in
-    instr-starts n i p (program is) ∙ ap (λ l. n ∷ l) (heads-are is (f .1 .1) _)
+    let p = plain-append (declare-plain fieldKind refl (i .fields)) (plain-append (declared-plain (i .declarations) (f .0)) (code-plain (i .body))) in
+    instr-starts n i p (program is) ∙ ap (λ l. n ∷ l) (heads-are is (f .1) _)
 
 length-heads : (n : ℕ) (is : List Instrument) → length (headsFrom n is) ≡ length is
 unfolding headsFrom

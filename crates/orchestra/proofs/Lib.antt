@@ -5,3 +5,4 @@ pub mod Judging
 pub mod Ending
 pub mod Verdict
 pub mod Examples
+pub mod Stages

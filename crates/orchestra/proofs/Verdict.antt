@@ -9,29 +9,34 @@ use lib.Dec.{ltb}
 use borrow.Author.Tests.{ltb-true, ltb-false, lt-ltb, le-ltb}
 use Rattle.answer.specs.declared.Answer.the-variants.{Taken, BadGrammar, BadNames, BadRates, TooLarge}
 use Rattle.tokens.specs.declared.Token.{Token}
-use Rattle.tokens.specs.Bytes.{Got, none, some, tokensOf}
-use Rattle.tokens.specs.Measures.{measured}
+use Rattle.tokens.specs.Spelling.{Bytes}
+use Rattle.tokens.specs.Scanning.{Got, none, some, tokensOf, ScansSpelling}
+use Rattle.tokens.specs.Measures.{longest, measured}
+use Rattle.tokens.proofs.Laws.{every-scan, spelt-found, one-spelling}
 use Rattle.syntax.specs.Tree.{Instrument}
-use Rattle.syntax.specs.Names.{nameRules, placed}
+use Rattle.syntax.specs.Names.{nameRules}
+use Rattle.syntax.specs.Placed.{placed}
 use Rattle.syntax.specs.Rates.{rateRules}
+use Rattle.syntax.proofs.Rates.{rates-agree}
 use Rattle.syntax.specs.Program.{program}
 use Rattle.expressions.specs.Reader.{Res, no, ok}
 use Rattle.expressions.proofs.Laws.{All, none as unread, some as read}
-use Rattle.grammar.specs.Grammar.{Orchestra}
+use Rattle.syntax.specs.Grammar.{Orchestra}
 use Rattle.grammar.specs.Reader.{orchestra}
 use Rattle.grammar.proofs.Complete.{complete}
 use Rattle.grammar.proofs.Sound.{Orchestrated, sound}
 use Rattle.grammar.proofs.Unique.{unique}
 use Rattle.rules.specs.Formed.{opsOf, argsOf, valsOf}
-use Rattle.rules.specs.Naming.{placesPass}
+use Rattle.rules.specs.Naming.{namesPass, placesPass}
 use Rattle.rules.specs.Rating.{ratesPass}
 use Rattle.rules.proofs.NamesLaw.{names-law}
 use Rattle.rules.proofs.PlacesLaw.{places-law, ops-stay, vals-stay}
 use Rattle.rules.proofs.RatesLaw.{rates-law}
 use Rattle.orchestra.specs.declared.Outcome.{Outcome}
-use Rattle.orchestra.specs.Compiled.{laid, compile}
+use Rattle.orchestra.specs.declared.Program.{Program}
+use Rattle.orchestra.specs.Compiled.{laid, compile, blank}
 use Rattle.orchestra.specs.Reading.{taken, refused, startsFrom, byRates, byNames, byGrammar, byTokens, readOf}
-use Rattle.orchestra.specs.Verdict.{longest, Sized, Accepted, Verdict, tooLong, noTokens, tooLarge, outside, misnamed, misrated, accepted, EveryVerdict, VerdictGiven, AcceptedExactly, OneReading}
+use Rattle.orchestra.specs.Verdict.{Sized, Accepted, Verdict, tooLong, noTokens, tooLarge, outside, misnamed, misrated, accepted, EveryVerdict, VerdictGiven, AcceptedExactly, OneReading, RefusedBlank}
 use Rattle.orchestra.proofs.Formed.{formed}
 use Rattle.orchestra.proofs.Heads.{heads-are, all-heads, at-most-8}
 
@@ -55,7 +60,7 @@ module _ {is : List Instrument} {ts : List Token} (d : Orchestra is ts) where
   rates-judged n b e = rw (places-law is (formed d) n, ratesPass-is, compiled n)
     where
       ratesPass-is : ratesPass (opsOf (program is)) (argsOf (program (map placed is))) ≡ b
-      ratesPass-is = ap (λ l. ratesPass l (argsOf (program (map placed is)))) (sym (ops-stay is)) ∙ rates-law is (formed d) n ∙ e
+      ratesPass-is = ap (λ l. ratesPass l (argsOf (program (map placed is)))) (sym (ops-stay is)) ∙ rates-law is (formed d) n ∙ rates-agree is n ∙ e
 
 -- a reading by the grammar, judged
 module _ (bs : List ℕ) (ts : List Token) (s : Sized bs ts) where
@@ -76,15 +81,18 @@ module _ (bs : List ℕ) (ts : List Token) (s : Sized bs ts) where
 
 pub every-verdict : EveryVerdict
 unfolding readOf
-every-verdict bs = by-length (ltb 16384 (length bs)) refl
+every-verdict bs b = by-length (ltb 16384 (length bs)) refl
   where
+    scan : ScansSpelling bs
+    scan = every-scan bs b
+
     by-measures : (ts : List Token) → length bs ≤ longest → tokensOf bs ≡ some ts → (b : Bool) → measured ts ≡ b
         → Verdict bs (cond b (byGrammar (orchestra ts)) (refused TooLarge))
-    by-measures ts le e true m = grammar-verdict bs ts (record { short = le; tokens = e; within = m }) (orchestra ts) refl (sound ts)
-    by-measures ts le e false m = tooLarge ts le e m
+    by-measures ts le e true m = grammar-verdict bs ts (record { short = le; spells = scan .found ts e; within = m }) (orchestra ts) refl (sound ts)
+    by-measures ts le e false m = tooLarge ts le (scan .found ts e) m
 
     by-tokens : length bs ≤ longest → (g : Got) → tokensOf bs ≡ g → Verdict bs (byTokens g)
-    by-tokens le none e = noTokens le e
+    by-tokens le none e = noTokens le (scan .unspelt e)
     by-tokens le (some ts) e = by-measures ts le e (measured ts) refl
 
     by-length : (b : Bool) → ltb 16384 (length bs) ≡ b → Verdict bs (cond b (refused TooLarge) (byTokens (tokensOf bs)))
@@ -93,15 +101,14 @@ every-verdict bs = by-length (ltb 16384 (length bs)) refl
 
 pub one-reading : OneReading
 one-reading bs is js a b =
-    let e : a .tokens ≡ b .tokens = let z = sym (a .sized .tokens) ∙ b .sized .tokens in cc in
-    unique (a .derived) (b .derived) e
+    unique (a .derived) (b .derived) (one-spelling bs (a .tokens) (b .tokens) (a .sized .spells) (b .sized .spells))
 
 -- the bytes of an accepted orchestra are read so
 accepted-read : (bs : List ℕ) (is : List Instrument) → Accepted bs is → readOf bs ≡ taken (compile is)
 unfolding readOf
 accepted-read bs is a =
     let n : ltb 16384 (length bs) ≡ false = le-ltb 16384 (length bs) (a .sized .short) in
-    rw (n, a .sized .tokens, a .sized .within, complete (a .derived))
+    rw (n, spelt-found bs (a .tokens) (a .sized .spells), a .sized .within, complete (a .derived))
     (names-judged (a .derived) true (a .named) ∙ rates-judged (a .derived) (a .named) true (a .rated))
 
 -- no tree derives the tokens: nothing is read
@@ -112,17 +119,17 @@ unread-so ts f (ok c r) (read h) = absurd (f (h .tree) (h .derives))
 -- tokens within the sizes are judged by the grammar
 sized-read : (bs : List ℕ) (ts : List Token) → Sized bs ts → readOf bs ≡ byGrammar (orchestra ts)
 unfolding readOf
-sized-read bs ts s = rw (le-ltb 16384 (length bs) (s .short), s .tokens, s .within)
+sized-read bs ts s = rw (le-ltb 16384 (length bs) (s .short), spelt-found bs ts (s .spells), s .within)
 
 pub verdict-given : VerdictGiven
 unfolding readOf
-verdict-given bs r (tooLong lt) = rw (lt-ltb 16384 (length bs) lt)
-verdict-given bs r (noTokens le e) = rw (le-ltb 16384 (length bs) le, e)
-verdict-given bs r (tooLarge ts le e m) = rw (le-ltb 16384 (length bs) le, e, m)
-verdict-given bs r (outside ts s f) = sized-read bs ts s ∙ unread-so ts f (orchestra ts) (sound ts)
-verdict-given bs r (misnamed ts is s d n) = sized-read bs ts s ∙ ap byGrammar (complete d) ∙ names-judged d false n
-verdict-given bs r (misrated ts is s d n e) = sized-read bs ts s ∙ ap byGrammar (complete d) ∙ names-judged d true n ∙ rates-judged d n false e
-verdict-given bs r (accepted is a) = accepted-read bs is a
+verdict-given bs r b (tooLong lt) = rw (lt-ltb 16384 (length bs) lt)
+verdict-given bs r b (noTokens le f) = rw (le-ltb 16384 (length bs) le, every-scan bs b .nothing f)
+verdict-given bs r b (tooLarge ts le s m) = rw (le-ltb 16384 (length bs) le, spelt-found bs ts s, m)
+verdict-given bs r b (outside ts s f) = sized-read bs ts s ∙ unread-so ts f (orchestra ts) (sound ts)
+verdict-given bs r b (misnamed ts is s d n) = sized-read bs ts s ∙ ap byGrammar (complete d) ∙ names-judged d false n
+verdict-given bs r b (misrated ts is s d n e) = sized-read bs ts s ∙ ap byGrammar (complete d) ∙ names-judged d true n ∙ rates-judged d n false e
+verdict-given bs r b (accepted is a) = accepted-read bs is a
 
 -- a verdict of 0 comes from an accepted orchestra
 taken-accepted : (bs : List ℕ) (r : Outcome) → Verdict bs r → r .answer ≡ Taken → (is : List Instrument) × Accepted bs is
@@ -135,4 +142,34 @@ taken-accepted bs r (misrated ts is s d n f) e = never (cc)
 taken-accepted bs r (accepted is a) e = (is, a)
 
 pub accepted-exactly : AcceptedExactly
-accepted-exactly bs = ((λ e. taken-accepted bs (readOf bs) (every-verdict bs) e), λ is a. accepted-read bs is a)
+accepted-exactly bs = ((λ b e. taken-accepted bs (readOf bs) (every-verdict bs b) e), λ is a. accepted-read bs is a)
+
+-- ---- a refusal hands back a blank program, whatever was handed in
+
+abbrev Blank : Outcome → Type 0
+Blank o = (o .answer ≡ Taken → ⊥) → o .program ≡ blank
+
+by-rules : (p : Program) (x y : Bool) → Blank (cond x (cond y (taken p) (refused BadRates)) (refused BadNames))
+by-rules p true true n = absurd (n refl)
+by-rules p true false n = refl
+by-rules p false y n = refl
+
+by-grammar : (x : Res) → Blank (byGrammar x)
+by-grammar no n = refl
+by-grammar (ok c r) n = by-rules _ (namesPass (opsOf c) (argsOf c)) (ratesPass (opsOf c) (placesPass (opsOf c) (argsOf c))) n
+
+by-scan : (g : Got) → Blank (byTokens g)
+by-scan none n = refl
+by-scan (some ts) n = go (measured ts) n
+  where
+    go : (b : Bool) → Blank (cond b (byGrammar (orchestra ts)) (refused TooLarge))
+    go true n = by-grammar (orchestra ts) n
+    go false n = refl
+
+pub refused-blank : RefusedBlank
+unfolding readOf
+refused-blank bs n = go (ltb 16384 (length bs)) n
+  where
+    go : (b : Bool) → Blank (cond b (refused TooLarge) (byTokens (tokensOf bs)))
+    go true n = refl
+    go false n = by-scan (tokensOf bs) n

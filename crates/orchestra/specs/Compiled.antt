@@ -4,7 +4,7 @@ use mathlib.Core.List.{List, [], _∷_, _++_, map}
 use lib.ListN.{length, drop, replicate}
 use lib.Ieee.{Float}
 use Rattle.syntax.specs.Tree.{Instrument}
-use Rattle.syntax.specs.Names.{placed}
+use Rattle.syntax.specs.Placed.{placed}
 use Rattle.syntax.specs.Program.{zeroF, program, instrument}
 use Rattle.rules.specs.Formed.{opsOf, argsOf, valsOf}
 use Rattle.orchestra.specs.declared.Program.{Program}

@@ -7,8 +7,9 @@ use lib.Dec.{eqb, ltb}
 use lib.Ieee.{Float}
 use Rattle.answer.specs.declared.Answer.{Answer}
 use Rattle.answer.specs.declared.Answer.the-variants.{Taken, BadToken, BadGrammar, BadNames, BadRates, TooLarge}
-use Rattle.tokens.specs.Bytes.{Got, none, some, tokensOf}
-use Rattle.tokens.specs.Measures.{measured}
+use Rattle.tokens.specs.Scanning.{Got, none, some, tokensOf}
+use Rattle.tokens.specs.Measures.{longest, measured}
+use Rattle.syntax.specs.Names.{mostInstruments}
 use Rattle.syntax.specs.Program.{instrOp}
 use Rattle.expressions.specs.Reader.{Res, no, ok}
 use Rattle.grammar.specs.Reader.{orchestra}
@@ -33,7 +34,7 @@ startsFrom n (o ∷ os) = cond (eqb o instrOp) (n ∷ startsFrom (suc n) os) (st
 
 -- the rate rules (15), on names that are put by their places
 abbrev pub byRates : List ℕ → List ℕ → List Float → Outcome
-byRates os ns vs = cond (ratesPass os ns) (taken (laid (take 8 (startsFrom 0 os)) os ns vs)) (refused BadRates)
+byRates os ns vs = cond (ratesPass os ns) (taken (laid (take mostInstruments (startsFrom 0 os)) os ns vs)) (refused BadRates)
 
 -- the name rules (14)
 abbrev pub byNames : List ℕ → List ℕ → List Float → Outcome
@@ -51,4 +52,4 @@ byTokens (some ts) = cond (measured ts) (byGrammar (orchestra ts)) (refused TooL
 
 -- the length first (16)
 unfoldable pub readOf : List ℕ → Outcome
-readOf bs = cond (ltb 16384 (length bs)) (refused TooLarge) (byTokens (tokensOf bs))
+readOf bs = cond (ltb longest (length bs)) (refused TooLarge) (byTokens (tokensOf bs))

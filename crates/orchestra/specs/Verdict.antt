@@ -1,5 +1,5 @@
--- When an orchestra is accepted, and with which number it is refused else, in terms of its tokens and its tree: document 01's "The
--- orchestra" and the order of its faults. The reader's program is `compile` of the one tree.
+-- When an orchestra is accepted, and with which number it is refused else, in terms of the tokens that it spells and of its tree: condition 2 and
+-- document 01's order of faults. The reader's program is `compile` of the one tree.
 use Prim.Native.Nat.{ℕ, _≤_, _<_}
 use mathlib.Core.Path.{_≡_}
 use mathlib.Core.Bool.{true, false}
@@ -7,24 +7,20 @@ use mathlib.Core.List.{List}
 use lib.ListN.{length}
 use Rattle.answer.specs.declared.Answer.the-variants.{Taken, BadToken, BadGrammar, BadNames, BadRates, TooLarge}
 use Rattle.tokens.specs.declared.Token.{Token}
-use Rattle.tokens.specs.Bytes.{none, some, tokensOf}
-use Rattle.tokens.specs.Measures.{measured}
+use Rattle.tokens.specs.Spelling.{Bytes, Spells}
+use Rattle.tokens.specs.Measures.{longest, measured}
 use Rattle.syntax.specs.Tree.{Instrument}
 use Rattle.syntax.specs.Names.{nameRules}
 use Rattle.syntax.specs.Rates.{rateRules}
-use Rattle.grammar.specs.Grammar.{Orchestra}
-use Rattle.orchestra.specs.Compiled.{compile}
+use Rattle.syntax.specs.Grammar.{Orchestra}
+use Rattle.orchestra.specs.Compiled.{compile, blank}
 use Rattle.orchestra.specs.Reading.{taken, refused, readOf}
 use Rattle.orchestra.specs.declared.Outcome.{Outcome}
-
--- the longest orchestra
-abbrev pub longest : ℕ
-longest = 16384
 
 -- the bytes are these tokens, within the sizes
 pub record Sized (bs : List ℕ) (ts : List Token) : Type 0 where
   pub short : length bs ≤ longest
-  pub tokens : tokensOf bs ≡ some ts
+  pub spells : Spells bs ts
   pub within : measured ts ≡ true
 
 -- an orchestra that is accepted: tokens within the sizes, and a tree that derives them and keeps the name rules and the rate rules
@@ -39,10 +35,10 @@ pub record Accepted (bs : List ℕ) (is : List Instrument) : Type 0 where
 pub data Verdict (bs : List ℕ) : Outcome → Type 0 where
   -- 16: length over 16,384 bytes
   tooLong : longest < length bs → Verdict bs (refused TooLarge)
-  -- 12: not the bytes of tokens
-  noTokens : length bs ≤ longest → tokensOf bs ≡ none → Verdict bs (refused BadToken)
+  -- 12: not the bytes of any tokens
+  noTokens : length bs ≤ longest → ((ts : List Token) → Spells bs ts → ⊥) → Verdict bs (refused BadToken)
   -- 16: tokens that break the measures
-  tooLarge : (ts : List Token) → length bs ≤ longest → tokensOf bs ≡ some ts → measured ts ≡ false → Verdict bs (refused TooLarge)
+  tooLarge : (ts : List Token) → length bs ≤ longest → Spells bs ts → measured ts ≡ false → Verdict bs (refused TooLarge)
   -- 13: no tree derives them
   outside : (ts : List Token) → Sized bs ts → ((is : List Instrument) → Orchestra is ts → ⊥) → Verdict bs (refused BadGrammar)
   -- 14: the tree breaks the name rules
@@ -53,19 +49,23 @@ pub data Verdict (bs : List ℕ) : Outcome → Type 0 where
   -- 0: it keeps both
   accepted : (is : List Instrument) → Accepted bs is → Verdict bs (taken (compile is))
 
--- Every orchestra is given what its tokens and its tree say.
+-- Every orchestra, which is bytes, is given what its tokens and its tree say.
 abbrev pub EveryVerdict : Type 0
-EveryVerdict = (bs : List ℕ) → Verdict bs (readOf bs)
+EveryVerdict = (bs : List ℕ) → Bytes bs → Verdict bs (readOf bs)
 
 -- And each answer is given whenever its condition holds: with the above, exactly then.
 abbrev pub VerdictGiven : Type 0
-VerdictGiven = (bs : List ℕ) (r : Outcome) → Verdict bs r → readOf bs ≡ r
+VerdictGiven = (bs : List ℕ) (r : Outcome) → Bytes bs → Verdict bs r → readOf bs ≡ r
 
 -- An orchestra is accepted exactly when some tree is its reading,
 abbrev pub AcceptedExactly : Type 0
-AcceptedExactly = (bs : List ℕ) → (readOf bs .answer ≡ Taken → (is : List Instrument) × Accepted bs is)
+AcceptedExactly = (bs : List ℕ) → (Bytes bs → readOf bs .answer ≡ Taken → (is : List Instrument) × Accepted bs is)
     × ((is : List Instrument) → Accepted bs is → readOf bs ≡ taken (compile is))
 
 -- and it has one reading only.
 abbrev pub OneReading : Type 0
 OneReading = (bs : List ℕ) (is js : List Instrument) → Accepted bs is → Accepted bs js → is ≡ js
+
+-- A refusal hands back a blank program.
+abbrev pub RefusedBlank : Type 0
+RefusedBlank = (bs : List ℕ) → (readOf bs .answer ≡ Taken → ⊥) → readOf bs .program ≡ blank

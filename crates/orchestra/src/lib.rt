@@ -9,6 +9,9 @@ ghost use Rattle.grammar.specs.Reader.{orchestra};
 ghost use Rattle.orchestra.specs.Reading.{refused, startsFrom, byGrammar, readOf};
 ghost use Rattle.orchestra.specs.Arrays.{starting, startsIn, markedAt, Fits, judgement, placedIf, keptIn, finishedIn};
 
+// How many instruments there are at most.
+const MOST_INSTRUMENTS: usize = 8;
+
 // The program of an accepted orchestra: where each instrument starts, and an operation, a name or place and a number for each instruction.
 pub struct Program {
     pub count: usize,
@@ -52,8 +55,8 @@ fn marked(places: &mut [u16], count: usize, op: u8, at: u16) -> usize
     requires { ⌜ Fits (starting count (now places)) ⌝ }
     ensures { λ r. ⌜ starting r (now (places .exit)) ≡ markedAt (starting count (now (places .entry))) op at ⌝ }
 {
-    if op == 1 {
-        if count < 8 {
+    if op == signs::INSTR {
+        if count < MOST_INSTRUMENTS {
             places[count] = at;
             return count + 1;
         }
@@ -137,7 +140,7 @@ fn parsed(kinds: &[u8], words: &[u32], reals: &[f32]) -> Outcome
     let mut ops = [0u8; 2048];
     let mut args = [0u16; 2048];
     let mut vals = [0.0f32; 2048];
-    match instruments::orchestra(kinds, words, reals, &mut ops, &mut args, &mut vals) {
+    match instrument_reader::orchestra(kinds, words, reals, &mut ops, &mut args, &mut vals) {
         Got::Next(_, length) => finished(ops, args, vals, length),
         Got::Refused => refused(Answer::BadGrammar),
     }

@@ -14,7 +14,9 @@ use Rattle.syntax.specs.Names.{Named, namesOf, symbols, has, apart, distinct, k
 use Rattle.syntax.specs.declared.Act.{Act}
 use Rattle.syntax.specs.declared.Act.the-variants.{Value, Store, Output, If, Else, End, Declare, Instr}
 use Rattle.rules.specs.Naming.{lawful, namesAfter, titlesAfter, namesFrom, namesPass}
-use Rattle.rules.specs.Formed.{FormedIn, Formed, FormedKinds, FormedAll, opsOf, argsOf}
+use Rattle.syntax.specs.Program.{unaryOp, binaryOp}
+use Rattle.syntax.proofs.Operations.{unary-value, binary-value}
+use Rattle.rules.specs.Formed.{FormedKinds, FormedAll, opsOf, argsOf}
 use Rattle.rules.proofs.Declaring.{declareAll, Kinds, instrument-is, kinds-of}
 
 abbrev pub on : List Ins → List ℕ → List Named → Bool
@@ -30,49 +32,49 @@ names-op : (o : ℕ) (c : List Ins) (ts : List ℕ) (ms : List Named) → actOf 
 names-op o c ts ms e = names-next (ins o) c ts ms Value e
 
 module _ (ts : List ℕ) (ms : List Named) where
-  names-expr : (e : Expr) (c : List Ins) → FormedIn e → on (compile e ++ c) ts ms ≡ (knownIn (symbols ms) e && on c ts ms)
-  unfolding compile knownIn FormedIn namesFrom
-  names-expr (number x) c p = refl
-  names-expr (name n) c p = refl
-  names-expr (unary o e) c p =
-      simp append-assoc (names-expr e (ins o ∷ c) (p .1) ∙ ap (λ b. knownIn (symbols ms) e && b) (names-op o c ts ms (p .0)))
-  names-expr (binary o a b) c p =
+  names-expr : (e : Expr) (c : List Ins) → on (compile e ++ c) ts ms ≡ (knownIn (symbols ms) e && on c ts ms)
+  unfolding compile knownIn namesFrom
+  names-expr (number x) c = refl
+  names-expr (name n) c = refl
+  names-expr (unary o e) c =
+      simp append-assoc (names-expr e (ins (unaryOp o) ∷ c) ∙ ap (λ b. knownIn (symbols ms) e && b) (names-op (unaryOp o) c ts ms (unary-value o)))
+  names-expr (binary o a b) c =
       let x = knownIn (symbols ms) a in
       let y = knownIn (symbols ms) b in
       simp append-assoc
-      (names-expr a (compile b ++ ins o ∷ c) (p .1 .0)
-      ∙ ap (λ z. x && z) (names-expr b (ins o ∷ c) (p .1 .1) ∙ ap (λ z. y && z) (names-op o c ts ms (p .0)))
+      (names-expr a (compile b ++ ins (binaryOp o) ∷ c)
+      ∙ ap (λ z. x && z) (names-expr b (ins (binaryOp o) ∷ c) ∙ ap (λ z. y && z) (names-op (binaryOp o) c ts ms (binary-value o)))
       ∙ sym (and-assoc x y (on c ts ms)))
-  names-expr (choose t a b) c p =
+  names-expr (choose t a b) c =
       let w = knownIn (symbols ms) t in
       let x = knownIn (symbols ms) a in
       let y = knownIn (symbols ms) b in
       simp append-assoc
-      (names-expr t (compile a ++ (compile b ++ ins chooseOp ∷ c)) (p .0)
-      ∙ ap (λ z. w && z) (names-expr a (compile b ++ ins chooseOp ∷ c) (p .1 .0)
-      ∙ ap (λ z. x && z) (names-expr b (ins chooseOp ∷ c) (p .1 .1) ∙ ap (λ z. y && z) (names-op chooseOp c ts ms refl))
+      (names-expr t (compile a ++ (compile b ++ ins chooseOp ∷ c))
+      ∙ ap (λ z. w && z) (names-expr a (compile b ++ ins chooseOp ∷ c)
+      ∙ ap (λ z. x && z) (names-expr b (ins chooseOp ∷ c) ∙ ap (λ z. y && z) (names-op chooseOp c ts ms refl))
       ∙ sym (and-assoc x y (on c ts ms)))
       ∙ sym (and-assoc w (x && y) (on c ts ms)))
 
-  names-code : (t : Statements) (c : List Ins) → Formed t → on (code t ++ c) ts ms ≡ (known (symbols ms) t && on c ts ms)
-  unfolding code known Formed
-  names-code done c p = refl
-  names-code (assign n e t) c p =
+  names-code : (t : Statements) (c : List Ins) → on (code t ++ c) ts ms ≡ (known (symbols ms) t && on c ts ms)
+  unfolding code known
+  names-code done c = refl
+  names-code (assign n e t) c =
       let x = knownIn (symbols ms) e in
       let y = has n (symbols ms) in
       let z = known (symbols ms) t in
       simp append-assoc
-      (names-expr e (insArg storeOp n ∷ (code t ++ c)) (p .0)
-      ∙ ap (λ b. x && b) (names-next (insArg storeOp n) (code t ++ c) ts ms Store refl ∙ ap (λ b. y && b) (names-code t c (p .1)))
+      (names-expr e (insArg storeOp n ∷ (code t ++ c))
+      ∙ ap (λ b. x && b) (names-next (insArg storeOp n) (code t ++ c) ts ms Store refl ∙ ap (λ b. y && b) (names-code t c))
       ∙ sym (and-assoc x y (z && on c ts ms))
       ∙ sym (and-assoc (x && y) z (on c ts ms)))
-  names-code (output e t) c p =
+  names-code (output e t) c =
       let x = knownIn (symbols ms) e in
       simp append-assoc
-      (names-expr e (ins outputOp ∷ (code t ++ c)) (p .0)
-      ∙ ap (λ b. x && b) (names-next (ins outputOp) (code t ++ c) ts ms Output refl ∙ names-code t c (p .1))
+      (names-expr e (ins outputOp ∷ (code t ++ c))
+      ∙ ap (λ b. x && b) (names-next (ins outputOp) (code t ++ c) ts ms Output refl ∙ names-code t c)
       ∙ sym (and-assoc x (known (symbols ms) t) (on c ts ms)))
-  names-code (branch e a b t) c p =
+  names-code (branch e a b t) c =
       let C = code t ++ c in
       let B = code b ++ ins endOp ∷ C in
       let A = code a ++ ins elseOp ∷ B in
@@ -81,12 +83,12 @@ module _ (ts : List ℕ) (ms : List Named) where
       let y = known (symbols ms) b in
       let z = known (symbols ms) t in
       simp append-assoc
-      (names-expr e (ins ifOp ∷ A) (p .0)
+      (names-expr e (ins ifOp ∷ A)
       ∙ ap (λ u. w && u)
-      (names-next (ins ifOp) A ts ms If refl ∙ names-code a (ins elseOp ∷ B) (p .1 .0)
+      (names-next (ins ifOp) A ts ms If refl ∙ names-code a (ins elseOp ∷ B)
       ∙ ap (λ u. x && u)
-      (names-next (ins elseOp) B ts ms Else refl ∙ names-code b (ins endOp ∷ C) (p .1 .1 .0)
-      ∙ ap (λ u. y && u) (names-next (ins endOp) C ts ms End refl ∙ names-code t c (p .1 .1 .1))
+      (names-next (ins elseOp) B ts ms Else refl ∙ names-code b (ins endOp ∷ C)
+      ∙ ap (λ u. y && u) (names-next (ins endOp) C ts ms End refl ∙ names-code t c)
       ∙ sym (and-assoc y z (on c ts ms)))
       ∙ sym (and-assoc x (y && z) (on c ts ms)))
       ∙ sym (and-assoc w (x && (y && z)) (on c ts ms)))
@@ -140,11 +142,11 @@ and-out true true k c = refl
 and-out true false k c = refl
 and-out false b k c = refl
 
-names-body : (i : Instrument) (c : List Ins) (ts : List ℕ) → FormedKinds (i .declarations) → Formed (i .body)
+names-body : (i : Instrument) (c : List Ins) (ts : List ℕ) → FormedKinds (i .declarations)
     → on (declareAll (namesOf i) ++ (code (i .body) ++ c)) ts [] ≡ (namesKept i && on c ts (namesOf i))
-names-body i c ts p q =
+names-body i c ts p =
     names-declare (namesOf i) (code (i .body) ++ c) ts [] (kinds-of i p) (omega arith)
-    ∙ rw (zero-add (length (namesOf i)), names-code ts (namesOf i) (i .body) c q)
+    ∙ rw (zero-add (length (namesOf i)), names-code ts (namesOf i) (i .body) c)
     (and-out (leb (length (namesOf i)) 16) (distinct (symbols (namesOf i))) (known (symbols (namesOf i)) (i .body)) (on c ts (namesOf i)))
 
 regroup-all : (h l a k e : Bool) → (h && (k && (l && (a && e)))) ≡ (l && ((h && a) && (k && e)))
@@ -156,11 +158,11 @@ regroup-all true false a false e = refl
 regroup-all false true a k e = refl
 regroup-all false false a k e = refl
 
-head : (i : Instrument) (is : List Instrument) (ts : List ℕ) (ms : List Named) → FormedKinds (i .declarations) → Formed (i .body)
+head : (i : Instrument) (is : List Instrument) (ts : List ℕ) (ms : List Named) → FormedKinds (i .declarations)
     → ((l : List ℕ) (ns : List Named) → length l ≤ 8 → on (program is) l ns ≡ (leb (length l + length is) 8 && (apart l (map titleOf is) && eachKept is)))
     → on (instrument i ++ program is) ts ms
     ≡ (leb (length ts + suc (length is)) 8 && ((not (has (i .name) ts) && apart (ts ++ i .name ∷ []) (map titleOf is)) && (namesKept i && eachKept is)))
-head i is ts ms p q ih =
+head i is ts ms p ih =
     ap (λ l. on l ts ms) (instrument-is i (program is))
     ∙ names-next (insArg instrOp (i .name)) (declareAll (namesOf i) ++ (code (i .body) ++ program is)) ts ms Instr refl
     ∙ go (ltb (length ts) 8) refl
@@ -177,14 +179,14 @@ head i is ts ms p q ih =
         let us = ts ++ i .name ∷ [] in
         let z : length us + length is ≡ length ts + suc (length is) = omega (arith, length-end ts (i .name)) in
         ap (λ b. not (has (i .name) ts) && b)
-        (names-body i (program is) us p q ∙ ap (λ b. namesKept i && b) (ih us (namesOf i) (omega (arith, length-end ts (i .name))) ∙ rw z))
+        (names-body i (program is) us p ∙ ap (λ b. namesKept i && b) (ih us (namesOf i) (omega (arith, length-end ts (i .name))) ∙ rw z))
         ∙ regroup-all (not (has (i .name) ts)) (leb (length ts + suc (length is)) 8) (apart us (map titleOf is)) (namesKept i) (eachKept is)
 
 names-program : (is : List Instrument) (ts : List ℕ) (ms : List Named) → FormedAll is → length ts ≤ 8
     → on (program is) ts ms ≡ (leb (length ts + length is) 8 && (apart ts (map titleOf is) && eachKept is))
 unfolding program FormedAll apart eachKept namesFrom
 names-program [] ts ms f le = rw (add-zero (length ts), le-leb (length ts) 8 le)
-names-program (i ∷ is) ts ms f le = head i is ts ms (f .0) (f .1 .0) (λ l ns h. names-program is l ns (f .1 .1) h)
+names-program (i ∷ is) ts ms f le = head i is ts ms (f .0) (λ l ns h. names-program is l ns (f .1) h)
 
 -- the pass over a tree's program is the tree's name rules
 pub names-law : (is : List Instrument) → FormedAll is → namesPass (opsOf (program is)) (argsOf (program is)) ≡ nameRules is

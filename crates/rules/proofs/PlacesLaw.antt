@@ -9,11 +9,14 @@ use lib.Dec.{leb}
 use borrow.Author.Tests.{lt-ltb, leb-true}
 use Rattle.syntax.specs.Tree.{Expr, number, name, unary, binary, choose, Statements, done, assign, output, branch, Instrument}
 use Rattle.syntax.specs.Program.{Ins, ins, insArg, actOf, nameOp, storeOp, chooseOp, outputOp, ifOp, elseOp, endOp, instrOp, compile, code, program}
-use Rattle.syntax.specs.Names.{Named, namesOf, symbols, distinct, known, namesKept, eachKept, titleOf, nameRules, place, putIn, put, placed}
+use Rattle.syntax.specs.Names.{Named, namesOf, symbols, distinct, known, namesKept, eachKept, titleOf, nameRules}
+use Rattle.syntax.specs.Placed.{place, putIn, put, placed}
 use Rattle.syntax.specs.declared.Act.{Act}
 use Rattle.syntax.specs.declared.Act.the-variants.{Value, Store, Output, If, Else, End, Declare, Instr}
 use Rattle.rules.specs.Naming.{namesAfter, placedName, placedFrom, placesPass}
-use Rattle.rules.specs.Formed.{FormedIn, Formed, FormedAll, opsOf, argsOf, valsOf}
+use Rattle.syntax.specs.Program.{unaryOp, binaryOp}
+use Rattle.syntax.proofs.Operations.{unary-value, binary-value}
+use Rattle.rules.specs.Formed.{FormedAll, opsOf, argsOf, valsOf}
 use Rattle.rules.proofs.Declaring.{declareAll, Kinds, instrument-is, kinds-of}
 use Rattle.rules.proofs.NamesLaw.{length-end, append-none}
 
@@ -30,33 +33,33 @@ put-op o c ms e = put-next (ins o) c ms Value e
 
 -- where what follows becomes r
 module _ (ms : List Named) where
-  put-expr : (e : Expr) (c r : List Ins) → FormedIn e → putting c ms ≡ argsOf r → putting (compile e ++ c) ms ≡ argsOf (compile (putIn ms e) ++ r)
-  unfolding compile putIn FormedIn placedFrom
-  put-expr (number x) c r p q = ap (λ l. 0 ∷ l) q
-  put-expr (name n) c r p q = ap (λ l. place ms n ∷ l) q
-  put-expr (unary o e) c r p q = simp append-assoc (put-expr e (ins o ∷ c) (ins o ∷ r) (p .1) (put-op o c ms (p .0) ∙ ap (λ l. 0 ∷ l) q))
-  put-expr (binary o a b) c r p q =
+  put-expr : (e : Expr) (c r : List Ins) → putting c ms ≡ argsOf r → putting (compile e ++ c) ms ≡ argsOf (compile (putIn ms e) ++ r)
+  unfolding compile putIn placedFrom
+  put-expr (number x) c r q = ap (λ l. 0 ∷ l) q
+  put-expr (name n) c r q = ap (λ l. place ms n ∷ l) q
+  put-expr (unary o e) c r q = simp append-assoc (put-expr e (ins (unaryOp o) ∷ c) (ins (unaryOp o) ∷ r) (put-op (unaryOp o) c ms (unary-value o) ∙ ap (λ l. 0 ∷ l) q))
+  put-expr (binary o a b) c r q =
       simp append-assoc
-      (put-expr a (compile b ++ ins o ∷ c) (compile (putIn ms b) ++ ins o ∷ r) (p .1 .0)
-      (put-expr b (ins o ∷ c) (ins o ∷ r) (p .1 .1) (put-op o c ms (p .0) ∙ ap (λ l. 0 ∷ l) q)))
-  put-expr (choose t a b) c r p q =
+      (put-expr a (compile b ++ ins (binaryOp o) ∷ c) (compile (putIn ms b) ++ ins (binaryOp o) ∷ r)
+      (put-expr b (ins (binaryOp o) ∷ c) (ins (binaryOp o) ∷ r) (put-op (binaryOp o) c ms (binary-value o) ∙ ap (λ l. 0 ∷ l) q)))
+  put-expr (choose t a b) c r q =
       simp append-assoc
-      (put-expr t (compile a ++ (compile b ++ ins chooseOp ∷ c)) (compile (putIn ms a) ++ (compile (putIn ms b) ++ ins chooseOp ∷ r)) (p .0)
-      (put-expr a (compile b ++ ins chooseOp ∷ c) (compile (putIn ms b) ++ ins chooseOp ∷ r) (p .1 .0)
-      (put-expr b (ins chooseOp ∷ c) (ins chooseOp ∷ r) (p .1 .1) (put-op chooseOp c ms refl ∙ ap (λ l. 0 ∷ l) q))))
+      (put-expr t (compile a ++ (compile b ++ ins chooseOp ∷ c)) (compile (putIn ms a) ++ (compile (putIn ms b) ++ ins chooseOp ∷ r))
+      (put-expr a (compile b ++ ins chooseOp ∷ c) (compile (putIn ms b) ++ ins chooseOp ∷ r)
+      (put-expr b (ins chooseOp ∷ c) (ins chooseOp ∷ r) (put-op chooseOp c ms refl ∙ ap (λ l. 0 ∷ l) q))))
 
-  put-code : (t : Statements) (c r : List Ins) → Formed t → putting c ms ≡ argsOf r → putting (code t ++ c) ms ≡ argsOf (code (put ms t) ++ r)
-  unfolding code put Formed
-  put-code done c r p q = q
-  put-code (assign n e t) c r p q =
+  put-code : (t : Statements) (c r : List Ins) → putting c ms ≡ argsOf r → putting (code t ++ c) ms ≡ argsOf (code (put ms t) ++ r)
+  unfolding code put
+  put-code done c r q = q
+  put-code (assign n e t) c r q =
       simp append-assoc
-      (put-expr e (insArg storeOp n ∷ (code t ++ c)) (insArg storeOp (place ms n) ∷ (code (put ms t) ++ r)) (p .0)
-      (put-next (insArg storeOp n) (code t ++ c) ms Store refl ∙ ap (λ l. place ms n ∷ l) (put-code t c r (p .1) q)))
-  put-code (output e t) c r p q =
+      (put-expr e (insArg storeOp n ∷ (code t ++ c)) (insArg storeOp (place ms n) ∷ (code (put ms t) ++ r))
+      (put-next (insArg storeOp n) (code t ++ c) ms Store refl ∙ ap (λ l. place ms n ∷ l) (put-code t c r q)))
+  put-code (output e t) c r q =
       simp append-assoc
-      (put-expr e (ins outputOp ∷ (code t ++ c)) (ins outputOp ∷ (code (put ms t) ++ r)) (p .0)
-      (put-next (ins outputOp) (code t ++ c) ms Output refl ∙ ap (λ l. 0 ∷ l) (put-code t c r (p .1) q)))
-  put-code (branch e a b t) c r p q =
+      (put-expr e (ins outputOp ∷ (code t ++ c)) (ins outputOp ∷ (code (put ms t) ++ r))
+      (put-next (ins outputOp) (code t ++ c) ms Output refl ∙ ap (λ l. 0 ∷ l) (put-code t c r q)))
+  put-code (branch e a b t) c r q =
       let C = code t ++ c in
       let B = code b ++ ins endOp ∷ C in
       let A = code a ++ ins elseOp ∷ B in
@@ -64,12 +67,12 @@ module _ (ms : List Named) where
       let B′ = code (put ms b) ++ ins endOp ∷ C′ in
       let A′ = code (put ms a) ++ ins elseOp ∷ B′ in
       simp append-assoc
-      (put-expr e (ins ifOp ∷ A) (ins ifOp ∷ A′) (p .0)
+      (put-expr e (ins ifOp ∷ A) (ins ifOp ∷ A′)
       (put-next (ins ifOp) A ms If refl ∙ ap (λ l. 0 ∷ l)
-      (put-code a (ins elseOp ∷ B) (ins elseOp ∷ B′) (p .1 .0)
+      (put-code a (ins elseOp ∷ B) (ins elseOp ∷ B′)
       (put-next (ins elseOp) B ms Else refl ∙ ap (λ l. 0 ∷ l)
-      (put-code b (ins endOp ∷ C) (ins endOp ∷ C′) (p .1 .1 .0)
-      (put-next (ins endOp) C ms End refl ∙ ap (λ l. 0 ∷ l) (put-code t c r (p .1 .1 .1) q)))))))
+      (put-code b (ins endOp ∷ C) (ins endOp ∷ C′)
+      (put-next (ins endOp) C ms End refl ∙ ap (λ l. 0 ∷ l) (put-code t c r q)))))))
 
 put-declare : (ns : List Named) (c r : List Ins) (ms : List Named) → Kinds ns → length ms + length ns ≤ 16 → putting c (ms ++ ns) ≡ argsOf r
     → putting (declareAll ns ++ c) ms ≡ argsOf (declareAll ns ++ r)
@@ -105,7 +108,7 @@ put-program (i ∷ is) ms f e =
     ∙ put-next (insArg instrOp (i .name)) (declareAll (namesOf i) ++ b) ms Instr refl
     ∙ ap (λ l. i .name ∷ l)
     (put-declare (namesOf i) b s [] (kinds-of i (f .0)) (omega arith)
-    (put-code (namesOf i) (i .body) (program is) r (f .1 .0) (put-program is (namesOf i) (f .1 .1) (and-right (namesKept i) (eachKept is) e))))
+    (put-code (namesOf i) (i .body) (program is) r (put-program is (namesOf i) (f .1) (and-right (namesKept i) (eachKept is) e))))
     ∙ sym (ap argsOf (instrument-is (placed i) r))
 
 pub each-kept : (is : List Instrument) → nameRules is ≡ true → eachKept is ≡ true

@@ -5,7 +5,7 @@ use mathlib.Core.Bool.{Bool, true, false, _&&_}
 use lib.Dec.{leb}
 use borrow.Author.Tests.{lt-ltb, le-ltb, le-leb, lt-leb}
 use Rattle.syntax.specs.Program.{actOf}
-use Rattle.syntax.specs.Rates.{rateOf}
+use Rattle.syntax.specs.Placed.{rateOf}
 use Rattle.syntax.specs.declared.Act.{Act}
 use Rattle.syntax.specs.declared.Act.the-variants.{Value, Name, Store, Output, If, Else, End, Declare, Instr}
 use Rattle.rules.specs.Rating.{rates, guard, entered, left, ratesLawful, ratesAfter}

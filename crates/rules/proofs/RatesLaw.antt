@@ -9,12 +9,17 @@ use lib.Dec.{leb, ltb, eqb}
 use borrow.Author.Tests.{le-leb, lt-ltb, ltb-false, leb-true, leb-false}
 use Rattle.syntax.specs.Tree.{Expr, number, name, unary, binary, choose, Statements, done, assign, output, branch, Instrument}
 use Rattle.syntax.specs.Program.{Ins, ins, insArg, actOf, storeOp, chooseOp, outputOp, ifOp, elseOp, endOp, instrOp, compile, code, program}
-use Rattle.syntax.specs.Names.{Named, namesOf, namesKept, eachKept, nameRules, rateOfKind, placeFrom, putIn, put, placed}
-use Rattle.syntax.specs.Rates.{rateOf, rate, ratesKept, rateRules}
+use Rattle.syntax.specs.Names.{Named, namesOf, namesKept, eachKept, nameRules}
+use Rattle.syntax.specs.Placed.{placeFrom, putIn, put, placed}
+use Rattle.syntax.specs.Rates.{Rate, iRate, kRate, aRate, rateOfKind}
+use Rattle.syntax.specs.Placed.{speed, speedOfKind}
+use Rattle.syntax.specs.Placed.{rateOf, rate, ratesKept, rateRules}
 use Rattle.syntax.specs.declared.Act.{Act}
 use Rattle.syntax.specs.declared.Act.the-variants.{Value, Store, Output, If, Else, End, Declare, Instr}
 use Rattle.rules.specs.Rating.{rates, entered, ratesLawful, ratesAfter, ratesFrom, ratesPass}
-use Rattle.rules.specs.Formed.{FormedIn, Formed, FormedAll, opsOf, argsOf}
+use Rattle.syntax.specs.Program.{unaryOp, binaryOp}
+use Rattle.syntax.proofs.Operations.{unary-value, binary-value}
+use Rattle.rules.specs.Formed.{FormedAll, opsOf, argsOf}
 use Rattle.rules.specs.declared.Rates.{Rates}
 use Rattle.rules.proofs.Declaring.{declareAll, Kinds, instrument-is, kinds-of}
 use Rattle.rules.proofs.PlacesLaw.{and-left, and-right, at-most-16, each-kept}
@@ -35,29 +40,29 @@ module _ (k a : ℕ) where
   abbrev at : List Ins → ℕ → Bool
   at c m = on c (rates m k a)
 
-  rates-expr : (e : Expr) (c : List Ins) (m : ℕ) → FormedIn e → at (compile e ++ c) m ≡ at c (max m (rate e))
-  unfolding compile rate FormedIn ratesFrom
-  rates-expr (number x) c m p = let z : m ≡ max m 0 = omega arith in ap (at c) z
-  rates-expr (name n) c m p = refl
-  rates-expr (unary o e) c m p = simp append-assoc (rates-expr e (ins o ∷ c) m (p .1) ∙ rates-op o c (rates (max m (rate e)) k a) (p .0))
-  rates-expr (binary o x y) c m p =
+  rates-expr : (e : Expr) (c : List Ins) (m : ℕ) → at (compile e ++ c) m ≡ at c (max m (rate e))
+  unfolding compile rate ratesFrom
+  rates-expr (number x) c m = let z : m ≡ max m 0 = omega arith in ap (at c) z
+  rates-expr (name n) c m = refl
+  rates-expr (unary o e) c m = simp append-assoc (rates-expr e (ins (unaryOp o) ∷ c) m ∙ rates-op (unaryOp o) c (rates (max m (rate e)) k a) (unary-value o))
+  rates-expr (binary o x y) c m =
       let z : max (max m (rate x)) (rate y) ≡ max m (max (rate x) (rate y)) = omega arith in
       simp append-assoc
-      (rates-expr x (compile y ++ ins o ∷ c) m (p .1 .0)
-      ∙ rates-expr y (ins o ∷ c) (max m (rate x)) (p .1 .1)
-      ∙ rates-op o c (rates (max (max m (rate x)) (rate y)) k a) (p .0)
+      (rates-expr x (compile y ++ ins (binaryOp o) ∷ c) m
+      ∙ rates-expr y (ins (binaryOp o) ∷ c) (max m (rate x))
+      ∙ rates-op (binaryOp o) c (rates (max (max m (rate x)) (rate y)) k a) (binary-value o)
       ∙ ap (at c) z)
-  rates-expr (choose t x y) c m p =
+  rates-expr (choose t x y) c m =
       let z : max (max (max m (rate t)) (rate x)) (rate y) ≡ max m (max (rate t) (max (rate x) (rate y))) = omega arith in
       simp append-assoc
-      (rates-expr t (compile x ++ (compile y ++ ins chooseOp ∷ c)) m (p .0)
-      ∙ rates-expr x (compile y ++ ins chooseOp ∷ c) (max m (rate t)) (p .1 .0)
-      ∙ rates-expr y (ins chooseOp ∷ c) (max (max m (rate t)) (rate x)) (p .1 .1)
+      (rates-expr t (compile x ++ (compile y ++ ins chooseOp ∷ c)) m
+      ∙ rates-expr x (compile y ++ ins chooseOp ∷ c) (max m (rate t))
+      ∙ rates-expr y (ins chooseOp ∷ c) (max (max m (rate t)) (rate x))
       ∙ rates-op chooseOp c (rates (max (max (max m (rate t)) (rate x)) (rate y)) k a) refl
       ∙ ap (at c) z)
 
-  rates-whole : (e : Expr) (c : List Ins) → FormedIn e → at (compile e ++ c) 0 ≡ at c (rate e)
-  rates-whole e c p = let z : max 0 (rate e) ≡ rate e = omega arith in rates-expr e c 0 p ∙ ap (at c) z
+  rates-whole : (e : Expr) (c : List Ins) → at (compile e ++ c) 0 ≡ at c (rate e)
+  rates-whole e c = let z : max 0 (rate e) ≡ rate e = omega arith in rates-expr e c 0 ∙ ap (at c) z
 
 -- ---- ifs inside each other
 
@@ -141,23 +146,23 @@ module _ (k a : ℕ) where
   rates-end : (c : List Ins) → on (ins endOp ∷ c) (rates 0 k a) ≡ on c (rates 0 (k - 1) (a - 1))
   rates-end c = rates-next (ins endOp) c (rates 0 k a) End refl
 
-rates-code : (t : Statements) (c : List Ins) (k a : ℕ) → Formed t → Slow t → a ≤ k → on (code t ++ c) (rates 0 k a) ≡ (ratesKept (around k a) t && on c (rates 0 k a))
-unfolding code ratesKept Formed Slow
-rates-code done c k a p s le = refl
-rates-code (assign n e t) c k a p s le =
+rates-code : (t : Statements) (c : List Ins) (k a : ℕ) → Slow t → a ≤ k → on (code t ++ c) (rates 0 k a) ≡ (ratesKept (around k a) t && on c (rates 0 k a))
+unfolding code ratesKept Slow
+rates-code done c k a s le = refl
+rates-code (assign n e t) c k a s le =
     let x = leb (rate e) (rateOf n) && leb (around k a) (rateOf n) in
     simp append-assoc
-    (rates-whole k a e (insArg storeOp n ∷ (code t ++ c)) (p .0)
+    (rates-whole k a e (insArg storeOp n ∷ (code t ++ c))
     ∙ rates-store k a n (rate e) (code t ++ c)
-    ∙ ap (λ b. x && b) (rates-code t c k a (p .1) s le)
+    ∙ ap (λ b. x && b) (rates-code t c k a s le)
     ∙ sym (and-assoc x (ratesKept (around k a) t) (on c (rates 0 k a))))
-rates-code (output e t) c k a p s le =
+rates-code (output e t) c k a s le =
     simp append-assoc
-    (rates-whole k a e (ins outputOp ∷ (code t ++ c)) (p .0)
+    (rates-whole k a e (ins outputOp ∷ (code t ++ c))
     ∙ rates-output k a (rate e) (code t ++ c)
-    ∙ rates-code t c k a (p .1) s le
+    ∙ rates-code t c k a s le
     ∙ sym (ap (λ b. (b && ratesKept (around k a) t) && on c (rates 0 k a)) (le-leb (around k a) 2 (around-low k a))))
-rates-code (branch e x y t) c k a p s le =
+rates-code (branch e x y t) c k a s le =
     let C = code t ++ c in
     let B = code y ++ ins endOp ∷ C in
     let A = code x ++ ins elseOp ∷ B in
@@ -171,36 +176,36 @@ rates-code (branch e x y t) c k a p s le =
     let v = ratesKept m y in
     let w = ratesKept (around k a) t in
     simp append-assoc
-    (rates-whole k a e (ins ifOp ∷ A) (p .0)
+    (rates-whole k a e (ins ifOp ∷ A)
     ∙ rates-if k a (rate e) A
     ∙ ap (on A) (i .opens (rate e))
-    ∙ rates-code x (ins elseOp ∷ B) K D (p .1 .0) (s .1 .0) (i .least)
+    ∙ rates-code x (ins elseOp ∷ B) K D (s .1 .0) (i .least)
     ∙ ap₂ (λ (g : ℕ) b. ratesKept g x && b) (i .guards)
     (rates-else K D B
-    ∙ rates-code y (ins endOp ∷ C) K D (p .1 .1 .0) (s .1 .1 .0) (i .least)
+    ∙ rates-code y (ins endOp ∷ C) K D (s .1 .1 .0) (i .least)
     ∙ ap₂ (λ (g : ℕ) b. ratesKept g y && b) (i .guards)
     (rates-end K D C
     ∙ ap₂ (λ (f g : ℕ). on C (rates 0 f g)) (i .back-k) (i .back-a)
-    ∙ rates-code t c k a (p .1 .1 .1) (s .1 .1 .1) le))
+    ∙ rates-code t c k a (s .1 .1 .1) le))
     ∙ sym (and-assoc u v (w && on c (rates 0 k a)))
     ∙ sym (and-assoc (u && v) w (on c (rates 0 k a))))
 
 -- ---- placed trees
 
-rate-of-kind-low : (k : ℕ) → rateOfKind k ≤ 2
-rate-of-kind-low k = go (leb k 2) (eqb k 4)
+rate-of-kind-low : (k : ℕ) → speedOfKind k ≤ 2
+rate-of-kind-low k = go (rateOfKind k)
   where
-    go : (x y : Bool) → cond x 0 (cond y 2 1) ≤ 2
-    go true y = omega arith
-    go false true = omega arith
-    go false false = omega arith
+    go : (r : Rate) → speed r ≤ 2
+    go iRate = omega arith
+    go kRate = omega arith
+    go aRate = omega arith
 
 place-low : (ms : List Named) (n p : ℕ) → p + length ms ≤ 16 → rateOf (placeFrom p n ms) ≤ 2
 unfolding placeFrom
 place-low [] n p h = omega arith
 place-low (m ∷ ms) n p h = go (eqb (m .name) n) (place-low ms n (suc p) (omega arith))
   where
-    go : (b : Bool) → rateOf (placeFrom (suc p) n ms) ≤ 2 → rateOf (cond b (16 * rateOfKind (m .kind) + p) (placeFrom (suc p) n ms)) ≤ 2
+    go : (b : Bool) → rateOf (placeFrom (suc p) n ms) ≤ 2 → rateOf (cond b (16 * speedOfKind (m .kind) + p) (placeFrom (suc p) n ms)) ≤ 2
     go true ih = let k = rate-of-kind-low (m .kind) in omega (arith, k)
     go false ih = ih
 
@@ -220,22 +225,6 @@ module _ (ms : List Named) (h : length ms ≤ 16) where
   slow-put (output e t) = slow-put t
   slow-put (branch e a b t) = (rate-low e, (slow-put a, (slow-put b, slow-put t)))
 
-module _ (ms : List Named) where
-  formed-in : (e : Expr) → FormedIn e → FormedIn (putIn ms e)
-  unfolding FormedIn putIn
-  formed-in (number x) p = p
-  formed-in (name n) p = p
-  formed-in (unary o e) p = (p .0, formed-in e (p .1))
-  formed-in (binary o a b) p = (p .0, (formed-in a (p .1 .0), formed-in b (p .1 .1)))
-  formed-in (choose t a b) p = (formed-in t (p .0), (formed-in a (p .1 .0), formed-in b (p .1 .1)))
-
-  formed-put : (t : Statements) → Formed t → Formed (put ms t)
-  unfolding Formed put
-  formed-put done p = p
-  formed-put (assign n e t) p = (formed-in e (p .0), formed-put t (p .1))
-  formed-put (output e t) p = (formed-in e (p .0), formed-put t (p .1))
-  formed-put (branch e a b t) p = (formed-in e (p .0), (formed-put a (p .1 .0), (formed-put b (p .1 .1 .0), formed-put t (p .1 .1 .1))))
-
 rates-declare : (ns : List Named) (c : List Ins) (q : Rates) → Kinds ns → on (declareAll ns ++ c) q ≡ on c q
 unfolding declareAll Kinds
 rates-declare [] c q k = refl
@@ -251,8 +240,8 @@ rates-program (i ∷ is) f e =
     ap (λ l. on l (rates 0 0 0)) (instrument-is (placed i) r)
     ∙ rates-next (insArg instrOp (i .name)) (declareAll ms ++ (code (put ms (i .body)) ++ r)) (rates 0 0 0) Instr refl
     ∙ rates-declare ms (code (put ms (i .body)) ++ r) (rates 0 0 0) (kinds-of i (f .0))
-    ∙ rates-code (put ms (i .body)) r 0 0 (formed-put ms (i .body) (f .1 .0)) (slow-put ms k (i .body)) (omega arith)
-    ∙ ap (λ b. ratesKept 0 (put ms (i .body)) && b) (rates-program is (f .1 .1) (and-right (namesKept i) (eachKept is) e))
+    ∙ rates-code (put ms (i .body)) r 0 0 (slow-put ms k (i .body)) (omega arith)
+    ∙ ap (λ b. ratesKept 0 (put ms (i .body)) && b) (rates-program is (f .1) (and-right (namesKept i) (eachKept is) e))
 
 -- the pass over a placed tree's program is the tree's rate rules
 pub rates-law : (is : List Instrument) → FormedAll is → nameRules is ≡ true

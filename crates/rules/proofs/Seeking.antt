@@ -9,7 +9,9 @@ use lib.ListN.{length, take, drop, getD, drop-of-length-le}
 use lib.Seq.{drop-cons, getD-take, length-take-le}
 use lib.Dec.{eqb, leb, ltb, leb·suc-suc}
 use borrow.Author.Tests.{eq-eqb, ne-eqb, lt-ltb, le-ltb, lt-leb, le-leb, ltb-true, ltb-false}
-use Rattle.syntax.specs.Names.{symbols, has, placeFrom, place, rateOfKind}
+use Rattle.syntax.specs.Names.{symbols, has}
+use Rattle.syntax.specs.Placed.{placeFrom, place}
+use Rattle.syntax.specs.Placed.{speedOfKind}
 use Rattle.rules.specs.Table.{ownOf, seekIn}
 
 -- ---- the loop of `seek`
@@ -88,14 +90,14 @@ getD-drop1 : (l : List ℕ) (i : ℕ) → getD (drop 1 l) i 0 ≡ getD l (suc i)
 getD-drop1 [] i = refl
 getD-drop1 (a ∷ l) i = refl
 
-seek-from : (ws ks : List ℕ) (s p : ℕ) → seekIn ws s < length ws → placeFrom p s (ownOf ws ks) ≡ 16 * rateOfKind (getD ks (seekIn ws s) 0) + (p + seekIn ws s)
+seek-from : (ws ks : List ℕ) (s p : ℕ) → seekIn ws s < length ws → placeFrom p s (ownOf ws ks) ≡ 16 * speedOfKind (getD ks (seekIn ws s) 0) + (p + seekIn ws s)
 unfolding seekIn placeFrom ownOf
 seek-from [] ks s p lt = absurd (omega arith)
 seek-from (w ∷ ws) ks s p lt = go (eqb w s) (λ h. seek-from ws (drop 1 ks) s (suc p) h) lt
   where
-    go : (b : Bool) → (seekIn ws s < length ws → placeFrom (suc p) s (ownOf ws (drop 1 ks)) ≡ 16 * rateOfKind (getD (drop 1 ks) (seekIn ws s) 0) + (suc p + seekIn ws s))
+    go : (b : Bool) → (seekIn ws s < length ws → placeFrom (suc p) s (ownOf ws (drop 1 ks)) ≡ 16 * speedOfKind (getD (drop 1 ks) (seekIn ws s) 0) + (suc p + seekIn ws s))
         → cond b 0 (suc (seekIn ws s)) < suc (length ws)
-        → cond b (16 * rateOfKind (getD ks 0 0) + p) (placeFrom (suc p) s (ownOf ws (drop 1 ks))) ≡ 16 * rateOfKind (getD ks (cond b 0 (suc (seekIn ws s))) 0) + (p + cond b 0 (suc (seekIn ws s)))
+        → cond b (16 * speedOfKind (getD ks 0 0) + p) (placeFrom (suc p) s (ownOf ws (drop 1 ks))) ≡ 16 * speedOfKind (getD ks (cond b 0 (suc (seekIn ws s))) 0) + (p + cond b 0 (suc (seekIn ws s)))
     go true h lt = omega arith
     go false h lt = h (omega arith) ∙ rw getD-drop1 (omega arith)
 
@@ -106,12 +108,12 @@ seek-none (w ∷ ws) ks s p le = go (eqb w s) (λ h. seek-none ws (drop 1 ks) s 
   where
     go : (b : Bool) → (length ws ≤ seekIn ws s → placeFrom (suc p) s (ownOf ws (drop 1 ks)) ≡ 0)
         → suc (length ws) ≤ cond b 0 (suc (seekIn ws s))
-        → cond b (16 * rateOfKind (getD ks 0 0) + p) (placeFrom (suc p) s (ownOf ws (drop 1 ks))) ≡ 0
+        → cond b (16 * speedOfKind (getD ks 0 0) + p) (placeFrom (suc p) s (ownOf ws (drop 1 ks))) ≡ 0
     go true h le = absurd (omega arith)
     go false h le = h (omega arith)
 
 module _ (table ks : List ℕ) (n s i : ℕ) (fits : n ≤ length table) (e : i ≡ seekIn (take n table) s) where
-  pub place-found : (r : ℕ) → i < n → r ≡ rateOfKind (getD ks i 0) → 16 * r + i ≡ place (ownOf (take n table) ks) s
+  pub place-found : (r : ℕ) → i < n → r ≡ speedOfKind (getD ks i 0) → 16 * r + i ≡ place (ownOf (take n table) ks) s
   place-found r lt q =
       let l = length-take-le n table fits in
       let f = seek-from (take n table) ks s 0 (omega (arith, l, e)) in

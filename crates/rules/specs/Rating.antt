@@ -4,7 +4,7 @@ use mathlib.Core.Bool.{Bool, true, _&&_, cond}
 use mathlib.Core.List.{List, [], _∷_}
 use lib.Dec.{leb, ltb}
 use Rattle.syntax.specs.Program.{actOf}
-use Rattle.syntax.specs.Rates.{rateOf}
+use Rattle.syntax.specs.Placed.{rateOf}
 use Rattle.syntax.specs.declared.Act.{Act}
 use Rattle.syntax.specs.declared.Act.the-variants.{Value, Name, Store, Output, If, Else, End, Declare, Instr}
 use Rattle.rules.specs.declared.Rates.{Rates}

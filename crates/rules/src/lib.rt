@@ -8,11 +8,25 @@ ghost use mathlib.Core.List.{List};
 ghost use lib.ListN.{length, take};
 ghost use lib.Dec.{leb, ltb};
 ghost use Rattle.syntax.specs.Program.{actOf};
-ghost use Rattle.syntax.specs.Names.{has, rateOfKind, place as placeOf};
-ghost use Rattle.syntax.specs.Rates.{rateOf};
+ghost use Rattle.syntax.specs.Names.{has};
+ghost use Rattle.syntax.specs.Placed.{place as placeOf};
+ghost use Rattle.syntax.specs.Placed.{speedOfKind};
+ghost use Rattle.syntax.specs.Placed.{rateOf};
 ghost use Rattle.rules.specs.Naming.{lawful, namesAfter, titlesAfter, placedName, namesPass, placesPass};
 ghost use Rattle.rules.specs.Table.{seekIn, own};
 ghost use Rattle.rules.specs.Rating.{rates, guard as guardOf, entered as enteredOf, left as leftOf, ratesLawful, ratesAfter, ratesPass};
+
+// Rates as numbers, i slowest.
+const I_RATE: u16 = 0;
+
+const K_RATE: u16 = 1;
+
+const A_RATE: u16 = 2;
+
+// How many names an instrument has at most, fields included, and how many instruments there are at most.
+const MOST_NAMES: usize = 16;
+
+const MOST_INSTRUMENTS: usize = 8;
 
 // Tables of names are slices of which the first n words are filled.
 
@@ -51,15 +65,18 @@ fn free(table: &[u16], n: usize, most: usize, s: u16) -> bool
 
 fn rate_of_kind(k: u8) -> u16
     ensures low { λ r. ⌜ r ≤ 2 ⌝ }
-    ensures is { λ r. ⌜ r ≡ rateOfKind k ⌝ }
+    ensures is { λ r. ⌜ r ≡ speedOfKind k ⌝ }
 {
-    if k <= 2 {
-        return 0;
+    if k == syntax::FIELD {
+        return I_RATE;
     }
-    if k == 4 {
-        return 2;
+    if k == signs::IVAR {
+        return I_RATE;
     }
-    1
+    if k == signs::ASIG {
+        return A_RATE;
+    }
+    K_RATE
 }
 
 // 16 * rate + place of a name; 0 where there is none.
@@ -89,8 +106,8 @@ fn is_lawful(
     match act {
         Act::Name => known(symbols, count, arg),
         Act::Store => known(symbols, count, arg),
-        Act::Declare => free(symbols, count, 16, arg),
-        Act::Instr => free(titles, heads, 8, arg),
+        Act::Declare => free(symbols, count, MOST_NAMES, arg),
+        Act::Instr => free(titles, heads, MOST_INSTRUMENTS, arg),
         _ => true,
     }
 }
@@ -103,7 +120,7 @@ fn titles_after(act: Act, arg: u16, titles: &mut [u16], heads: usize) -> usize
 {
     match act {
         Act::Instr => {
-            if heads < 8 {
+            if heads < MOST_INSTRUMENTS {
                 titles[heads] = arg;
                 return heads + 1;
             }
@@ -128,7 +145,7 @@ fn names_after(
 {
     match act {
         Act::Declare => {
-            if count < 16 {
+            if count < MOST_NAMES {
                 symbols[count] = arg;
                 kinds[count] = op;
                 return count + 1;
@@ -226,12 +243,12 @@ fn guard(q: Rates) -> u16
     ensures { λ r. ⌜ r ≡ guardOf q ⌝ }
 {
     if 0 < q.adeep {
-        return 2;
+        return A_RATE;
     }
     if 0 < q.kdeep {
-        return 1;
+        return K_RATE;
     }
-    0
+    I_RATE
 }
 
 // One more if, the fastest guard around whose statements has rate m.
@@ -239,22 +256,22 @@ fn entered(m: u16, q: Rates) -> Rates
     requires { ⌜ (q .kdeep < 9223372036854775807) × (q .adeep < 9223372036854775807) ⌝ }
     ensures { λ r. ⌜ r ≡ enteredOf m q ⌝ }
 {
-    if 2 <= m {
+    if A_RATE <= m {
         return Rates {
-            fastest: 0,
+            fastest: I_RATE,
             kdeep: q.kdeep + 1,
             adeep: q.adeep + 1,
         };
     }
-    if 1 <= m {
+    if K_RATE <= m {
         return Rates {
-            fastest: 0,
+            fastest: I_RATE,
             kdeep: q.kdeep + 1,
             adeep: q.adeep,
         };
     }
     Rates {
-        fastest: 0,
+        fastest: I_RATE,
         kdeep: q.kdeep,
         adeep: q.adeep,
     }
@@ -322,8 +339,8 @@ fn rates_after(op: u8, arg: u16, q: Rates) -> Rates
             let m = faster(q.fastest, rate_of(arg));
             ended(q, m)
         }
-        Act::Store => ended(q, 0),
-        Act::Output => ended(q, 0),
+        Act::Store => ended(q, I_RATE),
+        Act::Output => ended(q, I_RATE),
         Act::If => {
             let m = faster(guard(q), q.fastest);
             entered(m, q)
@@ -340,7 +357,7 @@ pub fn rates_kept(ops: &[u8], args: &[u16]) -> bool
     ensures { λ r. ⌜ r ≡ ratesPass (now (ops .entry)) (now (args .entry)) ⌝ }
 {
     let mut q = Rates {
-        fastest: 0,
+        fastest: I_RATE,
         kdeep: 0,
         adeep: 0,
     };

@@ -1,4 +1,7 @@
 pub mod Tree
-pub mod Program
+pub mod Grammar
 pub mod Names
 pub mod Rates
+pub mod Placed
+pub mod Translation
+pub mod Program

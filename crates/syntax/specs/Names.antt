@@ -1,10 +1,17 @@
--- Document 01's name rules, and names put by their places.
-use Prim.Native.Nat.{ℕ, suc, _+_, _*_}
-use mathlib.Core.Bool.{Bool, true, false, not, _&&_, _||_, cond}
+-- Document 01's name rules.
+use Prim.Native.Nat.{ℕ}
+use mathlib.Core.Bool.{Bool, true, false, not, _&&_, _||_}
 use mathlib.Core.List.{List, [], _∷_, _++_, map}
 use lib.ListN.{length}
 use lib.Dec.{eqb, leb}
 use Rattle.syntax.specs.Tree.{Expr, number, name, unary, binary, choose, Statements, done, assign, output, branch, Declaration, Instrument, fieldKind}
+
+-- how many names an instrument has at most, fields included, and how many instruments there are at most
+abbrev pub mostNames : ℕ
+mostNames = 16
+
+abbrev pub mostInstruments : ℕ
+mostInstruments = 8
 
 -- a name that is declared, and its kind
 pub record Named : Type 0 where
@@ -19,7 +26,7 @@ unfoldable pub namedBy : List Declaration → List Named
 namedBy [] = []
 namedBy (d ∷ ds) = named (d .kind) (d .names) ++ namedBy ds
 
--- an instrument's names, fields first, in written order: a name's place is its place among these
+-- an instrument's names, fields first, in written order
 abbrev pub namesOf : Instrument → List Named
 namesOf i = named fieldKind (i .fields) ++ namedBy (i .declarations)
 
@@ -56,9 +63,9 @@ known ns (assign n e r) = (knownIn ns e && has n ns) && known ns r
 known ns (output e r) = knownIn ns e && known ns r
 known ns (branch e a b r) = knownIn ns e && (known ns a && (known ns b && known ns r))
 
--- at most 16 names, fields included, each declared once, and every name used is declared there
+-- at most 16 names, each declared once, and every name used is declared there
 abbrev pub namesKept : Instrument → Bool
-namesKept i = leb (length (namesOf i)) 16 && (distinct (symbols (namesOf i)) && known (symbols (namesOf i)) (i .body))
+namesKept i = leb (length (namesOf i)) mostNames && (distinct (symbols (namesOf i)) && known (symbols (namesOf i)) (i .body))
 
 unfoldable pub eachKept : List Instrument → Bool
 eachKept [] = true
@@ -69,35 +76,4 @@ titleOf i = i .name
 
 -- at most 8 instruments, all named differently, each of which keeps the rules of its own names
 abbrev pub nameRules : List Instrument → Bool
-nameRules is = leb (length is) 8 && (distinct (map titleOf is) && eachKept is)
-
--- ---- names by their places
-
--- rates as numbers, i slowest: i 0, k 1, a 2. Fields and ivars are i; ksigs and imports k; asigs a
-abbrev pub rateOfKind : ℕ → ℕ
-rateOfKind k = cond (leb k 2) 0 (cond (eqb k 4) 2 1)
-
--- a declared name in a placed tree: 16 * rate + place, where the first of the list has the place p; 0 where there is none
-unfoldable pub placeFrom : ℕ → ℕ → List Named → ℕ
-placeFrom p n [] = 0
-placeFrom p n (m ∷ ms) = cond (eqb (m .name) n) (16 * rateOfKind (m .kind) + p) (placeFrom (suc p) n ms)
-
-abbrev pub place : List Named → ℕ → ℕ
-place ms n = placeFrom 0 n ms
-
-unfoldable pub putIn : List Named → Expr → Expr
-putIn ms (number x) = number x
-putIn ms (name n) = name (place ms n)
-putIn ms (unary o e) = unary o (putIn ms e)
-putIn ms (binary o a b) = binary o (putIn ms a) (putIn ms b)
-putIn ms (choose c a b) = choose (putIn ms c) (putIn ms a) (putIn ms b)
-
-unfoldable pub put : List Named → Statements → Statements
-put ms done = done
-put ms (assign n e r) = assign (place ms n) (putIn ms e) (put ms r)
-put ms (output e r) = output (putIn ms e) (put ms r)
-put ms (branch e a b r) = branch (putIn ms e) (put ms a) (put ms b) (put ms r)
-
--- an instrument whose body has its names by their places
-abbrev pub placed : Instrument → Instrument
-placed i = record { name = i .name; fields = i .fields; declarations = i .declarations; body = put (namesOf i) (i .body) }
+nameRules is = leb (length is) mostInstruments && (distinct (map titleOf is) && eachKept is)

@@ -1,34 +1,57 @@
--- Document 01's rate rules, on trees whose names are put by their places (16 * rate + place; i is 0, k 1 and a 2).
-use Prim.Native.Nat.{ℕ, _/_, _%_, max}
-use mathlib.Core.Bool.{Bool, true, _&&_}
+-- Document 01's rate rules on the tree as it is written: a name has the rate that its declaration gives it.
+use Prim.Native.Nat.{ℕ}
+use mathlib.Core.Bool.{Bool, true, false, _&&_, _||_, cond}
 use mathlib.Core.List.{List, [], _∷_}
-use lib.Dec.{leb}
-use Rattle.syntax.specs.Tree.{Expr, number, name, unary, binary, choose, Statements, done, assign, output, branch, Instrument}
-use Rattle.syntax.specs.Names.{placed}
+use lib.Dec.{eqb}
+use Rattle.syntax.specs.Tree.{Expr, number, name, unary, binary, choose, Statements, done, assign, output, branch, Instrument, fieldKind, ivarKind, asigKind}
+use Rattle.syntax.specs.Names.{Named, namesOf}
 
-abbrev pub rateOf : ℕ → ℕ
-rateOf c = c / 16 % 4
+pub data Rate : Type 0 where
+  iRate kRate aRate : Rate
 
-abbrev pub placeOf : ℕ → ℕ
-placeOf c = c % 16
+-- i is slowest
+abbrev pub atMost : Rate → Rate → Bool
+atMost iRate r = true
+atMost kRate iRate = false
+atMost kRate kRate = true
+atMost kRate aRate = true
+atMost aRate iRate = false
+atMost aRate kRate = false
+atMost aRate aRate = true
 
--- an expression has the rate of its fastest part; numbers are i
-unfoldable pub rate : Expr → ℕ
-rate (number x) = 0
-rate (name c) = rateOf c
-rate (unary o e) = rate e
-rate (binary o a b) = max (rate a) (rate b)
-rate (choose c a b) = max (rate c) (max (rate a) (rate b))
+abbrev pub fastest : Rate → Rate → Rate
+fastest r q = cond (atMost r q) q r
 
--- an assignment has the rate of its name, and its expression is not faster; output has rate a; neither is slower than any guard around it,
--- of which g is the fastest
-unfoldable pub ratesKept : ℕ → Statements → Bool
-ratesKept g done = true
-ratesKept g (assign c e r) = (leb (rate e) (rateOf c) && leb g (rateOf c)) && ratesKept g r
-ratesKept g (output e r) = leb g 2 && ratesKept g r
-ratesKept g (branch e a b r) = (ratesKept (max g (rate e)) a && ratesKept (max g (rate e)) b) && ratesKept g r
+abbrev pub same : Rate → Rate → Bool
+same r q = atMost r q && atMost q r
+
+-- fields and ivars i; asig a; ksig, imports or not, k
+abbrev pub rateOfKind : ℕ → Rate
+rateOfKind d = cond (eqb d fieldKind || eqb d ivarKind) iRate (cond (eqb d asigKind) aRate kRate)
+
+-- the rate of a declared name: its declaration's
+unfoldable pub rateOf : List Named → ℕ → Rate
+rateOf [] n = iRate
+rateOf (m ∷ ms) n = cond (eqb (m .name) n) (rateOfKind (m .kind)) (rateOf ms n)
+
+module _ (ms : List Named) where
+  -- an expression has the rate of its fastest part; numbers are i
+  unfoldable pub rate : Expr → Rate
+  rate (number x) = iRate
+  rate (name n) = rateOf ms n
+  rate (unary o e) = rate e
+  rate (binary o e f) = fastest (rate e) (rate f)
+  rate (choose c e f) = fastest (rate c) (fastest (rate e) (rate f))
+
+  -- An assignment has the rate of its name, and its expression may not be faster. Output has rate a. Each, inside an if at any depth, may not be
+  -- slower than any guard around it, of which g is the fastest.
+  unfoldable pub ratesKept : Rate → Statements → Bool
+  ratesKept g done = true
+  ratesKept g (assign n e t) = (atMost (rate e) (rateOf ms n) && atMost g (rateOf ms n)) && ratesKept g t
+  ratesKept g (output e t) = atMost g aRate && ratesKept g t
+  ratesKept g (branch e u v t) = (ratesKept (fastest g (rate e)) u && ratesKept (fastest g (rate e)) v) && ratesKept g t
 
 -- every instrument keeps the rate rules
 unfoldable pub rateRules : List Instrument → Bool
 rateRules [] = true
-rateRules (i ∷ is) = ratesKept 0 (placed i .body) && rateRules is
+rateRules (x ∷ xs) = ratesKept (namesOf x) iRate (x .body) && rateRules xs

@@ -1,16 +1,17 @@
--- An orchestra as a tree. Names are their 16-bit symbols; an operator or call is the number of its token (unary minus, which
--- shares its token with the difference, is 37).
+-- An orchestra as a tree. Names are their 16-bit symbols.
 use Prim.Native.Nat.{ℕ}
 use mathlib.Core.List.{List}
 use lib.Ieee.{Float}
+use Rattle.signs.specs.Signs as S
+use Rattle.signs.specs.Operators.{Unary, Binary}
 
 pub data Expr : Type 0 where
   number : Float → Expr
   name : ℕ → Expr
   -- ! - and the calls with one argument: abs sgn int frac
-  unary : ℕ → Expr → Expr
+  unary : Unary → Expr → Expr
   -- the operators with two sides, and the calls min and max
-  binary : ℕ → Expr → Expr → Expr
+  binary : Binary → Expr → Expr → Expr
   -- guard ? first : second
   choose : Expr → Expr → Expr → Expr
 
@@ -22,21 +23,21 @@ pub data Statements : Type 0 where
   -- the guard, the block, and the block of else (without else: done)
   branch : Expr → Statements → Statements → Statements → Statements
 
--- a declaration's kind is the number of its keyword: ivar 2, ksig 3, asig 4, imports (ksig) 5; a field's is 0
+-- a declaration's kind is the number of its first sign; a field has no sign
 abbrev pub fieldKind : ℕ
 fieldKind = 0
 
 abbrev pub ivarKind : ℕ
-ivarKind = 2
+ivarKind = S.number S.ivar
 
 abbrev pub ksigKind : ℕ
-ksigKind = 3
+ksigKind = S.number S.ksig
 
 abbrev pub asigKind : ℕ
-asigKind = 4
+asigKind = S.number S.asig
 
 abbrev pub importsKind : ℕ
-importsKind = 5
+importsKind = S.number S.imports
 
 pub record Declaration : Type 0 where
   pub kind : ℕ

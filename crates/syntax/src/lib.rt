@@ -15,31 +15,42 @@ pub enum Act {
     Instr,
 }
 
+// The operation of a name in an expression, and of a number: the first bytes of their tokens. The other operations have signs' numbers.
+pub const NAME: u8 = 0xf0;
+
+pub const NUMBER: u8 = 0xf1;
+
+// Unary minus, whose sign is the difference's.
+pub const NEGATIVE: u8 = signs::SIGNS + 1;
+
+// A field's declaration.
+pub const FIELD: u8 = 0;
+
 pub fn act_of(op: u8) -> Act
     ensures { λ r. ⌜ r ≡ actOf op ⌝ }
 {
-    if op == 0xf0 {
+    if op == NAME {
         return Act::Name;
     }
-    if op == 21 {
+    if op == signs::BECOMES {
         return Act::Store;
     }
-    if op == 6 {
+    if op == signs::OUTPUT {
         return Act::Output;
     }
-    if op == 7 {
+    if op == signs::IF {
         return Act::If;
     }
-    if op == 8 {
+    if op == signs::ELSE {
         return Act::Else;
     }
-    if op == 18 {
+    if op == signs::CURLY_CLOSE {
         return Act::End;
     }
-    if op == 1 {
+    if op == signs::INSTR {
         return Act::Instr;
     }
-    if op <= 5 {
+    if op <= signs::IMPORTS {
         return Act::Declare;
     }
     Act::Value

@@ -7,7 +7,7 @@ use mathlib.Core.Bool.{Bool, true, false, _&&_, _||_, cond, and-true, and-false}
 use lib.Dec.{eqb, leb}
 use borrow.Author.Tests.{ne-eqb, le-leb, lt-leb}
 use Rattle.answer.specs.declared.Answer.the-variants.{Taken, BadToken, TooLarge}
-use Rattle.tokens.specs.Bytes.{more}
+use Rattle.tokens.specs.Scanning.{more}
 use Rattle.tokens.specs.Measures.{opened, since, bracketsKept, stretchesKept}
 use Rattle.tokens.specs.Passes.{found, measure, next, closedOf}
 use Rattle.tokens.specs.declared.Measure.{Measure}

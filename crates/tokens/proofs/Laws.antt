@@ -13,7 +13,8 @@ use lib.Ieee.Bits.{ofBits-toBits, toBits-ofBits, toBits-lt}
 use lib.Ieee.Scale.{finite}
 use borrow.Author.Tests.{ltb-true, leb-true, eqb-true, ne-eqb}
 use Rattle.tokens.specs.Token.{zeroF, tokenOf, toks}
-use Rattle.tokens.specs.Bytes.{lawful, allLawful, two, four, spelt, bytesOf, Bytes, more, tokenFrom, Got, none, some, with, ended, tokensAfter, tokensOf}
+use Rattle.tokens.specs.Spelling.{lawful, allLawful, two, four, spelt, bytesOf, Bytes, Spells, OneSpelling}
+use Rattle.tokens.specs.Scanning.{more, tokenFrom, Got, none, some, with, ended, tokensAfter, tokensOf, EveryScan}
 use Rattle.tokens.specs.Measures.{kindOf}
 use Rattle.tokens.specs.Reading.{wordOf, realOf, padded}
 use Rattle.tokens.specs.declared.Token.{Token}
@@ -144,14 +145,14 @@ module _ (ts : List Token) where
   whole-spelt (a ∷ b ∷ c ∷ d ∷ bs) p e = ap (λ m. 0xf2 ∷ (m ++ bs)) (four-spelt a b c d (p .0) (p .1 .0) (p .1 .1 .0) (p .1 .1 .1 .0))
 
   -- the token that the first byte starts, spelt, and the bytes after it
-  abbrev Spells : List ℕ → ℕ → Type 0
-  Spells bs b = lawful (tokenFrom b bs) ≡ true → tokensAfter (more b) bs ≡ some ts → spelt (tokenFrom b bs) ++ drop (more b) bs ≡ b ∷ bs
+  abbrev Spelt·on : List ℕ → ℕ → Type 0
+  Spelt·on bs b = lawful (tokenFrom b bs) ≡ true → tokensAfter (more b) bs ≡ some ts → spelt (tokenFrom b bs) ++ drop (more b) bs ≡ b ∷ bs
 
-  first-spelt : (b : ℕ) (bs : List ℕ) (x y z : Bool) → eqb b 0xf0 ≡ x → eqb b 0xf1 ≡ y → eqb b 0xf2 ≡ z → Bytes bs → Spells bs b
+  first-spelt : (b : ℕ) (bs : List ℕ) (x y z : Bool) → eqb b 0xf0 ≡ x → eqb b 0xf1 ≡ y → eqb b 0xf2 ≡ z → Bytes bs → Spelt·on bs b
   unfolding tokenFrom spelt
-  first-spelt b bs true y z i j k p = subst (Spells bs) (sym (eqb-true b 0xf0 i)) (λ l e. symbol-spelt bs p e)
-  first-spelt b bs false true z i j k p = subst (Spells bs) (sym (eqb-true b 0xf1 j)) (λ l e. number-spelt bs p l e)
-  first-spelt b bs false false true i j k p = subst (Spells bs) (sym (eqb-true b 0xf2 k)) (λ l e. whole-spelt bs p e)
+  first-spelt b bs true y z i j k p = subst (Spelt·on bs) (sym (eqb-true b 0xf0 i)) (λ l e. symbol-spelt bs p e)
+  first-spelt b bs false true z i j k p = subst (Spelt·on bs) (sym (eqb-true b 0xf1 j)) (λ l e. number-spelt bs p l e)
+  first-spelt b bs false false true i j k p = subst (Spelt·on bs) (sym (eqb-true b 0xf2 k)) (λ l e. whole-spelt bs p e)
   first-spelt b bs false false false i j k p = λ l e. rw (i, j, k)
 
 ended-some : (bs : List ℕ) (t : Token) (ts : List Token) → ended bs ≡ some (t ∷ ts) → _≡_ {A = ℕ} 0 1
@@ -227,20 +228,32 @@ unfolding allLawful
 tokens-lawful [] bs e = refl
 tokens-lawful (t ∷ ts) bs e = more-lawful t ts bs (λ cs f. tokens-lawful ts cs f) e
 
--- ---- bytes are no tokens exactly when they are the bytes of no lawful tokens
+-- ---- what is found is what is spelt
 
-pub none-spelt : (bs : List ℕ) (ts : List Token) → tokensOf bs ≡ none → allLawful ts ≡ true → bytesOf ts ≡ bs → ⊥
-none-spelt bs ts n l e =
-    let f : none ≡ some ts = sym n ∙ ap tokensOf (sym e) ∙ tokens-bytes ts l in
-    let z : _≡_ {A = ℕ} 0 1 = cc in
-    omega arith
+found-spelt : (bs : List ℕ) (ts : List Token) → Bytes bs → tokensOf bs ≡ some ts → Spells bs ts
+found-spelt bs ts b e = record { listed = tokens-lawful ts bs e; spelt = bytes-tokens ts bs b e }
 
-pub unspelt : (bs : List ℕ) → Bytes bs → ((ts : List Token) → allLawful ts ≡ true → bytesOf ts ≡ bs → ⊥) → tokensOf bs ≡ none
-unspelt bs b h = go (tokensOf bs) refl
+pub spelt-found : (bs : List ℕ) (ts : List Token) → Spells bs ts → tokensOf bs ≡ some ts
+spelt-found bs ts s = ap tokensOf (sym (s .spelt)) ∙ tokens-bytes ts (s .listed)
+
+pub every-scan : EveryScan
+every-scan bs b =
+    record {
+      found = λ ts e. found-spelt bs ts b e;
+      finds = spelt-found bs;
+      unspelt = λ n ts s. never (let f = sym n ∙ spelt-found bs ts s in cc);
+      nothing = λ h. go h (tokensOf bs) refl;
+    }
   where
-    go : (g : Got) → tokensOf bs ≡ g → tokensOf bs ≡ none
-    go none e = e
-    go (some ts) e = absurd (h ts (tokens-lawful ts bs e) (bytes-tokens ts bs b e))
+    never : {A : Type 0} → _≡_ {A = ℕ} 0 1 → A
+    never z = absurd (omega arith)
+
+    go : ((ts : List Token) → Spells bs ts → ⊥) → (g : Got) → tokensOf bs ≡ g → tokensOf bs ≡ none
+    go h none e = e
+    go h (some ts) e = absurd (h ts (found-spelt bs ts b e))
+
+pub one-spelling : OneSpelling
+one-spelling bs ts us s u = let z = sym (spelt-found bs ts s) ∙ spelt-found bs us u in cc
 
 -- ---- what is stored
 

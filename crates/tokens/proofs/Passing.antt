@@ -10,7 +10,8 @@ use lib.Seq.{drop-cons, drop-drop}
 use lib.Dec.{eqb, leb}
 use borrow.Author.Tests.{eq-eqb, ne-eqb, not-true, not-false}
 use Rattle.answer.specs.declared.Answer.the-variants.{BadToken}
-use Rattle.tokens.specs.Bytes.{Got, none, some, with, ended, lawful, more, tokensAfter}
+use Rattle.tokens.specs.Spelling.{lawful}
+use Rattle.tokens.specs.Scanning.{Got, none, some, with, ended, more, tokensAfter}
 use Rattle.tokens.specs.Measures.{kindOf, opened, since, bracketsKept, stretchesKept}
 use Rattle.tokens.specs.Passes.{standing, found, next, closedOf, finished, start, scanned}
 use Rattle.tokens.specs.declared.Token.{Token}

@@ -18,7 +18,8 @@ use Rattle.timebase.specs.declared.Checked.{Checked}
 use Rattle.timebase.specs.declared.Checked.the-variants.{Value, Outside}
 use Rattle.timebase.proofs.Laws.{checked-in, checked-out}
 use Rattle.tokens.specs.Token.{zeroF}
-use Rattle.tokens.specs.Bytes.{lawful, twoOf, fourOf, tokenFrom}
+use Rattle.tokens.specs.Spelling.{lawful}
+use Rattle.tokens.specs.Scanning.{twoOf, fourOf, tokenFrom}
 use Rattle.tokens.specs.Measures.{kindOf}
 use Rattle.tokens.specs.Passes.{standing}
 use Rattle.tokens.specs.Reading.{wordOf, realOf}

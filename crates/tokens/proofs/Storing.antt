@@ -16,7 +16,8 @@ use Rattle.answer.specs.Numbers.{numberOf}
 use Rattle.answer.specs.declared.Answer.{Answer}
 use Rattle.answer.specs.declared.Answer.the-variants.{Taken, BadToken, TooLarge}
 use Rattle.tokens.specs.Token.{zeroF}
-use Rattle.tokens.specs.Bytes.{Got, none, some, with, lawful, more, tokensAfter, tokensOf, tokensIn}
+use Rattle.tokens.specs.Spelling.{lawful}
+use Rattle.tokens.specs.Scanning.{Got, none, some, with, more, tokensAfter, tokensOf, tokensIn}
 use Rattle.tokens.specs.Measures.{kindOf, bracketsKept, stretchesKept}
 use Rattle.tokens.specs.Passes.{standing, found, finished, start, scanned}
 use Rattle.tokens.specs.Reading.{wordOf, realOf, padded, stored, judged}

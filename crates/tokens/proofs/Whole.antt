@@ -9,7 +9,7 @@ use lib.Dec.{leb}
 use borrow.Author.Tests.{lt-ltb, le-ltb}
 use Rattle.answer.specs.Numbers.{isTaken}
 use Rattle.answer.specs.declared.Answer.the-variants.{Taken, TooLarge}
-use Rattle.tokens.specs.Bytes.{Got, none, some, tokensOf}
+use Rattle.tokens.specs.Scanning.{Got, none, some, tokensOf}
 use Rattle.tokens.specs.Measures.{bracketsKept, stretchesKept}
 use Rattle.tokens.specs.Passes.{found, finished, start, scanned}
 use Rattle.tokens.specs.Reading.{stored, judged, readOf}

@@ -1,5 +1,6 @@
 pub mod Token
-pub mod Bytes
+pub mod Spelling
+pub mod Scanning
 pub mod Measures
 pub mod Reading
 pub mod Passes

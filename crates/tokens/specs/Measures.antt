@@ -4,8 +4,26 @@ use mathlib.Core.Bool.{Bool, true, _&&_, _||_, cond}
 use mathlib.Core.List.{List, [], _∷_}
 use lib.ListN.{length}
 use lib.Dec.{eqb, leb}
+use Rattle.signs.specs.Signs as S
 use Rattle.tokens.specs.declared.Token.{Token}
 use Rattle.tokens.specs.declared.Token.the-variants.{Number, Symbol, Whole, Sign}
+
+-- the limits; the first is that on bytes, which comes before all else
+abbrev pub longest : ℕ
+longest = 16384
+
+abbrev pub mostTokens : ℕ
+mostTokens = 2048
+
+abbrev pub mostBrackets : ℕ
+mostBrackets = 24
+
+abbrev pub longestStretch : ℕ
+longestStretch = 128
+
+-- the kind k is that of a sign
+abbrev is : ℕ → S.Sign → Bool
+is k s = eqb k (S.number s)
 
 -- the first byte of a token
 abbrev pub kindOf : Token → ℕ
@@ -16,22 +34,22 @@ kindOf (Sign k) = k
 
 -- the brackets open after a token of the kind k, of those open before it: each ( or { adds one, each ) or } takes one off, never below 0
 unfoldable pub opened : ℕ → ℕ → ℕ
-opened n k = cond (eqb k 15 || eqb k 17) (suc n) (cond (eqb k 16 || eqb k 18) (n - 1) n)
+opened n k = cond (is k S.roundOpen || is k S.curlyOpen) (suc n) (cond (is k S.roundClose || is k S.curlyClose) (n - 1) n)
 
 -- never more than 24 brackets open, where n are open before
 unfoldable pub bracketsKept : ℕ → List Token → Bool
 bracketsKept n [] = true
-bracketsKept n (t ∷ ts) = leb (opened n (kindOf t)) 24 && bracketsKept (opened n (kindOf t)) ts
+bracketsKept n (t ∷ ts) = leb (opened n (kindOf t)) mostBrackets && bracketsKept (opened n (kindOf t)) ts
 
 -- the tokens since the last of ; { } or the start, after a token of the kind k
 unfoldable pub since : ℕ → ℕ → ℕ
-since n k = cond (eqb k 20 || (eqb k 17 || eqb k 18)) 0 (suc n)
+since n k = cond (is k S.semicolon || (is k S.curlyOpen || is k S.curlyClose)) 0 (suc n)
 
 -- at most 128 tokens between two neighbours among ; { } and the ends, where n came since the last of them
 unfoldable pub stretchesKept : ℕ → List Token → Bool
 stretchesKept n [] = true
-stretchesKept n (t ∷ ts) = leb (since n (kindOf t)) 128 && stretchesKept (since n (kindOf t)) ts
+stretchesKept n (t ∷ ts) = leb (since n (kindOf t)) longestStretch && stretchesKept (since n (kindOf t)) ts
 
 -- within the token measures
 abbrev pub measured : List Token → Bool
-measured ts = leb (length ts) 2048 && (bracketsKept 0 ts && stretchesKept 0 ts)
+measured ts = leb (length ts) mostTokens && (bracketsKept 0 ts && stretchesKept 0 ts)

@@ -6,8 +6,8 @@ use lib.ListN.{length, drop, getD}
 use lib.Dec.{eqb, leb}
 use Rattle.answer.specs.declared.Answer.{Answer}
 use Rattle.answer.specs.declared.Answer.the-variants.{Taken, BadToken, TooLarge}
-use Rattle.tokens.specs.Bytes.{Got, none, some, tokenFrom, tokensOf}
-use Rattle.tokens.specs.Measures.{opened, since, bracketsKept, stretchesKept}
+use Rattle.tokens.specs.Scanning.{Got, none, some, tokenFrom, tokensOf}
+use Rattle.tokens.specs.Measures.{mostTokens, mostBrackets, longestStretch, opened, since, bracketsKept, stretchesKept}
 use Rattle.tokens.specs.declared.Token.{Token}
 use Rattle.tokens.specs.declared.Measure.{Measure}
 use Rattle.tokens.specs.declared.Found.{Found}
@@ -26,11 +26,11 @@ measure c o r f = record { count = c; depth = o; run = r; fits = f }
 unfoldable pub next : Measure → ℕ → Measure
 next m k =
     measure (m .count + 1) (opened (m .depth) k) (since (m .run) k)
-    (m .fits && (leb (opened (m .depth) k) 24 && leb (since (m .run) k) 128))
+    (m .fits && (leb (opened (m .depth) k) mostBrackets && leb (since (m .run) k) longestStretch))
 
 -- whether tokens that follow keep the measures too
 abbrev pub kept : Measure → List Token → Bool
-kept m ts = m .fits && (leb (m .count + length ts) 2048 && (bracketsKept (m .depth) ts && stretchesKept (m .run) ts))
+kept m ts = m .fits && (leb (m .count + length ts) mostTokens && (bracketsKept (m .depth) ts && stretchesKept (m .run) ts))
 
 -- the answer and the number of tokens, where m was measured and the tokens left are those got
 abbrev pub finished : Measure → Got → Found

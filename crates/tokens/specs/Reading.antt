@@ -8,8 +8,8 @@ use lib.Ieee.{Float}
 use Rattle.answer.specs.declared.Answer.{Answer}
 use Rattle.answer.specs.declared.Answer.the-variants.{Taken, BadToken, TooLarge}
 use Rattle.tokens.specs.Token.{zeroF}
-use Rattle.tokens.specs.Bytes.{Got, none, some, tokensOf}
-use Rattle.tokens.specs.Measures.{kindOf, measured}
+use Rattle.tokens.specs.Scanning.{Got, none, some, tokensOf}
+use Rattle.tokens.specs.Measures.{longest, mostTokens, kindOf, measured}
 use Rattle.tokens.specs.declared.Token.{Token}
 use Rattle.tokens.specs.declared.Token.the-variants.{Number, Symbol, Whole, Sign}
 use Rattle.tokens.specs.declared.Tokens.{Tokens}
@@ -29,7 +29,7 @@ realOf (Sign k) = zeroF
 
 -- an array of 2,048 that starts with some elements, and else holds d
 abbrev pub padded : {A : Type 0} → A → List A → List A
-padded d xs = xs ++ drop (length xs) (replicate 2048 d)
+padded d xs = xs ++ drop (length xs) (replicate mostTokens d)
 
 abbrev pub stored : Answer → List Token → Tokens
 stored a ts =
@@ -42,4 +42,4 @@ judged (some ts) = cond (measured ts) (stored Taken ts) (stored TooLarge [])
 
 -- more than 16,384 bytes are 16, before anything else
 unfoldable pub readOf : List ℕ → Tokens
-readOf bs = cond (ltb 16384 (length bs)) (stored TooLarge []) (judged (tokensOf bs))
+readOf bs = cond (ltb longest (length bs)) (stored TooLarge []) (judged (tokensOf bs))

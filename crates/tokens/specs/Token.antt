@@ -4,13 +4,14 @@ use mathlib.Core.Bool.{cond}
 use mathlib.Core.List.{List, [], _∷_}
 use lib.ListN.{getD, drop}
 use lib.Dec.{eqb}
-use lib.Ieee.{Float, binary32, ofBits}
+use lib.Ieee.{Float}
+use Rattle.float32.specs.Builtins.{zeroF as plusZero}
 use Rattle.tokens.specs.declared.Token.{Token}
 use Rattle.tokens.specs.declared.Token.the-variants.{Number, Symbol, Whole, Sign}
 
--- +0
+-- what a token without a float has
 abbrev pub zeroF : Float
-zeroF = ofBits binary32 0
+zeroF = plusZero
 
 -- 0xF0 a symbol, 0xF1 a float, 0xF2 a whole number; any other kind is a sign, by its number
 abbrev pub tokenOf : ℕ → ℕ → Float → Token

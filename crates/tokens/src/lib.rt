@@ -10,10 +10,31 @@ ghost use lib.ListN.{getD, drop, length};
 ghost use Rattle.answer.specs.declared.Answer.the-variants.{Taken, BadToken};
 ghost use Rattle.timebase.specs.Time.{finiteBits};
 ghost use Rattle.tokens.specs.Token.{tokenAt, zeroF};
-ghost use Rattle.tokens.specs.Bytes.{twoOf, fourOf, more as moreOf, lawful, tokensOf};
+ghost use Rattle.tokens.specs.Spelling.{lawful};
+ghost use Rattle.tokens.specs.Scanning.{twoOf, fourOf, more as moreOf, tokensOf};
 ghost use Rattle.tokens.specs.Measures.{opened as openedOf, since as sinceOf};
 ghost use Rattle.tokens.specs.Passes.{standing, found, next as nextOf, closedOf, scanned};
 ghost use Rattle.tokens.specs.Reading.{wordOf, realOf, stored, judged, readOf};
+
+// The first bytes of tokens that are no signs, and of the end.
+const SYMBOL: u8 = 0xf0;
+
+const NUMBER: u8 = 0xf1;
+
+const WHOLE: u8 = 0xf2;
+
+const END: u8 = 0xff;
+
+// Document 01's sizes.
+const MOST_BYTES: usize = 16384;
+
+const MOST_TOKENS: usize = 2048;
+
+const MOST_BRACKETS: usize = 24;
+
+const LONGEST_STRETCH: usize = 128;
+
+const WHOLE_LIMIT: u32 = 16777217;
 
 pub enum Token {
     Number(f32),
@@ -54,15 +75,15 @@ pub fn token_at(kinds: &[u8], words: &[u32], reals: &[f32], at: usize) -> Token
     ensures { λ r. ⌜ r ≡ tokenAt (now (kinds .entry)) (now (words .entry)) (now (reals .entry)) at ⌝ }
 {
     let k = byte_at(kinds, at);
-    if k == 0xf0 {
+    if k == SYMBOL {
         let w = word_at(words, at);
         return Token::Symbol((w % 65536) as u16);
     }
-    if k == 0xf1 {
+    if k == NUMBER {
         let x = real_at(reals, at);
         return Token::Number(x);
     }
-    if k == 0xf2 {
+    if k == WHOLE {
         let w = word_at(words, at);
         return Token::Whole(w);
     }
@@ -101,13 +122,13 @@ fn more(k: u8) -> usize
     ensures low { λ r. ⌜ r ≤ 4 ⌝ }
     ensures is { λ r. ⌜ r ≡ moreOf k ⌝ }
 {
-    if k == 0xf0 {
+    if k == SYMBOL {
         return 2;
     }
-    if k == 0xf1 {
+    if k == NUMBER {
         return 4;
     }
-    if k == 0xf2 {
+    if k == WHOLE {
         return 4;
     }
     0
@@ -128,19 +149,19 @@ fn is_lawful(bytes: &[u8], at: usize) -> bool
     ensures { λ r. ⌜ r ≡ lawful (standing (now (bytes .entry)) at) ⌝ }
 {
     let k = byte_at(bytes, at);
-    if k == 0xf0 {
+    if k == SYMBOL {
         return true;
     }
-    if k == 0xf1 {
+    if k == NUMBER {
         return is_finite(four_at(bytes, at + 1));
     }
-    if k == 0xf2 {
-        return four_at(bytes, at + 1) < 16777217;
+    if k == WHOLE {
+        return four_at(bytes, at + 1) < WHOLE_LIMIT;
     }
     if k == 0 {
         return false;
     }
-    k <= 36
+    k <= signs::SIGNS
 }
 
 // What is counted of the tokens so far: how many, how many brackets are open, how many since the last of ; { } or the
@@ -157,19 +178,19 @@ fn opened(n: usize, k: u8) -> usize
     ensures low { λ r. ⌜ r ≤ n + 1 ⌝ }
     ensures is { λ r. ⌜ r ≡ openedOf n k ⌝ }
 {
-    if k == 15 {
+    if k == signs::ROUND_OPEN {
         return n + 1;
     }
-    if k == 17 {
+    if k == signs::CURLY_OPEN {
         return n + 1;
     }
     if n == 0 {
         return 0;
     }
-    if k == 16 {
+    if k == signs::ROUND_CLOSE {
         return n - 1;
     }
-    if k == 18 {
+    if k == signs::CURLY_CLOSE {
         return n - 1;
     }
     n
@@ -180,13 +201,13 @@ fn since(n: usize, k: u8) -> usize
     ensures low { λ r. ⌜ r ≤ n + 1 ⌝ }
     ensures is { λ r. ⌜ r ≡ sinceOf n k ⌝ }
 {
-    if k == 20 {
+    if k == signs::SEMICOLON {
         return 0;
     }
-    if k == 17 {
+    if k == signs::CURLY_OPEN {
         return 0;
     }
-    if k == 18 {
+    if k == signs::CURLY_CLOSE {
         return 0;
     }
     n + 1
@@ -196,8 +217,8 @@ fn since(n: usize, k: u8) -> usize
 fn limited(fits: bool, depth: usize, run: usize) -> bool
     ensures { λ r. ⌜ r ≡ (fits && (leb depth 24 && leb run 128)) ⌝ }
 {
-    if depth <= 24 {
-        if run <= 128 {
+    if depth <= MOST_BRACKETS {
+        if run <= LONGEST_STRETCH {
             return fits;
         }
     }
@@ -244,7 +265,7 @@ fn closed(m: Measure, left: usize) -> Found
     }
     let count = m.count;
     if m.fits {
-        if count <= 2048 {
+        if count <= MOST_TOKENS {
             return Found {
                 answer: Answer::Taken,
                 count: count,
@@ -270,7 +291,7 @@ fn scan(bytes: &[u8]) -> Found
     let mut at: usize = 0;
     while at < bytes.len() {
         let k = bytes[at];
-        if k == 0xff {
+        if k == END {
             return closed(m, bytes.len() - at);
         }
         let listed = is_lawful(bytes, at);
@@ -289,10 +310,10 @@ fn word_from(bytes: &[u8], at: usize) -> u32
     ensures { λ r. ⌜ r ≡ wordOf (standing (now (bytes .entry)) at) ⌝ }
 {
     let k = byte_at(bytes, at);
-    if k == 0xf0 {
+    if k == SYMBOL {
         return two_at(bytes, at + 1);
     }
-    if k == 0xf2 {
+    if k == WHOLE {
         return four_at(bytes, at + 1);
     }
     0
@@ -303,7 +324,7 @@ fn real_from(bytes: &[u8], at: usize) -> f32
     ensures { λ r. ⌜ r ≡ realOf (standing (now (bytes .entry)) at) ⌝ }
 {
     let k = byte_at(bytes, at);
-    if k == 0xf1 {
+    if k == NUMBER {
         match timebase::value_of(four_at(bytes, at + 1)) {
             Checked::Value(x) => {
                 return x;
@@ -359,7 +380,7 @@ fn store(bytes: &[u8], count: usize) -> Tokens
 pub fn read(bytes: &[u8]) -> Tokens
     ensures { λ r. ⌜ r ≡ readOf (now (bytes .entry)) ⌝ }
 {
-    if 16384 < bytes.len() {
+    if MOST_BYTES < bytes.len() {
         return refused(Answer::TooLarge);
     }
     let f = scan(bytes);

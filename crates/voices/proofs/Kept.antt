@@ -10,9 +10,9 @@ use lib.Ieee.{Float, binary32, add, fits}
 use lib.Ieee.Fits.{add-fits}
 use Rattle.syntax.specs.Tree.{Statements, done, assign, output, branch}
 use Rattle.syntax.specs.Program.{zeroF}
-use Rattle.syntax.specs.Rates.{rateOf, placeOf}
+use Rattle.syntax.specs.Placed.{rateOf, placeOf}
 use Rattle.float32.specs.Builtins.{truth}
-use Rattle.meaning.specs.Meaning.{value, aRate, Sounding, sounding, assigned, outputs, pass, fresh, birth, kPass, aPasses}
+use Rattle.meaning.specs.Placed.{value, aRate, Sounding, sounding, assigned, outputs, pass, fresh, birth, kPass, aPasses}
 use Rattle.lowered.specs.Statements.{AllFit}
 use Rattle.sounding.specs.Voices.{named}
 

@@ -5,7 +5,7 @@ use Prim.Native.Nat.{ℕ}
 use lib.ListN.{length}
 use lib.Ieee.{Float}
 use Rattle.syntax.specs.Tree.{Instrument}
-use Rattle.meaning.specs.Meaning.{birth, kPass, cycle}
+use Rattle.meaning.specs.Placed.{birth, kPass, cycle}
 use Rattle.synth.specs.Passes.{stretch, freshOf, once, played}
 use Rattle.lowered.specs.Statements.{AllFit}
 use Rattle.sounding.specs.declared.Instrument as row

@@ -8,9 +8,9 @@ use lib.ListN.{length, set}
 use lib.Ieee.{Float, binary32, add}
 use Rattle.syntax.specs.Tree.{Instrument, Statements, done, assign, output, branch}
 use Rattle.syntax.specs.Program.{zeroF}
-use Rattle.syntax.specs.Rates.{rateOf, placeOf}
+use Rattle.syntax.specs.Placed.{rateOf, placeOf}
 use Rattle.float32.specs.Builtins.{truth}
-use Rattle.meaning.specs.Meaning.{value, aRate, Sounding, sounding, assigned, outputs, pass, kPass, Played, aPasses, cycle}
+use Rattle.meaning.specs.Placed.{value, aRate, Sounding, sounding, assigned, outputs, pass, kPass, Played, aPasses, cycle}
 use Rattle.meaning.specs.Outputs.{afterPass, outputsOf, outputsIn, afterPasses}
 use Rattle.players.specs.Lists.{fold}
 use Rattle.players.specs.Results.{withOutputs, Adding, SamplesSum}

@@ -6,7 +6,8 @@ use Prim.Native.Nat.{ℕ}
 use lib.Dec.{eqb}
 use lib.Ieee.{Float}
 use Rattle.syntax.specs.Tree.{Instrument, done}
-use Rattle.syntax.specs.Names.{has, titleOf, put, named, namedBy}
+use Rattle.syntax.specs.Names.{has, titleOf, named, namedBy}
+use Rattle.syntax.specs.Placed.{put}
 use Rattle.bounds.proofs.Sounding.{sounds}
 use Rattle.lowered.specs.Lowered.{lowered}
 use Rattle.lowered.specs.Statements.{Playable}

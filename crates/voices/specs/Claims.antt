@@ -10,7 +10,7 @@ use Rattle.score_line.specs.declared.Line.{Line}
 use Rattle.score_line.specs.declared.Event.{Event}
 use Rattle.syntax.specs.Tree.{Instrument, importsKind}
 use Rattle.syntax.specs.Names.{Named, namesOf}
-use Rattle.meaning.specs.Meaning.{kPass}
+use Rattle.meaning.specs.Placed.{kPass}
 use Rattle.meaning.specs.Outputs.{outputsIn as ofPasses, afterPasses}
 use Rattle.players.specs.Cycle.{Voices, Note}
 use Rattle.players.specs.Holds.{Settings}

@@ -6,8 +6,9 @@ use lib.ListN.{length, take, replicate}
 use lib.Dec.{eqb}
 use lib.Ieee.{Float}
 use Rattle.syntax.specs.Tree.{Statements, done, Instrument, importsKind}
-use Rattle.syntax.specs.Names.{Named, has, titleOf, namesOf, placed}
-use Rattle.meaning.specs.Meaning.{places, birth, cycle}
+use Rattle.syntax.specs.Names.{Named, has, titleOf, namesOf}
+use Rattle.syntax.specs.Placed.{placed}
+use Rattle.meaning.specs.Placed.{places, birth, cycle}
 use Rattle.score_line.specs.declared.Event.{Event}
 use Rattle.score_line.specs.declared.Event.the-variants.{Instr, Control, End, Tempo}
 use Rattle.waiting.specs.declared.Fields.{Fields}

@@ -18,14 +18,15 @@ use Rattle.timebase.specs.Range as timebase-range
 use Rattle.timebase.specs.Time as timebase-time
 use Rattle.tokens.specs.declared.Token.{Token}
 use Rattle.tokens.specs.declared.Token.the-variants.{Symbol, Sign}
-use Rattle.tokens.specs.Bytes.{tokensAfter, tokenFrom}
+use Rattle.tokens.specs.Spelling.{allLawful, spelt, bytesOf}
 use Rattle.tokens.specs.Measures.{opened, since, bracketsKept, stretchesKept}
-use Rattle.syntax.specs.Names.{named, namedBy, has, apart, knownIn, known, eachKept, placeFrom, putIn, put}
-use Rattle.syntax.specs.Rates.{rate, ratesKept, rateRules}
-use Rattle.expressions.specs.Grammar.{named as a·name, sides, plus}
-use Rattle.grammar.specs.Grammar.{none, set, out, either, one, none as no·fields, some as some·fields, ivar, asig, imports, none as no·decls, some as some·decls, is, Orchestra, last, next}
+use Rattle.syntax.specs.Names.{named, namedBy, has, apart, knownIn, known, eachKept}
+use Rattle.syntax.specs.Placed.{placeFrom, putIn, put}
+use Rattle.syntax.specs.Rates.{rateOf, rate, ratesKept, rateRules}
+use Rattle.syntax.specs.Grammar.{named as a·name, sides, plus}
+use Rattle.syntax.specs.Grammar.{none, set, out, either, one, none as no·fields, some as some·fields, ivar, asig, imports, none as no·decls, some as some·decls, is, Orchestra, last, next}
 use Rattle.orchestra.specs.Verdict.{Sized, Accepted}
-use Rattle.meaning.specs.Meaning.{value, assigned, outputs, pass, fresh, birth, kPass, aPasses, cycle}
+use Rattle.meaning.specs.Placed.{value, assigned, outputs, pass, fresh, birth, kPass, aPasses, cycle}
 use Rattle.players.specs.Lists.{keep, fold, each}
 use Rattle.players.specs.Cycle.{isDue, insert, ordered, anyEnd, lastTempo, limited, joinedBy, goesOn, born, started, controlledBy, controlled, runFrom, runAll}
 use Rattle.players.specs.Holds.{sixty, dueAt, laterThan, endsBy, answerOf, startedOf, bandOf, blockOf, played, cycled}
@@ -52,8 +53,8 @@ tokens =
     ∷ Sign 1 ∷ Symbol 6 ∷ Sign 15 ∷ Sign 16 ∷ Sign 17 ∷ Sign 18 ∷ []
 
 sized : Sized bytes tokens
-unfolding tokensAfter tokenFrom opened since bracketsKept stretchesKept ofBits fits size
-sized = record { short = omega arith; tokens = refl; within = refl }
+unfolding allLawful spelt bytesOf opened since bracketsKept stretchesKept ofBits fits size
+sized = record { short = omega arith; spells = record { listed = refl; spelt = refl }; within = refl }
 
 derived : Orchestra tree tokens
 derived =
@@ -65,7 +66,7 @@ derived =
     (last (is 6 no·fields no·decls none))
 
 accepted : Accepted bytes tree
-unfolding named namedBy has apart knownIn known eachKept placeFrom putIn put rate ratesKept rateRules
+unfolding named namedBy has apart knownIn known eachKept rateOf rate ratesKept rateRules
 accepted = record { tokens = tokens; sized = sized; derived = derived; named = refl; rated = refl }
 
 -- what the three doors read

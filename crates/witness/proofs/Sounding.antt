@@ -2,17 +2,18 @@
 use mathlib.Core.Path.{refl}
 use mathlib.Core.List.{List, [], _∷_}
 use native.Mathlib.Omega.{arith}
-use lib.Ieee.{binary32, ofBits, fits, size, add, mul, round, lt, le, eq}
+use lib.Ieee.{binary32, ofBits, toBits, fits, size, add, mul, round, lt, le, eq}
 use Rattle.tokens.specs.declared.Token.{Token}
 use Rattle.tokens.specs.declared.Token.the-variants.{Number, Symbol, Sign}
-use Rattle.tokens.specs.Bytes.{tokensAfter, tokenFrom}
+use Rattle.tokens.specs.Spelling.{allLawful, spelt, bytesOf}
 use Rattle.tokens.specs.Measures.{opened, since, bracketsKept, stretchesKept}
-use Rattle.syntax.specs.Names.{named, namedBy, has, apart, knownIn, known, eachKept, placeFrom, putIn, put}
-use Rattle.syntax.specs.Rates.{rate, ratesKept, rateRules}
-use Rattle.expressions.specs.Grammar.{real, named as a·name, sides, plus}
-use Rattle.grammar.specs.Grammar.{none, set, out, one, none as no·fields, ksig, none as no·decls, some as some·decls, is, Orchestra, last}
+use Rattle.syntax.specs.Names.{named, namedBy, has, apart, knownIn, known, eachKept}
+use Rattle.syntax.specs.Placed.{placeFrom, putIn, put}
+use Rattle.syntax.specs.Rates.{rateOf, rate, ratesKept, rateRules}
+use Rattle.syntax.specs.Grammar.{real, named as a·name, sides, plus}
+use Rattle.syntax.specs.Grammar.{none, set, out, one, none as no·fields, ksig, none as no·decls, some as some·decls, is, Orchestra, last}
 use Rattle.orchestra.specs.Verdict.{Sized, Accepted}
-use Rattle.meaning.specs.Meaning.{value, assigned, outputs, pass, fresh, birth, kPass, aPasses, cycle}
+use Rattle.meaning.specs.Placed.{value, assigned, outputs, pass, fresh, birth, kPass, aPasses, cycle}
 use Rattle.players.specs.Lists.{keep, fold, each}
 use Rattle.players.specs.Cycle.{isDue, insert, ordered, anyEnd, lastTempo, limited, joinedBy, goesOn, born, started, controlledBy, controlled, runFrom, runAll}
 use Rattle.players.specs.Holds.{sixty, dueAt, laterThan, endsBy, answerOf, startedOf, bandOf, blockOf, played, cycled}
@@ -30,8 +31,8 @@ tokens =
     ∷ Sign 20 ∷ Sign 6 ∷ Sign 15 ∷ Symbol 2 ∷ Sign 16 ∷ Sign 20 ∷ Sign 18 ∷ []
 
 sized : Sized bytes tokens
-unfolding tokensAfter tokenFrom opened since bracketsKept stretchesKept ofBits fits size
-sized = record { short = omega arith; tokens = refl; within = refl }
+unfolding allLawful spelt bytesOf opened since bracketsKept stretchesKept ofBits toBits fits size
+sized = record { short = omega arith; spells = record { listed = refl; spelt = refl }; within = refl }
 
 derived : Orchestra tree tokens
 derived =
@@ -39,7 +40,7 @@ derived =
     (set 2 (sides {m = 0} {l = 5} plus (omega arith) (a·name 2) (real (ofBits binary32 0x3e800000))) (out (a·name 2) none)))
 
 accepted : Accepted bytes tree
-unfolding named namedBy has apart knownIn known eachKept placeFrom putIn put rate ratesKept rateRules
+unfolding named namedBy has apart knownIn known eachKept rateOf rate ratesKept rateRules
 accepted = record { tokens = tokens; sized = sized; derived = derived; named = refl; rated = refl }
 
 pub growing-sounds : Sounds

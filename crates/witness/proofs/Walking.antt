@@ -8,8 +8,9 @@ use lib.IntN.{ℤ, pos}
 use lib.Dec.{eqb}
 use lib.ListN.{replicate}
 use lib.Ieee.{binary32, ofBits, fits, size, add, mul, round, lt, le, eq, ne}
-use Rattle.syntax.specs.Names.{named, namedBy, has, apart, knownIn, known, eachKept, placeFrom, putIn, put}
-use Rattle.meaning.specs.Meaning.{value, assigned, outputs, pass, fresh as freshValues, birth, kPass, aPasses, cycle as noteCycle}
+use Rattle.syntax.specs.Names.{named, namedBy, has, apart, knownIn, known, eachKept}
+use Rattle.syntax.specs.Placed.{placeFrom, putIn, put}
+use Rattle.meaning.specs.Placed.{value, assigned, outputs, pass, fresh as freshValues, birth, kPass, aPasses, cycle as noteCycle}
 use Rattle.players.specs.Lists.{keep, fold, each, All}
 use Rattle.players.specs.Cycle.{isDue, insert, ordered, anyEnd, lastTempo, limited, joinedBy, goesOn, born, started, controlledBy, controlled, runFrom, runAll}
 use Rattle.players.specs.Holds.{Counts, behind, sixty, dueAt, laterThan, endsBy, answerOf, startedOf, bandOf, blockOf, played, cycled}

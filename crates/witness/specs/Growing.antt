@@ -7,6 +7,7 @@ use lib.IntN.{pos}
 use lib.ListN.{replicate}
 use lib.Ieee.{binary32, ofBits}
 use Rattle.syntax.specs.Tree.{number, name, binary, done, assign, output, Instrument, ksigKind}
+use Rattle.signs.specs.Operators.{Binary}
 use Rattle.orchestra.specs.Verdict.{Accepted}
 use Rattle.score_line.specs.declared.When.the-variants.{Timed}
 use Rattle.score_line.specs.declared.Label.the-variants.{Unlabelled}
@@ -33,7 +34,7 @@ tree =
       name = 1;
       fields = [];
       declarations = record { kind = ksigKind; names = 2 ∷ [] } ∷ [];
-      body = assign 2 (binary 32 (name 2) (number (ofBits binary32 0x3e800000))) (output (name 2) done);
+      body = assign 2 (binary Binary.plus (name 2) (number (ofBits binary32 0x3e800000))) (output (name 2) done);
     } ∷ []
 
 -- one line: a note of s1 from beat 0, without end

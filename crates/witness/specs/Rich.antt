@@ -8,6 +8,7 @@ use lib.IntN.{ℤ, pos}
 use lib.ListN.{replicate}
 use lib.Ieee.{Float, binary32, ofBits}
 use Rattle.answer.specs.declared.Answer.the-variants.{Taken}
+use Rattle.signs.specs.Operators.{Binary}
 use Rattle.syntax.specs.Tree.{name, binary, done, assign, output, branch, Instrument, ivarKind, asigKind, importsKind}
 use Rattle.orchestra.specs.Verdict.{Accepted}
 use Rattle.score_line.specs.declared.When.the-variants.{Timed}
@@ -51,8 +52,8 @@ tree =
           ∷ record { kind = importsKind; names = 5 ∷ [] }
           ∷ [];
       body =
-          assign 3 (binary 32 (name 2) (name 2))
-          (branch (name 5) (assign 4 (binary 32 (name 3) (name 5)) done) (assign 4 (name 3) done) (output (name 4) done));
+          assign 3 (binary Binary.plus (name 2) (name 2))
+          (branch (name 5) (assign 4 (binary Binary.plus (name 3) (name 5)) done) (assign 4 (name 3) done) (output (name 4) done));
     }
     ∷ record { name = 6; fields = []; declarations = []; body = done }
     ∷ []

@@ -46,7 +46,7 @@ module _ (t : ℕ) where
       let s = c₁ .before .before .before .before .before .before .before in
       let T = toks (s .args .kinds .now) (s .args .words .now) (s .args .reals .now) in
       runs-seq (λ p. seq (reader .expr 0 p) (λ q. seq (sign 16 q) (Reader.emit (ins (s .args .op))))) (runs-sign T (s .args .s) (s .args .got) (sym (c .enum-told .given .1) ∙ c₁ .pass .ensures))
-      (gone refl refl)
+      (gone refl refl refl)
 
   last-expr-requires : last-lts.Need-expr-requires K-last (last-at t) last.Post
   last-expr-requires c κs =

@@ -1,3 +1,5 @@
+use mathlib.Core.Path.{refl}
+use Rattle.expressions.proofs.Tables.{sign-starts}
 use borrow.Author.Tests.{ne-eqb}
 use Rattle.expressions.proofs.Moves.{whole-head}
 use borrow.Author.Needs.{needs}
@@ -38,27 +40,27 @@ returns-3 c = search whole-head
 
 -- src/lib.rt:35:1
 returns-4 : tie.Need-returns-4
-returns-4 c = search needs
+returns-4 c = sign-starts 9 refl (c .before .before .t4 .given .1) (c .match2 .keys1)
 
 -- src/lib.rt:35:1
 returns-5 : tie.Need-returns-5
-returns-5 c = search needs
+returns-5 c = sign-starts 10 refl (c .before .before .t4 .given .1) (c .match2 .keys2)
 
 -- src/lib.rt:35:1
 returns-6 : tie.Need-returns-6
-returns-6 c = search needs
+returns-6 c = sign-starts 11 refl (c .before .before .t4 .given .1) (c .match2 .keys3)
 
 -- src/lib.rt:35:1
 returns-7 : tie.Need-returns-7
-returns-7 c = search needs
+returns-7 c = sign-starts 12 refl (c .before .before .t4 .given .1) (c .match2 .keys4)
 
 -- src/lib.rt:35:1
 returns-8 : tie.Need-returns-8
-returns-8 c = search needs
+returns-8 c = sign-starts 13 refl (c .before .before .t4 .given .1) (c .match2 .keys5)
 
 -- src/lib.rt:35:1
 returns-9 : tie.Need-returns-9
-returns-9 c = search needs
+returns-9 c = sign-starts 14 refl (c .before .before .t4 .given .1) (c .match2 .keys6)
 
 -- src/lib.rt:35:1
 returns-10 : tie.Need-returns-10
@@ -66,11 +68,11 @@ returns-10 c = search needs
 
 -- src/lib.rt:35:1
 returns-11 : tie.Need-returns-11
-returns-11 c = search needs
+returns-11 c = sign-starts 33 refl (c .before .before .t4 .given .1) (c .match2 .keys8)
 
 -- src/lib.rt:35:1
 returns-12 : tie.Need-returns-12
-returns-12 c = search needs
+returns-12 c = sign-starts 36 refl (c .before .before .t4 .given .1) (c .match2 .keys9)
 
 -- src/lib.rt:35:1
 returns-13 : tie.Need-returns-13

@@ -1,3 +1,5 @@
+use mathlib.Core.Path.{refl}
+use Rattle.expressions.proofs.Tables.{sign-goes-on}
 use borrow.Author.Tests.{ne-eqb}
 use borrow.Author.Needs.{needs}
 use Rattle.expressions.proofs.tail_of.Statement.{statement}
@@ -25,51 +27,51 @@ returns c = search needs
 
 -- src/lib.rt:60:1
 returns-2 : tie.Need-returns-2
-returns-2 c = search needs
+returns-2 c = sign-goes-on 24 refl (c .before .before .t .given .1) (c .match2 .keys2)
 
 -- src/lib.rt:60:1
 returns-3 : tie.Need-returns-3
-returns-3 c = search needs
+returns-3 c = sign-goes-on 25 refl (c .before .before .t .given .1) (c .match2 .keys3)
 
 -- src/lib.rt:60:1
 returns-4 : tie.Need-returns-4
-returns-4 c = search needs
+returns-4 c = sign-goes-on 26 refl (c .before .before .t .given .1) (c .match2 .keys4)
 
 -- src/lib.rt:60:1
 returns-5 : tie.Need-returns-5
-returns-5 c = search needs
+returns-5 c = sign-goes-on 27 refl (c .before .before .t .given .1) (c .match2 .keys5)
 
 -- src/lib.rt:60:1
 returns-6 : tie.Need-returns-6
-returns-6 c = search needs
+returns-6 c = sign-goes-on 28 refl (c .before .before .t .given .1) (c .match2 .keys6)
 
 -- src/lib.rt:60:1
 returns-7 : tie.Need-returns-7
-returns-7 c = search needs
+returns-7 c = sign-goes-on 29 refl (c .before .before .t .given .1) (c .match2 .keys7)
 
 -- src/lib.rt:60:1
 returns-8 : tie.Need-returns-8
-returns-8 c = search needs
+returns-8 c = sign-goes-on 30 refl (c .before .before .t .given .1) (c .match2 .keys8)
 
 -- src/lib.rt:60:1
 returns-9 : tie.Need-returns-9
-returns-9 c = search needs
+returns-9 c = sign-goes-on 31 refl (c .before .before .t .given .1) (c .match2 .keys9)
 
 -- src/lib.rt:60:1
 returns-10 : tie.Need-returns-10
-returns-10 c = search needs
+returns-10 c = sign-goes-on 32 refl (c .before .before .t .given .1) (c .match2 .keys10)
 
 -- src/lib.rt:60:1
 returns-11 : tie.Need-returns-11
-returns-11 c = search needs
+returns-11 c = sign-goes-on 33 refl (c .before .before .t .given .1) (c .match2 .keys11)
 
 -- src/lib.rt:60:1
 returns-12 : tie.Need-returns-12
-returns-12 c = search needs
+returns-12 c = sign-goes-on 34 refl (c .before .before .t .given .1) (c .match2 .keys12)
 
 -- src/lib.rt:60:1
 returns-13 : tie.Need-returns-13
-returns-13 c = search needs
+returns-13 c = sign-goes-on 35 refl (c .before .before .t .given .1) (c .match2 .keys13)
 
 -- src/lib.rt:60:1
 returns-14 : tie.Need-returns-14

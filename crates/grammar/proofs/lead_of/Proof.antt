@@ -1,3 +1,5 @@
+use mathlib.Core.Path.{refl}
+use Rattle.grammar.proofs.Firsts.{sign-leads}
 use borrow.Author.Tests.{ne-eqb}
 use borrow.Author.Needs.{needs}
 use Rattle.grammar.proofs.lead_of.Statement.{statement}
@@ -33,15 +35,15 @@ returns-3 c = search needs
 
 -- src/lib.rt:44:1
 returns-4 : tie.Need-returns-4
-returns-4 c = search needs
+returns-4 c = sign-leads 2 refl (c .before .before .t .given .1) (c .match2 .keys1)
 
 -- src/lib.rt:44:1
 returns-5 : tie.Need-returns-5
-returns-5 c = search needs
+returns-5 c = sign-leads 3 refl (c .before .before .t .given .1) (c .match2 .keys2)
 
 -- src/lib.rt:44:1
 returns-6 : tie.Need-returns-6
-returns-6 c = search needs
+returns-6 c = sign-leads 4 refl (c .before .before .t .given .1) (c .match2 .keys3)
 
 -- src/lib.rt:44:1
 returns-7 : tie.Need-returns-7

@@ -5,7 +5,7 @@ use Rattle.orchestra.proofs.parsed.Statement.{statement}
 use Rattle.orchestra.proofs.parsed.Tie as tie
 use Rattle.orchestra.proofs.parsed.Reads as reads
 use Rattle.orchestra.proofs.parsed.Lts as lts
-use Rattle.instruments.proofs.orchestra.Reads as orchestra-reads
+use Rattle.instrument_reader.proofs.orchestra.Reads as orchestra-reads
 use Rattle.orchestra.proofs.finished.Reads as finished-reads
 use Rattle.orchestra.proofs.refused.Reads as refused-reads
 

@@ -17,5 +17,8 @@ returns-2 c = (omega arith, search (le-leb, lt-leb, eq-eqb, ne-eqb))
 returns-3 : tie.Need-returns-3
 returns-3 c = (omega arith, search (le-leb, lt-leb, eq-eqb, ne-eqb))
 
+returns-4 : tie.Need-returns-4
+returns-4 c = (omega arith, search (le-leb, lt-leb, eq-eqb, ne-eqb))
+
 pub rate-of-kind-spec : {M : Type 1} → statement M
-rate-of-kind-spec = tie.close (tie.spec returns returns-2 returns-3)
+rate-of-kind-spec = tie.close (tie.spec returns returns-2 returns-3 returns-4)

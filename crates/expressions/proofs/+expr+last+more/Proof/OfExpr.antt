@@ -32,7 +32,7 @@ module _ (t : ℕ) where
   expr-enum-told c = search needs
 
   pub expr-returns : expr-lts.Need-returns K-expr (expr-at t) expr.Post
-  expr-returns c = gone (c .enum-told .given .1) refl
+  expr-returns c = gone (c .enum-told .given .1) refl refl
 
   pub expr-head-at-requires : expr-lts.Need-head-at-requires K-expr (expr-at t) expr.Post
   expr-head-at-requires c κs = search needs

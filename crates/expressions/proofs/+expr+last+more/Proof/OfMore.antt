@@ -31,7 +31,7 @@ module _ (t : ℕ) where
   more-enum-told c = search needs
 
   pub more-returns : more-lts.Need-returns K-more (more-at t) more.Post
-  more-returns c = gone (c .enum-told .given .1) refl
+  more-returns c = gone (c .enum-told .given .1) refl refl
 
   pub more-tail-at-requires : more-lts.Need-tail-at-requires K-more (more-at t) more.Post
   more-tail-at-requires c κs = search needs

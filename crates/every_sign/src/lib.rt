@@ -1,0 +1,1 @@
+// One orchestra that uses every sign, worked out by proof. There is no code here.

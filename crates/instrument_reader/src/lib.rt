@@ -1,0 +1,241 @@
+// The reader of the whole orchestra: from tokens to the program of its tree.
+use expressions::Got;
+use grammar::Lead;
+use grammar::Word;
+ghost use lib.ListN.{length};
+ghost use Rattle.tokens.specs.Token.{toks};
+ghost use Rattle.expressions.specs.Areas.{areas, Holds, Ready, Runs};
+ghost use Rattle.grammar.specs.Reader.{name, names, listed, declarations, fields, header, body, instrument, orchestra};
+ghost use Rattle.instrument_reader.specs.Reading.{Reads};
+
+// A name that must be there, as an instruction.
+fn name(
+    kinds: &[u8],
+    words: &[u32],
+    reals: &[f32],
+    got: Got,
+    op: u8,
+    ops: &mut [u8],
+    args: &mut [u16],
+    vals: &mut [f32],
+) -> Got
+    requires { ⌜ Ready (toks (now kinds) (now words) (now reals)) 0 got (areas (now ops) (now args) (now vals)) ⌝ }
+    ensures { λ r. ⌜ Runs (toks (now (kinds .entry)) (now (words .entry)) (now (reals .entry))) (name op) got (areas (now (ops .entry)) (now (args .entry)) (now (vals .entry))) r (areas (now (ops .exit)) (now (args .exit)) (now (vals .exit))) ⌝ }
+{
+    let Got::Next(at, out) = got else {
+        return Got::Refused;
+    };
+    match grammar::word_at(kinds, words, reals, at) {
+        Word::Is(n) => expressions::emit(ops, args, vals, Got::Next(at + 1, out), op, n, 0.0),
+        Word::Not => Got::Refused,
+    }
+}
+
+// One or more names parted by commas.
+fn names(
+    kinds: &[u8],
+    words: &[u32],
+    reals: &[f32],
+    got: Got,
+    kind: u8,
+    ops: &mut [u8],
+    args: &mut [u16],
+    vals: &mut [f32],
+) -> Got
+    requires { ⌜ Ready (toks (now kinds) (now words) (now reals)) 0 got (areas (now ops) (now args) (now vals)) ⌝ }
+    ensures { λ r. ⌜ Runs (toks (now (kinds .entry)) (now (words .entry)) (now (reals .entry))) (names kind) got (areas (now (ops .entry)) (now (args .entry)) (now (vals .entry))) r (areas (now (ops .exit)) (now (args .exit)) (now (vals .exit))) ⌝ }
+{
+    let a = name(kinds, words, reals, got, kind, ops, args, vals);
+    let Got::Next(at, out) = a else {
+        return Got::Refused;
+    };
+    if expressions::sign_at(kinds, words, reals, at, signs::COMMA) {
+        names(
+            kinds,
+            words,
+            reals,
+            Got::Next(at + 1, out),
+            kind,
+            ops,
+            args,
+            vals,
+        )
+    } else {
+        a
+    }
+}
+
+// Names and ;
+fn listed(
+    kinds: &[u8],
+    words: &[u32],
+    reals: &[f32],
+    got: Got,
+    kind: u8,
+    ops: &mut [u8],
+    args: &mut [u16],
+    vals: &mut [f32],
+) -> Got
+    requires { ⌜ Ready (toks (now kinds) (now words) (now reals)) 0 got (areas (now ops) (now args) (now vals)) ⌝ }
+    ensures { λ r. ⌜ Runs (toks (now (kinds .entry)) (now (words .entry)) (now (reals .entry))) (listed kind) got (areas (now (ops .entry)) (now (args .entry)) (now (vals .entry))) r (areas (now (ops .exit)) (now (args .exit)) (now (vals .exit))) ⌝ }
+{
+    let a = names(kinds, words, reals, got, kind, ops, args, vals);
+    expressions::pass(kinds, words, reals, a, signs::SEMICOLON)
+}
+
+// Declarations, none or more, up to a token that starts none.
+fn declarations(
+    kinds: &[u8],
+    words: &[u32],
+    reals: &[f32],
+    got: Got,
+    ops: &mut [u8],
+    args: &mut [u16],
+    vals: &mut [f32],
+) -> Got
+    requires { ⌜ Ready (toks (now kinds) (now words) (now reals)) 0 got (areas (now ops) (now args) (now vals)) ⌝ }
+    ensures { λ r. ⌜ Runs (toks (now (kinds .entry)) (now (words .entry)) (now (reals .entry))) declarations got (areas (now (ops .entry)) (now (args .entry)) (now (vals .entry))) r (areas (now (ops .exit)) (now (args .exit)) (now (vals .exit))) ⌝ }
+{
+    let Got::Next(at, out) = got else {
+        return Got::Refused;
+    };
+    match grammar::lead_at(kinds, words, reals, at) {
+        Lead::Kind(k) => {
+            let a = listed(
+                kinds,
+                words,
+                reals,
+                Got::Next(at + 1, out),
+                k,
+                ops,
+                args,
+                vals,
+            );
+            declarations(kinds, words, reals, a, ops, args, vals)
+        }
+        Lead::Imports => {
+            let a = expressions::pass(kinds, words, reals, Got::Next(at + 1, out), signs::KSIG);
+            let b = listed(kinds, words, reals, a, signs::IMPORTS, ops, args, vals);
+            declarations(kinds, words, reals, b, ops, args, vals)
+        }
+        Lead::Stop => got,
+    }
+}
+
+// Names parted by commas, or none before )
+fn fields(
+    kinds: &[u8],
+    words: &[u32],
+    reals: &[f32],
+    got: Got,
+    ops: &mut [u8],
+    args: &mut [u16],
+    vals: &mut [f32],
+) -> Got
+    requires { ⌜ Ready (toks (now kinds) (now words) (now reals)) 0 got (areas (now ops) (now args) (now vals)) ⌝ }
+    ensures { λ r. ⌜ Runs (toks (now (kinds .entry)) (now (words .entry)) (now (reals .entry))) fields got (areas (now (ops .entry)) (now (args .entry)) (now (vals .entry))) r (areas (now (ops .exit)) (now (args .exit)) (now (vals .exit))) ⌝ }
+{
+    let Got::Next(at, _) = got else {
+        return Got::Refused;
+    };
+    if expressions::sign_at(kinds, words, reals, at, signs::ROUND_CLOSE) {
+        got
+    } else {
+        names(kinds, words, reals, got, syntax::FIELD, ops, args, vals)
+    }
+}
+
+// name ( fields )
+fn header(
+    kinds: &[u8],
+    words: &[u32],
+    reals: &[f32],
+    got: Got,
+    ops: &mut [u8],
+    args: &mut [u16],
+    vals: &mut [f32],
+) -> Got
+    requires { ⌜ Ready (toks (now kinds) (now words) (now reals)) 0 got (areas (now ops) (now args) (now vals)) ⌝ }
+    ensures { λ r. ⌜ Runs (toks (now (kinds .entry)) (now (words .entry)) (now (reals .entry))) header got (areas (now (ops .entry)) (now (args .entry)) (now (vals .entry))) r (areas (now (ops .exit)) (now (args .exit)) (now (vals .exit))) ⌝ }
+{
+    let a = name(kinds, words, reals, got, signs::INSTR, ops, args, vals);
+    let b = expressions::pass(kinds, words, reals, a, signs::ROUND_OPEN);
+    let c = fields(kinds, words, reals, b, ops, args, vals);
+    expressions::pass(kinds, words, reals, c, signs::ROUND_CLOSE)
+}
+
+// { declarations statements }
+fn body(
+    kinds: &[u8],
+    words: &[u32],
+    reals: &[f32],
+    got: Got,
+    ops: &mut [u8],
+    args: &mut [u16],
+    vals: &mut [f32],
+) -> Got
+    requires { ⌜ Ready (toks (now kinds) (now words) (now reals)) 0 got (areas (now ops) (now args) (now vals)) ⌝ }
+    ensures { λ r. ⌜ Runs (toks (now (kinds .entry)) (now (words .entry)) (now (reals .entry))) body got (areas (now (ops .entry)) (now (args .entry)) (now (vals .entry))) r (areas (now (ops .exit)) (now (args .exit)) (now (vals .exit))) ⌝ }
+{
+    let a = expressions::pass(kinds, words, reals, got, signs::CURLY_OPEN);
+    let b = declarations(kinds, words, reals, a, ops, args, vals);
+    let c = statement_reader::statements(kinds, words, reals, b, ops, args, vals);
+    expressions::pass(kinds, words, reals, c, signs::CURLY_CLOSE)
+}
+
+// An instrument.
+fn instrument(
+    kinds: &[u8],
+    words: &[u32],
+    reals: &[f32],
+    got: Got,
+    ops: &mut [u8],
+    args: &mut [u16],
+    vals: &mut [f32],
+) -> Got
+    requires { ⌜ Ready (toks (now kinds) (now words) (now reals)) 0 got (areas (now ops) (now args) (now vals)) ⌝ }
+    ensures { λ r. ⌜ Runs (toks (now (kinds .entry)) (now (words .entry)) (now (reals .entry))) instrument got (areas (now (ops .entry)) (now (args .entry)) (now (vals .entry))) r (areas (now (ops .exit)) (now (args .exit)) (now (vals .exit))) ⌝ }
+{
+    let a = expressions::pass(kinds, words, reals, got, signs::INSTR);
+    let b = header(kinds, words, reals, a, ops, args, vals);
+    body(kinds, words, reals, b, ops, args, vals)
+}
+
+// One or more instruments, and nothing after them.
+fn instruments(
+    kinds: &[u8],
+    words: &[u32],
+    reals: &[f32],
+    got: Got,
+    ops: &mut [u8],
+    args: &mut [u16],
+    vals: &mut [f32],
+) -> Got
+    requires { ⌜ Ready (toks (now kinds) (now words) (now reals)) 0 got (areas (now ops) (now args) (now vals)) ⌝ }
+    ensures { λ r. ⌜ Runs (toks (now (kinds .entry)) (now (words .entry)) (now (reals .entry))) orchestra got (areas (now (ops .entry)) (now (args .entry)) (now (vals .entry))) r (areas (now (ops .exit)) (now (args .exit)) (now (vals .exit))) ⌝ }
+{
+    let a = instrument(kinds, words, reals, got, ops, args, vals);
+    let Got::Next(at, _) = a else {
+        return Got::Refused;
+    };
+    if at < kinds.len() {
+        instruments(kinds, words, reals, a, ops, args, vals)
+    } else {
+        a
+    }
+}
+
+// The program of a whole orchestra, from the front of the three areas, each of which has a place for each token.
+pub fn orchestra(
+    kinds: &[u8],
+    words: &[u32],
+    reals: &[f32],
+    ops: &mut [u8],
+    args: &mut [u16],
+    vals: &mut [f32],
+) -> Got
+    requires { ⌜ Holds (length (now kinds)) (areas (now ops) (now args) (now vals)) ⌝ }
+    ensures { λ r. ⌜ Reads (toks (now (kinds .entry)) (now (words .entry)) (now (reals .entry))) (areas (now (ops .entry)) (now (args .entry)) (now (vals .entry))) r (areas (now (ops .exit)) (now (args .exit)) (now (vals .exit))) ⌝ }
+{
+    instruments(kinds, words, reals, Got::Next(0, 0), ops, args, vals)
+}

@@ -1,0 +1,281 @@
+-- Voices of two kinds of state that are related, birth by birth and run by run, give the same plain player.
+use mathlib.Core.Path.{_≡_, refl, sym, ap, _∙_, subst}
+use mathlib.Core.Bool.{Bool, true, false, not, cond, _&&_, _||_}
+use mathlib.Core.List.{List, [], _∷_, _++_}
+use Prim.Native.Nat.{ℕ, zero, suc, _+_}
+use lib.Dec.{ltb, eqb}
+use lib.ListN.{length, take, replicate}
+use lib.Ieee.{Float, binary32, ofBits}
+use Rattle.timebase.specs.Time.{cycleIn}
+use Rattle.score_line.specs.declared.Label.{Label}
+use Rattle.score_line.specs.declared.Event.{Event}
+use Rattle.score_line.specs.declared.Event.the-variants.{Instr, Control, End, Tempo}
+use Rattle.score_line.specs.declared.Line.{Line}
+use Rattle.players.specs.Lists.{keep, fold, each, All}
+use Rattle.players.specs.Cycle.{Voices, Note, Started, Band, samples, isDue, earlier, insert, ordered, withState, joinedBy, born, startedBy, started, controlledBy, controlEvent, controlled, runFrom, runAll, anyEnd, farthest, lastTempo, limited, goesOn}
+use Rattle.players.specs.Holds.{Settings, Holds, dueAt, laterThan, dueOf, endsBy, marked, answerOf, startedOf, bandOf, blockOf, played, cycled}
+use Rattle.players.specs.Plain.{plainStart, plainAt, answerAt, blockAt}
+use Rattle.players.proofs.Lists.{all-keep}
+
+-- ---- what holds of all lines holds of the due ones
+
+all-insert : (P : Line → Type 0) (x : Line) (ys : List Line) → P x → All P ys → All P (insert x ys)
+unfolding insert
+all-insert P x [] p h = (p, tt)
+all-insert P x (y ∷ ys) p h = go (earlier (x .when) (y .when)) (all-insert P x ys p (h .1))
+  where
+    go : (b : Bool) → All P (insert x ys) → All P (cond b (x ∷ y ∷ ys) (y ∷ insert x ys))
+    go true r = (p, h)
+    go false r = (h .0, r)
+
+all-fold : (P : Line → Type 0) (xs before : List Line) → All P xs → All P before → All P (fold (λ (b : List Line) (x : Line). insert x b) before xs)
+unfolding fold
+all-fold P [] before h g = g
+all-fold P (x ∷ xs) before h g = all-fold P xs (insert x before) (h .1) (all-insert P x before (h .0) g)
+
+module _ {S S′ : Type 0} (R : S → S′ → Type 0) (Ok : Line → Event → Type 0) where
+  abbrev pub AllOk : List Line → Type 0
+  AllOk ls = All (λ (l : Line). Ok l (l .event)) ls
+
+  pub record Related (v : Voices S) (w : Voices S′) : Type 0 where
+    pub birth : (l : Line) (label : Label) (name : ℕ) (d : Float) → Ok l (Instr label name d)
+        → R (v .birth name (take (l .count) (l .values))) (w .birth name (take (l .count) (l .values)))
+    pub control : (l : Line) (label : ℕ) (x : ℕ) (y : Float) (s : S) (t : S′) → Ok l (Control label x y) → R s t → R (v .control x y s) (w .control x y t)
+    pub run : (s : S) (t : S′) (mix : List Float) → R s t → R (v .run s mix .state) (w .run t mix .state)
+    pub mix : (s : S) (t : S′) (mix : List Float) → R s t → v .run s mix .mix ≡ w .run t mix .mix
+
+  pub record Same (m : Note S) (n : Note S′) : Type 0 where
+    pub labelled : m .labelled ≡ n .labelled
+    pub label : m .label ≡ n .label
+    pub endless : m .endless ≡ n .endless
+    pub end : m .end ≡ n .end
+    pub state : R (m .state) (n .state)
+
+  abbrev pub Notes : List (Note S) → List (Note S′) → Type 0
+  Notes [] [] = Unit {0}
+  Notes [] (y ∷ ys) = ⊥
+  Notes (x ∷ xs) [] = ⊥
+  Notes (x ∷ xs) (y ∷ ys) = Same x y × Notes xs ys
+
+  long : (xs : List (Note S)) (ys : List (Note S′)) → Notes xs ys → length xs ≡ length ys
+  long [] [] h = refl
+  long [] (y ∷ ys) h = absurd h
+  long (x ∷ xs) [] h = absurd h
+  long (x ∷ xs) (y ∷ ys) h = ap suc (long xs ys (h .1))
+
+  behind : (xs : List (Note S)) (ys : List (Note S′)) (x : Note S) (y : Note S′) → Notes xs ys → Same x y → Notes (xs ++ x ∷ []) (ys ++ y ∷ [])
+  behind [] [] x y h g = (g, tt)
+  behind [] (z ∷ ys) x y h g = absurd h
+  behind (z ∷ xs) [] x y h g = absurd h
+  behind (z ∷ xs) (u ∷ ys) x y h g = (h .0, behind xs ys x y (h .1) g)
+
+  record Begun (s : Started S) (t : Started S′) : Type 0 where
+    notes : Notes (s .notes) (t .notes)
+    missed : s .missed ≡ t .missed
+
+  joined : (most : ℕ) (s : Started S) (t : Started S′) (x : Note S) (y : Note S′) → Begun s t → Same x y → Begun (joinedBy most s x) (joinedBy most t y)
+  unfolding joinedBy
+  joined most s t x y h g = rw (long (s .notes) (t .notes) (h .notes)) (go (ltb (length (t .notes)) most))
+    where
+      go : (b : Bool)
+          → Begun (cond {A = Started S} b (record { notes = s .notes ++ (x ∷ []); missed = s .missed }) (record { notes = s .notes; missed = s .missed + 1 }))
+          (cond {A = Started S′} b (record { notes = t .notes ++ (y ∷ []); missed = t .missed }) (record { notes = t .notes; missed = t .missed + 1 }))
+      go true = record { notes = behind (s .notes) (t .notes) x y (h .notes) g; missed = h .missed }
+      go false = record { notes = h .notes; missed = ap (λ m. m + 1) (h .missed) }
+
+  kept : (pos : ℕ) (xs : List (Note S)) (ys : List (Note S′)) → Notes xs ys → Notes (keep (goesOn pos) xs) (keep (goesOn pos) ys)
+  unfolding keep goesOn
+  kept pos [] [] h = tt
+  kept pos [] (y ∷ ys) h = absurd h
+  kept pos (x ∷ xs) [] h = absurd h
+  kept pos (x ∷ xs) (y ∷ ys) h =
+      let e : (x .endless || ltb pos (x .end)) ≡ (y .endless || ltb pos (y .end)) = λ j. h .0 .endless j || ltb pos (h .0 .end j) in
+      subst
+      (λ (c : Bool). Notes (cond (x .endless || ltb pos (x .end)) (x ∷ keep (goesOn pos) xs) (keep (goesOn pos) xs)) (cond c (y ∷ keep (goesOn pos) ys) (keep (goesOn pos) ys)))
+      e (go (x .endless || ltb pos (x .end)) (kept pos xs ys (h .1)))
+    where
+      go : (b : Bool) → Notes (keep (goesOn pos) xs) (keep (goesOn pos) ys) → Notes (cond b (x ∷ keep (goesOn pos) xs) (keep (goesOn pos) xs)) (cond b (y ∷ keep (goesOn pos) ys) (keep (goesOn pos) ys))
+      go true r = (h .0, r)
+      go false r = r
+
+  module _ {v : Voices S} {w : Voices S′} (a : Related v w) where
+    -- ---- step 3
+
+    begins : (most pos : ℕ) (l : Line) (s : Started S) (t : Started S′) (ev : Event) → Ok l ev → Begun s t → Begun (startedBy v most pos l s ev) (startedBy w most pos l t ev)
+    unfolding born
+    begins most pos l s t (Instr label name d) o h =
+        joined most s t (born v pos l label name d) (born w pos l label name d) h
+        (record { labelled = refl; label = refl; endless = refl; end = refl; state = a .birth l label name d o })
+    begins most pos l s t (Control label x y) o h = h
+    begins most pos l s t End o h = h
+    begins most pos l s t (Tempo d) o h = h
+
+    beginning : (most pos : ℕ) (ls : List Line) (s : Started S) (t : Started S′) → AllOk ls → Begun s t
+        → Begun (fold (λ (u : Started S) (l : Line). startedBy v most pos l u (l .event)) s ls) (fold (λ (u : Started S′) (l : Line). startedBy w most pos l u (l .event)) t ls)
+    unfolding fold
+    beginning most pos [] s t o h = h
+    beginning most pos (l ∷ ls) s t o h = beginning most pos ls (startedBy v most pos l s (l .event)) (startedBy w most pos l t (l .event)) (o .1) (begins most pos l s t (l .event) (o .0) h)
+
+    -- ---- step 4
+
+    one : (l : Line) (label x : ℕ) (y : Float) (m : Note S) (n : Note S′) → Ok l (Control label x y) → Same m n → Same (controlledBy v label x y m) (controlledBy w label x y n)
+    unfolding controlledBy
+    one l label x y m n o h =
+        let e : (m .labelled && eqb label (m .label)) ≡ (n .labelled && eqb label (n .label)) = λ j. h .labelled j && eqb label (h .label j) in
+        subst
+        (λ (c : Bool). Same (cond (m .labelled && eqb label (m .label)) (withState m (v .control x y (m .state))) m) (cond c (withState n (w .control x y (n .state))) n))
+        e (go (m .labelled && eqb label (m .label)))
+      where
+        go : (b : Bool) → Same (cond b (withState m (v .control x y (m .state))) m) (cond b (withState n (w .control x y (n .state))) n)
+        go true =
+            record { labelled = h .labelled; label = h .label; endless = h .endless; end = h .end; state = a .control l label x y (m .state) (n .state) o (h .state) }
+        go false = h
+
+    all-one : (l : Line) (label x : ℕ) (y : Float) (ms : List (Note S)) (ns : List (Note S′)) → Ok l (Control label x y) → Notes ms ns
+        → Notes (each (controlledBy v label x y) ms) (each (controlledBy w label x y) ns)
+    unfolding each
+    all-one l label x y [] [] o h = tt
+    all-one l label x y [] (n ∷ ns) o h = absurd h
+    all-one l label x y (m ∷ ms) [] o h = absurd h
+    all-one l label x y (m ∷ ms) (n ∷ ns) o h = (one l label x y m n o (h .0), all-one l label x y ms ns o (h .1))
+
+    event : (l : Line) (ms : List (Note S)) (ns : List (Note S′)) (ev : Event) → Ok l ev → Notes ms ns → Notes (controlEvent v ms ev) (controlEvent w ns ev)
+    event l ms ns (Instr label name d) o h = h
+    event l ms ns (Control label x y) o h = all-one l label x y ms ns o h
+    event l ms ns End o h = h
+    event l ms ns (Tempo d) o h = h
+
+    controls : (ls : List Line) (ms : List (Note S)) (ns : List (Note S′)) → AllOk ls → Notes ms ns → Notes (controlled v ms ls) (controlled w ns ls)
+    unfolding controlled fold
+    controls [] ms ns o h = h
+    controls (l ∷ ls) ms ns o h = controls ls (controlEvent v ms (l .event)) (controlEvent w ns (l .event)) (o .1) (event l ms ns (l .event) (o .0) h)
+
+    -- ---- step 5
+
+    runs : (ms : List (Note S)) (ns : List (Note S′)) (mix : List Float) → Notes ms ns
+        → Notes (runFrom v ms mix .notes) (runFrom w ns mix .notes) × (runFrom v ms mix .mix ≡ runFrom w ns mix .mix)
+    unfolding runFrom
+    runs [] [] mix h = (tt, refl)
+    runs [] (n ∷ ns) mix h = absurd h
+    runs (m ∷ ms) [] mix h = absurd h
+    runs (m ∷ ms) (n ∷ ns) mix h =
+        let g = h .0 in
+        let r = runs ms ns (w .run (n .state) mix .mix) (h .1) in
+        let e = a .mix (m .state) (n .state) mix (g .state) in (
+          (
+            record { labelled = g .labelled; label = g .label; endless = g .endless; end = g .end; state = a .run (m .state) (n .state) mix (g .state) },
+            subst (λ (z : List Float). Notes (runFrom v ms z .notes) (runFrom w ns (w .run (n .state) mix .mix) .notes)) (sym e) (r .0),
+          ),
+          ap (λ (z : List Float). runFrom v ms z .mix) e ∙ r .1,
+        )
+
+    -- ---- one cycle
+
+    record Cores (c : Holds S) (d : Holds S′) : Type 0 where
+      lines : c .waits ≡ d .waits
+      notes : Notes (c .plays .notes) (d .plays .notes)
+      position : c .plays .position ≡ d .plays .position
+      tempo : c .plays .tempo ≡ d .plays .tempo
+      missed : c .plays .counts .missed ≡ d .plays .counts .missed
+      ended : c .plays .ended ≡ d .plays .ended
+      ok : AllOk (c .waits)
+
+    module _ (q : Settings) (c : Holds S) (d : Holds S′) (h : Cores c d) where
+      due-same : dueOf c ≡ dueOf d
+      due-same = λ j. dueAt (h .position j) (h .lines j)
+
+      due-ok : AllOk (dueOf c)
+      unfolding dueAt ordered
+      due-ok =
+          let P : Line → Type 0 = λ l. Ok l (l .event) in
+          let pos = c .plays .position in
+          all-fold P (keep (isDue pos) (c .waits)) [] (all-keep (isDue pos) P (c .waits) (h .ok)) tt
+
+      begun : Begun (startedOf v q (dueOf c) (c .plays)) (startedOf w q (dueOf d) (d .plays))
+      unfolding startedOf started
+      begun =
+          let from = started v (q .mostNotes) (c .plays .position) (c .plays .notes) (dueOf c) in
+          subst (λ (p : ℕ). Begun from (started w (q .mostNotes) p (d .plays .notes) (dueOf d))) (h .position)
+          (subst (λ (ls : List Line). Begun from (started w (q .mostNotes) (c .plays .position) (d .plays .notes) ls)) due-same
+          (beginning (q .mostNotes) (c .plays .position) (dueOf c) (record { notes = c .plays .notes; missed = 0 }) (record { notes = d .plays .notes; missed = 0 }) due-ok
+          (record { notes = h .notes; missed = refl })))
+
+      band : Notes (bandOf v q (dueOf c) (c .plays) .notes) (bandOf w q (dueOf d) (d .plays) .notes) × (bandOf v q (dueOf c) (c .plays) .mix ≡ bandOf w q (dueOf d) (d .plays) .mix)
+      unfolding bandOf runAll
+      band =
+          let ms = startedOf v q (dueOf c) (c .plays) .notes in
+          let ns = startedOf w q (dueOf d) (d .plays) .notes in
+          runs (controlled v ms (dueOf c)) (controlled w ns (dueOf d)) (replicate samples (ofBits binary32 0))
+          (subst (λ (ls : List Line). Notes (controlled v ms (dueOf c)) (controlled w ns ls)) due-same (controls (dueOf c) ms ns due-ok (begun .notes)))
+
+      block : blockOf v q (dueOf c) (c .plays) ≡ blockOf w q (dueOf d) (d .plays)
+      unfolding blockOf
+      block = ap (limited (q .ceiling)) (band .1)
+
+      ends-same : endsBy (dueOf c) (c .plays) ≡ endsBy (dueOf d) (d .plays)
+      unfolding endsBy
+      ends-same = λ j. ltb farthest (h .position j) || anyEnd (due-same j)
+
+      answer : answerOf c ≡ answerOf d
+      unfolding answerOf
+      answer = λ j. cond (h .ended j) 9 (cond (ends-same j) 9 0)
+
+      abbrev goes : Holds S
+      goes = record { waits = laterThan (c .plays .position) (c .waits); plays = played v q (dueOf c) (c .plays) }
+
+      abbrev goes′ : Holds S′
+      goes′ = record { waits = laterThan (d .plays .position) (d .waits); plays = played w q (dueOf d) (d .plays) }
+
+      steps : Cores goes goes′
+      unfolding played laterThan
+      steps =
+          record {
+            lines = λ j. keep (λ (l : Line). not (isDue (h .position j) l)) (h .lines j);
+            notes = subst (λ (p : ℕ). Notes (keep (goesOn (c .plays .position)) (bandOf v q (dueOf c) (c .plays) .notes)) (keep (goesOn p) (bandOf w q (dueOf d) (d .plays) .notes))) (h .position)
+                (kept (c .plays .position) (bandOf v q (dueOf c) (c .plays) .notes) (bandOf w q (dueOf d) (d .plays) .notes) (band .0));
+            position = λ j. h .position j + cycleIn (lastTempo (h .tempo j) (due-same j));
+            tempo = λ j. lastTempo (h .tempo j) (due-same j);
+            missed = λ j. h .missed j + begun .missed j;
+            ended = refl;
+            ok = all-keep (λ (l : Line). not (isDue (c .plays .position) l)) (λ (l : Line). Ok l (l .event)) (c .waits) (h .ok);
+          }
+
+      abbrev stop : Holds S
+      stop = record { waits = c .waits; plays = marked (c .plays) }
+
+      abbrev stop′ : Holds S′
+      stop′ = record { waits = d .waits; plays = marked (d .plays) }
+
+      stops : Cores stop stop′
+      unfolding marked
+      stops = record { lines = h .lines; notes = h .notes; position = h .position; tempo = h .tempo; missed = h .missed; ended = refl; ok = h .ok }
+
+      next : Cores (cycled v q c) (cycled w q d)
+      unfolding cycled
+      next =
+          subst (λ (e : Bool). Cores (cycled v q c) (cond e d (cond (endsBy (dueOf d) (d .plays)) stop′ goes′))) (h .ended)
+          (subst (λ (e : Bool). Cores (cycled v q c) (cond (c .plays .ended) d (cond e stop′ goes′))) ends-same (go (c .plays .ended) (endsBy (dueOf c) (c .plays))))
+        where
+          go : (b e : Bool) → Cores (cond b c (cond e stop goes)) (cond b d (cond e stop′ goes′))
+          go true e = h
+          go false true = stops
+          go false false = steps
+
+    -- ---- every cycle
+
+    module _ (settings : ℕ → Settings) where
+      at-cores : (ls : List Line) → AllOk ls → (n : ℕ) → Cores (plainAt v settings ls n) (plainAt w settings ls n)
+      unfolding plainAt plainStart
+      at-cores ls o zero = record { lines = refl; notes = tt; position = refl; tempo = refl; missed = refl; ended = refl; ok = o }
+      at-cores ls o (suc n) = next (settings n) (plainAt v settings ls n) (plainAt w settings ls n) (at-cores ls o n)
+
+      pub blocks-related : (ls : List Line) (n : ℕ) → AllOk ls → blockAt v settings ls n ≡ blockAt w settings ls n
+      unfolding blockAt
+      blocks-related ls n o = block (settings n) (plainAt v settings ls n) (plainAt w settings ls n) (at-cores ls o n)
+
+      pub answers-related : (ls : List Line) (n : ℕ) → AllOk ls → answerAt v settings ls n ≡ answerAt w settings ls n
+      unfolding answerAt
+      answers-related ls n o = answer (settings n) (plainAt v settings ls n) (plainAt w settings ls n) (at-cores ls o n)
+
+      pub missed-related : (ls : List Line) (n : ℕ) → AllOk ls → plainAt v settings ls n .plays .counts .missed ≡ plainAt w settings ls n .plays .counts .missed
+      missed-related ls n o = at-cores ls o n .missed

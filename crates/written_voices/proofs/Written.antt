@@ -1,0 +1,205 @@
+-- The plain player by place is the plain player as written.
+use Prim.Native.Nat.{ℕ, zero, suc, _≤_, _<_}
+use native.Mathlib.Omega.{arith}
+use mathlib.Core.Path.{_≡_, refl, sym, ap, _∙_, subst}
+use mathlib.Core.Bool.{Bool, true, false, not, _&&_, _||_, cond, true≢false}
+use mathlib.Core.List.{List, [], _∷_, _++_, map}
+use lib.ListN.{length, getD, take}
+use lib.Seq.{take-all}
+use lib.Dec.{eqb, leb}
+use lib.Ieee.{Float}
+use borrow.Author.Tests.{eqb-true, eq-eqb}
+use Rattle.laws.proofs.Choice.{both-true}
+use Rattle.score_line.specs.declared.Line.{Line}
+use Rattle.score_line.specs.declared.Event.{Event}
+use Rattle.syntax.specs.Tree.{Instrument, importsKind}
+use Rattle.syntax.specs.Names.{Named, namesOf, symbols, has, apart, distinct, namesKept, eachKept, titleOf, nameRules, known, named, namedBy}
+use Rattle.syntax.specs.Placed.{place}
+use Rattle.float32.specs.Builtins.{zeroF}
+use Rattle.players.specs.Lists.{All}
+use Rattle.sounding.specs.Voices as by
+use Rattle.voices.specs.Tree.{instrumentOf, silent, noSymbol, bodyOf, setOf, treeVoices}
+use Rattle.meaning.specs.Placed as placed
+use Rattle.voices.specs.Claims.{imported}
+use Rattle.voices.proofs.Lines.{control-names}
+use Rattle.meaning.specs.Meaning.{Memory, set, importsIn, control, birth, cycle}
+use Rattle.meaning.specs.Translation.{Stands}
+use Rattle.meaning.proofs.Translation.{birth-agrees, cycle-agrees}
+use Rattle.syntax.proofs.Places.{kept, index, place-is}
+use Rattle.written_voices.specs.Voices.{Held, writtenVoices, Fits, PlaysAsWritten, EveryPiece}
+use Rattle.written_voices.proofs.Related.{Related, blocks-related, answers-related, missed-related}
+
+-- ---- each name once
+
+has-left : (x n : ℕ) (ns : List ℕ) → has x ns ≡ true → has x (ns ++ n ∷ []) ≡ true
+unfolding has
+has-left x n [] e = absurd (true≢false (sym e))
+has-left x n (m ∷ ns) e = go (eqb m x) (λ h. has-left x n ns h) e
+  where
+    go : (b : Bool) → (has x ns ≡ true → has x (ns ++ n ∷ []) ≡ true) → (b || has x ns) ≡ true → (b || has x (ns ++ n ∷ [])) ≡ true
+    go true h e = refl
+    go false h e = h e
+
+has-last : (n : ℕ) (ns : List ℕ) → has n (ns ++ n ∷ []) ≡ true
+unfolding has
+has-last n [] = rw (eq-eqb n n refl)
+has-last n (m ∷ ns) = go (eqb m n) (has-last n ns)
+  where
+    go : (b : Bool) → has n (ns ++ n ∷ []) ≡ true → (b || has n (ns ++ n ∷ [])) ≡ true
+    go true h = refl
+    go false h = h
+
+-- a name among those before comes no more
+no-more : (before ns : List ℕ) (x : ℕ) → apart before ns ≡ true → has x before ≡ true → has x ns ≡ false
+unfolding apart has
+no-more before [] x e h = refl
+no-more before (n ∷ ns) x e h =
+    let p = both-true (not (has n before)) (apart (before ++ n ∷ []) ns) e in
+    go (eqb n x) refl (p .0) (no-more (before ++ n ∷ []) ns x (p .1) (has-left x n before h))
+  where
+    go : (b : Bool) → eqb n x ≡ b → not (has n before) ≡ true → has x ns ≡ false → (b || has x ns) ≡ false
+    go true q f r = absurd (true≢false (sym (sym (ap not (ap (λ z. has z before) (eqb-true n x q) ∙ h)) ∙ f)))
+    go false q f r = r
+
+no-import : (ms : List Named) (x : ℕ) → has x (symbols ms) ≡ false → importsIn ms x ≡ false
+unfolding importsIn has
+no-import [] x e = refl
+no-import (m ∷ ms) x e = go (eqb (m .name) x) (λ h. no-import ms x h) e
+  where
+    go : (b : Bool) → (has x (symbols ms) ≡ false → importsIn ms x ≡ false) → (b || has x (symbols ms)) ≡ false → ((b && eqb (m .kind) importsKind) || importsIn ms x) ≡ false
+    go true h e = absurd (true≢false e)
+    go false h e = h e
+
+-- ---- step 4
+
+-- the value of a declared name after a control line
+imported-at : (before : List ℕ) (ms : List Named) (vs : List Float) (n x : ℕ) (y : Float) → apart before (symbols ms) ≡ true → length ms ≤ length vs → has n (symbols ms) ≡ true
+    → getD (imported x y ms vs) (index n ms) zeroF ≡ cond (importsIn ms x && eqb n x) y (getD vs (index n ms) zeroF)
+unfolding imported index importsIn apart has
+imported-at before [] vs n x y e l h = absurd (true≢false (sym h))
+imported-at before (m ∷ ms) [] n x y e l h = absurd (omega arith)
+imported-at before (m ∷ ms) (v ∷ vs) n x y e l h =
+    let p = both-true (not (has (m .name) before)) (apart (before ++ m .name ∷ []) (symbols ms)) e in
+    go (eqb (m .name) n) refl (eqb n x) refl (eqb (m .name) x) refl
+    (no-import ms (m .name) (no-more (before ++ m .name ∷ []) (symbols ms) (m .name) (p .1) (has-last (m .name) before)))
+    (λ g. imported-at (before ++ m .name ∷ []) ms vs n x y (p .1) (omega arith) g) h
+  where
+    go : (b : Bool) → eqb (m .name) n ≡ b → (c : Bool) → eqb n x ≡ c → (d : Bool) → eqb (m .name) x ≡ d → importsIn ms (m .name) ≡ false
+        → (has n (symbols ms) ≡ true → getD (imported x y ms vs) (index n ms) zeroF ≡ cond (importsIn ms x && c) y (getD vs (index n ms) zeroF))
+        → (b || has n (symbols ms)) ≡ true
+        → getD (cond (eqb (m .kind) importsKind && d) y v ∷ imported x y ms vs) (cond b 0 (suc (index n ms))) zeroF
+        ≡ cond (((d && eqb (m .kind) importsKind) || importsIn ms x) && c) y (getD (v ∷ vs) (cond b 0 (suc (index n ms))) zeroF)
+    go true p true q true r f ih h = last (eqb (m .kind) importsKind) (importsIn ms x) (ap (importsIn ms) (sym (eqb-true (m .name) x r)) ∙ f)
+      where
+        last : (k i : Bool) → i ≡ false → cond (k && true) y v ≡ cond ((k || i) && true) y v
+        last true i e = refl
+        last false true e = absurd (true≢false e)
+        last false false e = refl
+    go true p true q false r f ih h =
+        absurd (true≢false (sym (eq-eqb (m .name) x (eqb-true (m .name) n p ∙ eqb-true n x q)) ∙ r))
+    go true p false q true r f ih h =
+        absurd (true≢false (sym (eq-eqb n x (sym (eqb-true (m .name) n p) ∙ eqb-true (m .name) x r)) ∙ q))
+    go true p false q false r f ih h = last (eqb (m .kind) importsKind) (importsIn ms x)
+      where
+        last : (k i : Bool) → cond (k && false) y v ≡ cond (i && false) y v
+        last true true = refl
+        last true false = refl
+        last false true = refl
+        last false false = refl
+    go false p true q true r f ih h =
+        absurd (true≢false (sym (eq-eqb (m .name) n (eqb-true (m .name) x r ∙ sym (eqb-true n x q))) ∙ p))
+    go false p true q false r f ih h = ih h
+    go false p false q true r f ih h = ih h ∙ last (eqb (m .kind) importsKind) (importsIn ms x)
+      where
+        last : (k i : Bool) → cond (i && false) y (getD vs (index n ms) zeroF) ≡ cond ((k || i) && false) y (getD vs (index n ms) zeroF)
+        last true true = refl
+        last true false = refl
+        last false true = refl
+        last false false = refl
+    go false p false q false r f ih h = ih h
+
+length-imported : (x : ℕ) (y : Float) (ms : List Named) (vs : List Float) → length (imported x y ms vs) ≡ length vs
+unfolding imported
+length-imported x y [] vs = refl
+length-imported x y (m ∷ ms) [] = refl
+length-imported x y (m ∷ ms) (v ∷ vs) = ap suc (length-imported x y ms vs)
+
+control-stands : (x : Instrument) (vs : List Float) (m : Memory) (n : ℕ) (y : Float) → namesKept x ≡ true → Stands (namesOf x) vs (m .values)
+    → Stands (namesOf x) (imported n y (namesOf x) vs) (control x n y m .values)
+unfolding control
+control-stands x vs m n y e s =
+    record {
+      size = length-imported n y (namesOf x) vs ∙ s .size;
+      holds = λ p h.
+          let l = kept x e .few in
+          let i = place-is p (namesOf x) l h in
+          ap (λ (q : ℕ). getD (imported n y (namesOf x) vs) q zeroF) i
+          ∙ imported-at [] (namesOf x) vs p n y (kept x e .once) (omega (arith, s .size)) h
+          ∙ ap (λ (z : Float). cond (importsIn (namesOf x) n && eqb p n) y z) (ap (λ (q : ℕ). getD vs q zeroF) (sym i) ∙ s .holds p h)
+          ∙ last p (importsIn (namesOf x) n);
+    }
+  where
+    last : (p : ℕ) (b : Bool) → cond (b && eqb p n) y (m .values p) ≡ cond b (set n y m) m .values p
+    last p true = refl
+    last p false = refl
+
+-- ---- the voices
+
+each-found : (is : List Instrument) (name : ℕ) → eachKept is ≡ true → namesKept (instrumentOf is name) ≡ true
+unfolding eachKept instrumentOf silent known named namedBy apart
+each-found [] name e = refl
+each-found (x ∷ is) name e =
+    let p = both-true (namesKept x) (eachKept is) e in
+    go (eqb (x .name) name) (p .0) (each-found is name (p .1))
+  where
+    go : (b : Bool) → namesKept x ≡ true → namesKept (instrumentOf is name) ≡ true → namesKept (cond b x (instrumentOf is name)) ≡ true
+    go true h g = h
+    go false h g = g
+
+record Holds (is : List Instrument) (s : by.Held) (t : Held) : Type 0 where
+  same : s .instrument ≡ t .instrument
+  values : Stands (namesOf (instrumentOf is (s .instrument))) (s .values) (t .memory .values)
+
+-- values that are no more than the fields are not cut
+born : (is : List Instrument) → eachKept is ≡ true → (name : ℕ) (xs : List Float) → length xs ≤ length (instrumentOf is name .fields)
+    → Stands (namesOf (instrumentOf is name)) (treeVoices is .birth name xs .values) (birth (instrumentOf is name) xs .memory .values)
+unfolding treeVoices
+born is e name xs l =
+    let x = instrumentOf is name in
+    subst (λ (vs : List Float). Stands (namesOf x) (placed.birth (bodyOf is name) vs) (birth x xs .memory .values)) (take-all (length (x .fields)) xs l)
+    (birth-agrees x xs (each-found is name e))
+
+related : (is : List Instrument) → eachKept is ≡ true → Related (Holds is) (Fits is) (treeVoices is) (writtenVoices is)
+unfolding treeVoices writtenVoices
+related is e =
+    record {
+      birth = λ l label name d o. record { same = refl; values = born is e name (take (l .count) (l .values)) o };
+      control = λ l label x y s t o h.
+          let k = control-names is x y s o (h .values .size) in
+          record {
+            same = h .same;
+            values =
+                subst (λ (vs : List Float). Stands (namesOf (instrumentOf is (s .instrument))) vs (control (instrumentOf is (t .instrument)) x y (t .memory) .values)) (sym k)
+                (subst (λ (j : ℕ). Stands (namesOf (instrumentOf is (s .instrument))) (imported x y (namesOf (instrumentOf is (s .instrument))) (s .values)) (control (instrumentOf is j) x y (t .memory) .values)) (h .same)
+                (control-stands (instrumentOf is (s .instrument)) (s .values) (t .memory) x y (each-found is (s .instrument) e) (h .values)));
+          };
+      run = λ s t mix h.
+          let c = cycle-agrees (instrumentOf is (s .instrument)) (s .values) mix (t .memory) (each-found is (s .instrument) e) (h .values) in
+          record {
+            same = h .same;
+            values = subst (λ (j : ℕ). Stands (namesOf (instrumentOf is (s .instrument))) (treeVoices is .run s mix .state .values) (cycle (instrumentOf is j) (t .memory) mix .memory .values)) (h .same) (c .0);
+          };
+      mix = λ s t mix h.
+          let c = cycle-agrees (instrumentOf is (s .instrument)) (s .values) mix (t .memory) (each-found is (s .instrument) e) (h .values) in
+          c .1 ∙ ap (λ (j : ℕ). cycle (instrumentOf is j) (t .memory) mix .mix) (h .same);
+    }
+
+pub every-piece : EveryPiece
+every-piece is settings ls n e o =
+    let k = both-true (distinct (map titleOf is)) (eachKept is) (both-true (leb (length is) 8) (distinct (map titleOf is) && eachKept is) e .1) .1 in
+    let r = related is k in
+    record {
+      answers = answers-related (Holds is) (Fits is) r settings ls n o;
+      blocks = blocks-related (Holds is) (Fits is) r settings ls n o;
+      missed = missed-related (Holds is) (Fits is) r settings ls n o;
+    }
