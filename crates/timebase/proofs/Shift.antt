@@ -1,11 +1,11 @@
 -- Rounding up sees only a fraction's value, and a time's ticks are one shift. Assumes nothing.
-use Prim.Native.Nat.{ℕ, suc, _+_, _-_, _*_, _/_, _%_, _^_, _<_, _≤_}
+use Prim.Native.Nat.{ℕ, suc, _+_, _-_, _*_, _/_, _%_, _^_, _<_, _≤_, min}
 use mathlib.Core.Path.{_≡_, sym, ap, ap₂, _∙_, subst}
-use native.Mathlib.Nat.{mul-assoc, mul-comm, mul-left-comm, add-mul, add-assoc, mul-pos, div-div-eq-div-mul, le-trans, lt-of-not-le, not-le-of-lt, mul-le-mul-right, le-of-eq, div-eq-of-lt-le}
+use native.Mathlib.Nat.{mul-assoc, mul-comm, mul-left-comm, add-mul, add-assoc, mul-pos, div-div-eq-div-mul, le-trans, lt-of-not-le, not-le-of-lt, mul-le-mul-right, le-of-eq, div-eq-of-lt-le, min-eq-left, min-eq-right}
 use native.Mathlib.Decide.{decLe}
 use native.Mathlib.Omega.{arith}
 use lib.Arith.{digits-div, mul-pred}
-use lib.Pow.{pow-add, pow-pos, pow-lt, shl-lt, shl-exact}
+use lib.Pow.{pow-add, pow-pos, pow-lt, pow-mono, shl-lt, shl-exact}
 use lib.Count.{leadingZeros, leading-top}
 use Rattle.timebase.specs.Time.{upTo}
 
@@ -26,10 +26,10 @@ upTo-cross a b c d hb hd e =
 
 -- ---- the shift
 
--- What the count of leading zeros tells of m, where m * 2 ^ j is at most 2 ^ 163.
-pub record Top (m j z : ℕ) : Type 0 where
+-- What the count z of leading zeros tells of a significand m, where m * 2 ^ (e - 1) is at most 2 ^ 163.
+pub record Top (m e z : ℕ) : Type 0 where
   pub few : z < 32
-  pub reach : j + 3 ≤ 135 + z
+  pub reach : e + 3 ≤ 136 + z
   pub positive : 0 < m * 2 ^ z
   pub below : m * 2 ^ z < 2 ^ 32
 
@@ -40,12 +40,13 @@ pow-le-back i k h = go (decLe i k)
     go (yes l) = l
     go (no n) = absurd (not-le-of-lt (pow-lt (lt-of-not-le n)) h)
 
-pub top : (m j : ℕ) → 0 < m → m < 2 ^ 32 → m * 2 ^ j ≤ 2 ^ 163 → Top m j (leadingZeros 32 m)
-top m j p h b =
+pub top : (m e : ℕ) → 0 < m → 0 < e → m < 2 ^ 32 → m * 2 ^ (e - 1) ≤ 2 ^ 163 → Top m e (leadingZeros 32 m)
+top m e p o h b =
     let t = leading-top 32 m p h in
     let k = t .0 in
     let z = leadingZeros 32 m in
-    let e : z + suc k ≡ 32 = t .1 in
+    let j = e - 1 in
+    let f : z + suc k ≡ 32 = t .1 in
     let g : k + j ≤ 163 = pow-le-back (k + j) 163 (le-trans (le-of-eq (pow-add 2 k j)) (le-trans (mul-le-mul-right (2 ^ j) (t .2)) b)) in
     let q : suc k + z ≡ 32 = omega arith in
     record {
@@ -61,23 +62,37 @@ regroup m x k y = simp (mul-assoc, mul-comm)
 regroup2 : (m x y k : ℕ) → m * (x * y) * k ≡ m * y * (k * x)
 regroup2 m x y k = simp (mul-assoc, mul-comm, mul-left-comm)
 
--- one distance s, from j and the count z
-pub one-shift : (m j z s : ℕ) → s + j ≡ 135 + z → upTo (m * 2 ^ j * 6144000) (2 ^ 149) ≡ upTo (m * 2 ^ z * 375) (2 ^ s)
-one-shift m j z s e =
+-- one distance s, from the exponent and the count z
+pub one-shift : (m e z s : ℕ) → 0 < e → s + e ≡ 136 + z → upTo (m * 2 ^ z * 375) (2 ^ s) ≡ upTo (m * 2 ^ (e - 1) * 6144000) (2 ^ 149)
+one-shift m e z s o d =
+    let j = e - 1 in
     let p : 2 ^ j * 2 ^ s ≡ 2 ^ 135 * 2 ^ z = sym (pow-add 2 j s) ∙ ap (λ (k : ℕ). 2 ^ k) (let f : j + s ≡ 135 + z = omega arith in f) ∙ pow-add 2 135 z in
-    upTo-cross (m * 2 ^ j * 6144000) (2 ^ 149) (m * 2 ^ z * 375) (2 ^ s) (pow-pos 149) (pow-pos s)
+    sym
+    (upTo-cross (m * 2 ^ j * 6144000) (2 ^ 149) (m * 2 ^ z * 375) (2 ^ s) (pow-pos 149) (pow-pos s)
     (regroup m (2 ^ j) 6144000 (2 ^ s)
     ∙ ap (λ (x : ℕ). m * x * 6144000) p
     ∙ regroup2 m (2 ^ 135) (2 ^ z) 6144000
-    ∙ sym (mul-assoc (m * 2 ^ z) 375 (2 ^ 149)))
+    ∙ sym (mul-assoc (m * 2 ^ z) 375 (2 ^ 149))))
 
 -- less than one
-pub far : (a s : ℕ) → 0 < a → a ≤ 2 ^ s → 1 ≡ upTo a (2 ^ s)
+far : (a s : ℕ) → 0 < a → a ≤ 2 ^ s → upTo a (2 ^ s) ≡ 1
 unfolding upTo
-far a s p h = sym (div-eq-of-lt-le (2 ^ s) (omega (arith, pow-pos s)) (omega (arith, pow-pos s)))
+far a s p h = div-eq-of-lt-le (2 ^ s) (omega (arith, pow-pos s)) (omega (arith, pow-pos s))
+
+-- every distance past the farthest gives what the farthest gives
+pub held : (a s : ℕ) → 0 < a → a ≤ 2 ^ 41 → upTo a (2 ^ min s 63) ≡ upTo a (2 ^ s)
+held a s p h = go (decLe s 63)
+  where
+    go : Dec (s ≤ 63) → upTo a (2 ^ min s 63) ≡ upTo a (2 ^ s)
+    go (yes l) = ap (λ (n : ℕ). upTo a (2 ^ n)) (min-eq-left l)
+    go (no n) =
+        let l : 63 < s = lt-of-not-le n in
+        ap (λ (n : ℕ). upTo a (2 ^ n)) (min-eq-right (let k : 63 ≤ s = omega arith in k))
+        ∙ far a 63 p (le-trans h (pow-mono {i = 41} {j = 63} (omega arith)))
+        ∙ sym (far a s p (le-trans h (pow-mono {i = 41} (omega arith))))
 
 pub shift-is : (m z : ℕ) → m * 2 ^ z < 2 ^ 32 → (m * 2 ^ z) % 2 ^ 32 ≡ m * 2 ^ z
 shift-is m z h = native.Mathlib.Nat.mod-eq-of-lt h
 
-pub one-left : (s : ℕ) → s ≤ 40 → (1 * 2 ^ s) % 2 ^ 64 ≡ 2 ^ s
+pub one-left : (s : ℕ) → s ≤ 63 → (1 * 2 ^ s) % 2 ^ 64 ≡ 2 ^ s
 one-left s h = shl-exact {a = 1} 1 s 64 (omega arith) (omega arith) ∙ native.Mathlib.Nat.one-mul (2 ^ s)

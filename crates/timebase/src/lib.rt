@@ -1,25 +1,39 @@
 // Times, durations, tempos and values by their 32-bit patterns; ticks of a time and of a tempo (document 01,
 // "Score lines, bit by bit"). Every function is total.
 ghost use mathlib.Core.Path.{_≡_};
-ghost use Prim.Native.Nat.{_*_, _^_, _<_, _≤_};
+ghost use Prim.Native.Nat.{_+_, _-_, _*_, _^_, _<_, _≤_, min};
 ghost use Rattle.timebase.specs.Time.{upTo, ticksIn, cycleIn, finiteBits, timeBits, durationBits, tempoBits};
 ghost use Rattle.timebase.specs.Range.{checked};
 
-// m * 2^j * 6,144,000 / 2^149 rounded up, where 6,144,000 is 375 * 2^14. m is shifted until its highest
-// bit is at 31, so that the rest is one shift down by a distance that j and the count of leading zeros
-// give. A distance past 40 leaves less than one tick.
-fn shifted(m: u32, j: u32) -> u64
-    requires { ⌜ (0 < m) × (m * 2 ^ j ≤ 2 ^ 163) ⌝ }
-    ensures { λ r. ⌜ r ≡ upTo (m * 2 ^ j * 6144000) (2 ^ 149) ⌝ }
+// A float is its significand times 2^(exponent - 150): the bias of its exponent, and 23 digits behind the point. 6,144,000
+// is 375 * 2^14, and 23 - 14 is 9.
+const BIAS: u32 = 127;
+
+const PLACES: u32 = 9;
+
+// The farthest shift of a 64-bit number.
+const FARTHEST: u32 = 63;
+
+// How far 375 times a significand that was shifted up by its leading zeros is shifted down to ticks. Past 40 less than one
+// tick is left of it, so that a distance past the farthest gives what the farthest gives.
+fn distance(exponent: u32, zeros: u32) -> u32
+    requires { ⌜ (exponent ≤ 136 + zeros) × (zeros < 32) ⌝ }
+    ensures { λ r. ⌜ r ≡ min (136 + zeros - exponent) 63 ⌝ }
 {
-    let zeros = u32::leading_zeros(m);
-    let product = ((m << zeros) as u64) * 375;
-    let distance = 135 + zeros - j;
-    if 40 < distance {
-        return 1;
-    }
-    let tick = 1u64 << distance;
-    (product + (tick - 1)) >> distance
+    let far = BIAS + PLACES + zeros - exponent;
+    if FARTHEST < far { FARTHEST } else { far }
+}
+
+// The ticks of a significand above 0 and an exponent, rounded up.
+fn shifted(significand: u32, exponent: u32) -> u64
+    requires { ⌜ (0 < significand) × (0 < exponent) × (significand * 2 ^ (exponent - 1) ≤ 2 ^ 163) ⌝ }
+    ensures { λ r. ⌜ r ≡ upTo (significand * 2 ^ (exponent - 1) * 6144000) (2 ^ 149) ⌝ }
+{
+    let zeros = u32::leading_zeros(significand);
+    let product = ((significand << zeros) as u64) * 375;
+    let down = distance(exponent, zeros);
+    let tick = 1u64 << down;
+    (product + (tick - 1)) >> down
 }
 
 // The ticks of a time or a duration: 0 past the latest time.
@@ -31,10 +45,11 @@ pub fn beats_to_ticks(time: f32) -> u64
             let b = f32::to_bits(time);
             let exponent = b % 0x8000_0000 / 0x80_0000;
             let digits = b % 0x80_0000;
+            // a subnormal float has no hidden digit, and the exponent of the smallest normal one
             if exponent == 0 {
-                return shifted(digits, 0);
+                return shifted(digits, 1);
             }
-            return shifted(0x80_0000 + digits, exponent - 1);
+            return shifted(0x80_0000 + digits, exponent);
         }
     }
     0

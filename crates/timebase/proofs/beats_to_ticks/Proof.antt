@@ -1,6 +1,7 @@
 use borrow.Author.Needs.{needs}
-use Prim.Native.Nat.{_+_, _-_, _*_, _/_, _%_, _^_}
-use mathlib.Core.Path.{_≡_, sym, _∙_, subst}
+use Prim.Native.Nat.{ℕ, zero, suc, _+_, _-_, _*_, _/_, _%_, _^_, _<_}
+use mathlib.Core.Path.{_≡_, refl, sym, _∙_, subst}
+use native.Mathlib.Omega.{arith}
 use lib.Dec.{T, leb}
 use lib.Ieee.{Float, ofBits, toBits, fits, binary32}
 use lib.Ieee.Bits.{ofBits-toBits}
@@ -42,11 +43,15 @@ high c =
     (subst (λ (x : Float). HasValue x (leb (2 ^ 31) b) a (2 ^ 149)) (own s)
     (high-pattern b (c .if3 .left) (subst (λ (x : Float). T (finite x)) (sym (own s)) (positive-finite (s .args .time) (above (c .before))))))
 
+some-exponent : (n : ℕ) → (n ≡ 0 → ⊥) → 0 < n
+some-exponent zero f = absurd (f refl)
+some-exponent (suc n) f = omega arith
+
 float-to-bits-b : tie.Need-float-to-bits-b
 float-to-bits-b c = no-nan (c .before .before .args .time) (above c)
 
 shifted-requires : tie.Need-shifted-requires
-shifted-requires c κs = (first-pos (toBits binary32 (c .before .before .before .args .time) % 2 ^ 23) (2 ^ 0) (low c .some), low c .most)
+shifted-requires c κs = (first-pos (toBits binary32 (c .before .before .before .args .time) % 2 ^ 23) (2 ^ 0) (low c .some), search needs, low c .most)
 
 returns : tie.Need-returns
 returns c = c .shifted .ensures ∙ low (c .before) .ticks
@@ -54,11 +59,8 @@ returns c = c .shifted .ensures ∙ low (c .before) .ticks
 add-shifted : tie.Need-add-shifted
 add-shifted c = search needs
 
-sub-shifted : tie.Need-sub-shifted
-sub-shifted c = search needs
-
 shifted-requires-2 : tie.Need-shifted-requires-2
-shifted-requires-2 c κs = let b = toBits binary32 (c .before .before .before .args .time) in (first-pos (8388608 + b % 2 ^ 23) (2 ^ (b % 2 ^ 31 / 2 ^ 23 - 1)) (high c .some), high c .most)
+shifted-requires-2 c κs = let b = toBits binary32 (c .before .before .before .args .time) in (first-pos (8388608 + b % 2 ^ 23) (2 ^ (b % 2 ^ 31 / 2 ^ 23 - 1)) (high c .some), some-exponent (b % 2 ^ 31 / 2 ^ 23) (c .if3 .left), high c .most)
 
 returns-2 : tie.Need-returns-2
 returns-2 c = c .shifted2 .ensures ∙ high (c .before) .ticks
@@ -72,4 +74,4 @@ unfolding ofBits
 returns-4 c = not-above (c .before .args .time) (c .if1 .left)
 
 pub beats-to-ticks-spec : {M : Type 1} → statement M
-beats-to-ticks-spec = tie.close (tie.spec float-to-bits-b shifted-requires returns add-shifted sub-shifted shifted-requires-2 returns-2 returns-3 returns-4)
+beats-to-ticks-spec = tie.close (tie.spec float-to-bits-b shifted-requires returns add-shifted shifted-requires-2 returns-2 returns-3 returns-4)
