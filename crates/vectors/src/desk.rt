@@ -5,6 +5,7 @@ use crate::text;
 use crate::text::Head;
 use answer::Answer;
 use panel::Panel;
+use timebase::Checked;
 
 // A fresh panel of the piece, the panel as the last call left it, and the number that came of it.
 pub struct Desk {
@@ -182,6 +183,21 @@ fn missed(d: Desk) -> Desk {
     left(d, panel, Panel::missed_notes(panel))
 }
 
+fn ticks_of(c: Checked) -> u64 {
+    match c {
+        Checked::Value(x) => timebase::beats_to_ticks(x),
+        Checked::Outside => 0,
+    }
+}
+
+// The ticks of the float that the first number is.
+fn ticks(numbers: &[u32]) -> u64 {
+    if 0 < numbers.len() {
+        return ticks_of(timebase::value_of(numbers[0]));
+    }
+    0
+}
+
 // ---- the call that a line names
 
 enum Call {
@@ -194,6 +210,7 @@ enum Call {
     Missed,
     Silent,
     Sounding,
+    Ticks,
     Decode,
     DecodeUnit,
     Write,
@@ -233,6 +250,9 @@ fn told_of(text: &[u8], h: Head) -> Call {
     }
     if text::is_name(text, h, b"sounding") {
         return Call::Sounding;
+    }
+    if text::is_name(text, h, b"ticks") {
+        return Call::Ticks;
     }
     on_area(text, h)
 }
@@ -275,6 +295,7 @@ fn called(d: Desk, c: Call, size: usize, bytes: &[u8], numbers: &[u32]) -> Desk 
         Call::Missed => missed(d),
         Call::Silent => silent(d),
         Call::Sounding => sounding(d),
+        Call::Ticks => got(d, ticks(numbers)),
         Call::Decode => got(d, crate::areas::decode(bytes, size)),
         Call::DecodeUnit => got(d, crate::areas::decode_unit(bytes, size)),
         Call::Write => got(d, crate::areas::write(numbers, size)),

@@ -73,8 +73,8 @@ fn with_hex(n: u32, b: u8) -> u32 {
     n % 268435456 * 16 + digit_of(b) % 16
 }
 
-fn with_decimal(n: u32, b: u8) -> u32 {
-    n % 100000000 * 10 + digit_of(b) % 10
+fn with_decimal(n: u64, b: u8) -> u64 {
+    n % 100000000000 * 10 + (digit_of(b) % 10) as u64
 }
 
 fn hex_of(text: &[u8], from: usize, end: usize) -> u32 {
@@ -87,8 +87,8 @@ fn hex_of(text: &[u8], from: usize, end: usize) -> u32 {
     n
 }
 
-fn decimal_of(text: &[u8], from: usize, end: usize) -> u32 {
-    let mut n: u32 = 0;
+fn decimal_of(text: &[u8], from: usize, end: usize) -> u64 {
+    let mut n: u64 = 0;
     let mut at = from;
     while at < end {
         n = with_decimal(n, byte_at(text, at));
@@ -97,9 +97,14 @@ fn decimal_of(text: &[u8], from: usize, end: usize) -> u32 {
     n
 }
 
+// A number that is not large, as all but what is expected are.
+fn word_of(n: u64) -> u32 {
+    (n % 4294967296) as u32
+}
+
 // A decimal number and the place behind it.
 struct Number {
-    value: u32,
+    value: u64,
     next: usize,
 }
 
@@ -112,7 +117,7 @@ fn number_at(text: &[u8], at: usize) -> Number {
 }
 
 // What stands behind a sign, if the sign is there: `*13`, `(320`.
-fn behind(text: &[u8], at: usize, sign: u8, otherwise: u32) -> Number {
+fn behind(text: &[u8], at: usize, sign: u8, otherwise: u64) -> Number {
     if byte_at(text, at) == sign {
         return number_at(text, after(at));
     }
@@ -153,7 +158,12 @@ fn one_more(text: &[u8], f: Filled, numbers: &mut [u32; 512]) -> Filled {
     let end = word_end(text, from);
     let times = behind(text, end, b'*', 1);
     Filled {
-        count: repeated(numbers, f.count, hex_of(text, from, end), times.value),
+        count: repeated(
+            numbers,
+            f.count,
+            hex_of(text, from, end),
+            word_of(times.value),
+        ),
         next: past_spaces(text, times.next),
     }
 }
@@ -215,10 +225,10 @@ pub fn head_at(text: &[u8], at: usize) -> Head {
     let size = behind(text, to, b'(', 0);
     Head {
         goes_on: byte_at(text, at) == b'+',
-        times: times.value,
+        times: word_of(times.value),
         from: from,
         to: to,
-        size: size.value as usize,
+        size: word_of(size.value) as usize,
         next: past_sign(text, size.next, b')'),
     }
 }
@@ -238,7 +248,7 @@ pub fn tail_at(text: &[u8], h: Head, numbers: &mut [u32; 512]) -> Tail {
     let title = past_spaces(text, past_sign(text, mark, b'#'));
     Tail {
         count: f.count,
-        expected: n.value as u64,
+        expected: n.value,
         title: title,
         end: line_end(text, title),
     }
