@@ -1,4 +1,4 @@
--- Document 01, "Checked values", those marked P: one table with one statement.
+-- Document 01, "Checked values", those marked P, with the ticks of document 02 (M-106): one table with one statement.
 use Prim.Native.Nat.{ℕ}
 use mathlib.Core.Path.{_≡_}
 use mathlib.Core.List.{List, [], _∷_, map}
@@ -24,7 +24,7 @@ answerTo (sample b) = sampleOf (ofBits binary32 b) 32767
 
 pub record Row : Type 0 where
   pub asked : Question
-  -- the answer that document 01 prints
+  -- the answer that document 01, and document 02 for the ticks of two times, print
   pub printed : ℤ
 
 abbrev row : Question → ℤ → Row
@@ -37,8 +37,8 @@ table =
     ∷ row (time 0x3f00_0000) (pos 3072000)
     ∷ row (time 0x3f80_0000) (pos 6144000)
     ∷ row (time 0x4680_0000) (pos 100663296000)
-    ∷ row (time 1) (pos 1)
-    ∷ row (time 0x3dcc_cccd) (pos 614401)
+    ∷ row (time 1) (pos 0)
+    ∷ row (time 0x3dcc_cccd) (pos 614400)
     -- tempos 60, 130 and 960
     ∷ row (tempo 0x4270_0000) (pos 61440)
     ∷ row (tempo 0x4302_0000) (pos 133120)

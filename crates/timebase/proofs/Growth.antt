@@ -8,8 +8,8 @@ use lib.IntN.{ℤ, pos}
 use lib.Ieee.{Float, nan, inf, fin, up, down, lt, eq, le}
 use lib.Ieee.Fits.{down-pos}
 use lib.Ieee.Nearest.{div-same}
-use Rattle.timebase.specs.Time.{upTo, ticksOf, cycleOf, latest, slowest, fastest}
-use Rattle.timebase.proofs.Shift.{upTo-scale}
+use Rattle.timebase.specs.Time.{nearest, ticksOf, cycleOf, latest, slowest, fastest}
+use Rattle.timebase.proofs.Shift.{nearest-scale}
 use Rattle.timebase.proofs.Order.{AtMost, at-most, none}
 
 -- ---- fractions: a / b at most c / d
@@ -20,13 +20,14 @@ div-grows k {x} h l = le-div-iff-mul-le h .1 (le-trans (div-mul-le-self x k) l)
 scaled : (a b c d k : ℕ) → a * d ≤ c * b → a * k * d ≤ c * k * b
 scaled a b c d k h = le-trans (le-of-eq (mul-right-comm a k d)) (le-trans (mul-le-mul-right k h) (le-of-eq (mul-right-comm c b k)))
 
--- rounded up: the only law here that knows which way ticks are rounded
-up-grows : (a b c d : ℕ) → 0 < b → 0 < d → a * d ≤ c * b → upTo a b ≤ upTo c d
-unfolding upTo
-up-grows a b c d hb hd h =
-    let l : (a * d + (b * d - 1)) / (b * d) ≤ (c * b + (b * d - 1)) / (b * d) = div-grows (b * d) (mul-pos hb hd) (omega arith) in
-    let z : (c * b + (b * d - 1)) / (b * d) ≡ upTo c d = ap (λ (n : ℕ). (c * b + (n - 1)) / n) (mul-comm b d) ∙ upTo-scale c d b hd hb in
-    le-trans (le-of-eq (sym (upTo-scale a b d hb hd))) (le-trans l (le-of-eq z))
+-- to the nearest: the only law here that knows which way ticks are rounded
+near-grows : (a b c d : ℕ) → 0 < b → 0 < d → a * d ≤ c * b → nearest a b ≤ nearest c d
+unfolding nearest
+near-grows a b c d hb hd h =
+    let s : b * d * 2 ≡ d * b * 2 = ap (λ (n : ℕ). n * 2) (mul-comm b d) in
+    let l : (a * d * 2 + b * d) / (b * d * 2) ≤ (c * b * 2 + b * d) / (b * d * 2) = div-grows (b * d * 2) (mul-pos (mul-pos hb hd) (omega arith)) (omega arith) in
+    let z : (c * b * 2 + b * d) / (b * d * 2) ≡ nearest c d = ap (λ (n : ℕ). (c * b * 2 + n) / (n * 2)) (mul-comm b d) ∙ nearest-scale c d b hb in
+    le-trans (le-of-eq (sym (nearest-scale a b d hd))) (le-trans l (le-of-eq z))
 
 down-grows : (a b c d : ℕ) → 0 < b → 0 < d → a * d ≤ c * b → a / b ≤ c / d
 down-grows a b c d hb hd h =
@@ -45,9 +46,9 @@ is-zero : (m n : ℕ) (e d : ℤ) → le (fin false m e) (fin true n d) ≡ true
 unfolding le lt eq AtMost
 is-zero m n e d h = none (m * up e) (down d) (down-pos d) (at-most false (m * up e * down d) true (n * up d * down e) h .0)
 
-no-ticks : (a d : ℕ) → 0 < d → a ≡ 0 → upTo (a * 6144000) d ≤ 0
-unfolding upTo
-no-ticks a d h e = let z : (a * 6144000 + (d - 1)) / d ≡ 0 = native.Mathlib.Nat.div-eq-of-lt (omega arith) in omega arith
+no-ticks : (a d : ℕ) → 0 < d → a ≡ 0 → nearest (a * 6144000) d ≤ 0
+unfolding nearest
+no-ticks a d h e = let z : (a * 6144000 * 2 + d) / (d * 2) ≡ 0 = native.Mathlib.Nat.div-eq-of-lt (omega arith) in omega arith
 
 pub ticksOf-grows : (x y : Float) → le x y ≡ true → le y latest ≡ true → ticksOf x ≤ ticksOf y
 unfolding ticksOf le lt eq
@@ -59,7 +60,7 @@ ticksOf-grows (fin false m e) (inf true) h k = absurd (true≢false (sym h))
 ticksOf-grows (fin false m e) (inf false) h k = absurd (true≢false (sym k))
 ticksOf-grows (fin false m e) (fin true n d) h k = no-ticks (m * up e) (down e) (down-pos e) (is-zero m n e d h)
 ticksOf-grows (fin false m e) (fin false n d) h k =
-    up-grows (m * up e * 6144000) (down e) (n * up d * 6144000) (down d) (down-pos e) (down-pos d)
+    near-grows (m * up e * 6144000) (down e) (n * up d * 6144000) (down d) (down-pos e) (down-pos d)
     (scaled (m * up e) (down e) (n * up d) (down d) 6144000 (fractions m n e d h))
 
 pub cycleOf-grows : (x y : Float) → le slowest x ≡ true → le x y ≡ true → le y fastest ≡ true → cycleOf x ≤ cycleOf y

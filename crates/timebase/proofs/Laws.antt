@@ -154,6 +154,11 @@ in-most : (x : Float) → ticksIn x ≤ ticksOf x
 unfolding ticksIn
 in-most x = not-more (le x latest) (ticksOf x)
 
+-- an exact half goes up: 3 * 2 ^ -15 beats are 562.5 ticks
+pub half-up : ticksIn (ofBits binary32 0x38c0_0000) ≡ 563
+unfolding ticksIn ofBits le
+half-up = refl
+
 -- ticks do not fall as time grows
 pub ticks-grow : (x y : Float) → le x y ≡ true → le y latest ≡ true → ticksIn x ≤ ticksIn y
 ticks-grow x y h k = le-trans (in-most x) (le-trans (ticksOf-grows x y h k) (le-of-eq (sym (in-range y k))))

@@ -2,7 +2,7 @@
 use Prim.Native.Nat.{ℕ, zero, suc, _+_, _-_, _*_, _/_, _%_, _^_, _<_, _≤_}
 use mathlib.Core.Path.{_≡_, refl, sym, ap, _∙_, subst}
 use mathlib.Core.Bool.{Bool, true, false, not, cond, true≢false}
-use native.Mathlib.Nat.{mul-right-comm, zero-add, div-eq-of-lt}
+use native.Mathlib.Nat.{mul-right-comm, div-eq-of-lt}
 use native.Mathlib.Omega.{arith}
 use lib.IntN.{pos}
 use lib.Dec.{T, leb, eqb, lt→ltb}
@@ -13,8 +13,8 @@ use lib.Ieee.Exact.{HasValue, odd-sign}
 use lib.Ieee.Fits.{down-pos}
 use lib.Ieee.Scale.{finite}
 use lib.Ieee.Positive.{num, den, positive, values-of-le, value-pos, value→cross, den-pos}
-use Rattle.timebase.specs.Time.{upTo, ticksOf, ticksIn, latest}
-use Rattle.timebase.proofs.Shift.{upTo-cross}
+use Rattle.timebase.specs.Time.{nearest, ticksOf, ticksIn, latest}
+use Rattle.timebase.proofs.Shift.{nearest-cross}
 
 -- ---- a pattern with the exponent's field x and the digits t
 low-field : (s : Bool) (x t : ℕ) → x ≡ 0 → HasValue (ofFields binary32 s x t) s (t * 2 ^ 0) (2 ^ 149)
@@ -63,7 +63,7 @@ clear (inf t) s a c p h = absurd p
 clear (fin true m e) s a c p h = absurd p
 clear (fin false m e) s a c p h = (refl, h .1)
 
-ticks-num : (x : Float) → T (positive x) → ticksOf x ≡ upTo (num x * 6144000) (den x)
+ticks-num : (x : Float) → T (positive x) → ticksOf x ≡ nearest (num x * 6144000) (den x)
 unfolding ticksOf
 ticks-num nan p = absurd p
 ticks-num (inf s) p = absurd p
@@ -77,7 +77,7 @@ yes-of e = subst T (sym e) tt
 pub record Units (x : Float) (a : ℕ) : Type 0 where
   pub some : 0 < a
   pub most : a ≤ 2 ^ 163
-  pub ticks : upTo (a * 6144000) (2 ^ 149) ≡ ticksIn x
+  pub ticks : nearest (a * 6144000) (2 ^ 149) ≡ ticksIn x
 
 pub units : (x : Float) (s : Bool) (a : ℕ) → lt zeroF x ≡ true → le x latest ≡ true → HasValue x s a (2 ^ 149) → Units x a
 unfolding ticksIn
@@ -90,7 +90,7 @@ units x s a p q h =
     record {
       some = value-pos x a (2 ^ 149) o (pow-pos 149) v;
       most = subst (λ (n : ℕ). n ≤ 2 ^ 163) (native.Mathlib.Nat.mul-one a) m;
-      ticks = upTo-cross (a * 6144000) (2 ^ 149) (num x * 6144000) (den x) (pow-pos 149) (den-pos x) u ∙ sym (ticks-num x o) ∙ sym (ap (λ (b : Bool). cond b (ticksOf x) 0) q);
+      ticks = nearest-cross (a * 6144000) (2 ^ 149) (num x * 6144000) (den x) (pow-pos 149) (den-pos x) u ∙ sym (ticks-num x o) ∙ sym (ap (λ (b : Bool). cond b (ticksOf x) 0) q);
     }
 
 -- ---- the other floats
@@ -98,9 +98,9 @@ same : (b : Bool) → _≡_ {A = ℕ} 0 (cond b 0 0)
 same true = refl
 same false = refl
 
-nothing : (d : ℕ) → 0 < d → 0 ≡ upTo 0 d
-unfolding upTo
-nothing d h = sym (ap (λ (n : ℕ). n / d) (zero-add (d - 1)) ∙ div-eq-of-lt (omega arith))
+nothing : (d : ℕ) → 0 < d → 0 ≡ nearest 0 d
+unfolding nearest
+nothing d h = sym (div-eq-of-lt (omega arith))
 
 pub not-above : (x : Float) → lt zeroF x ≡ false → 0 ≡ ticksIn x
 unfolding ticksIn lt le ticksOf
@@ -111,7 +111,7 @@ not-above (fin true m e) p = same (le (fin true m e) latest)
 not-above (fin false m e) p =
     let h : m * up e * 1 ≤ 0 * down e = ltb-false _ _ p in
     let z : m * up e ≡ 0 = omega arith in
-    same (le (fin false m e) latest) ∙ ap (λ (n : ℕ). cond (le (fin false m e) latest) n 0) (nothing (down e) (down-pos e) ∙ ap (λ (n : ℕ). upTo n (down e)) (sym (rw z)))
+    same (le (fin false m e) latest) ∙ ap (λ (n : ℕ). cond (le (fin false m e) latest) n 0) (nothing (down e) (down-pos e) ∙ ap (λ (n : ℕ). nearest n (down e)) (sym (ap (λ (k : ℕ). k * 6144000) z)))
 
 pub too-late : (x : Float) → le x latest ≡ false → 0 ≡ ticksIn x
 unfolding ticksIn

@@ -1,28 +1,22 @@
--- Rounding up sees only a fraction's value, and a time's ticks are one shift. Assumes nothing.
+-- Rounding sees only a fraction's value, and a time's ticks are one shift. Assumes nothing.
 use Prim.Native.Nat.{ℕ, suc, _+_, _-_, _*_, _/_, _%_, _^_, _<_, _≤_, min}
 use mathlib.Core.Path.{_≡_, sym, ap, ap₂, _∙_, subst}
-use native.Mathlib.Nat.{mul-assoc, mul-comm, mul-left-comm, add-mul, add-assoc, mul-pos, div-div-eq-div-mul, le-trans, lt-of-not-le, not-le-of-lt, mul-le-mul-right, le-of-eq, div-eq-of-lt-le, min-eq-left, min-eq-right}
+use native.Mathlib.Nat.{mul-assoc, mul-comm, mul-left-comm, mul-right-comm, add-mul, mul-pos, le-trans, lt-of-not-le, not-le-of-lt, mul-le-mul-right, le-of-eq, div-eq-of-lt, mul-div-mul-right, pow-suc, min-eq-left, min-eq-right}
 use native.Mathlib.Decide.{decLe}
 use native.Mathlib.Omega.{arith}
-use lib.Arith.{digits-div, mul-pred}
 use lib.Pow.{pow-add, pow-pos, pow-lt, pow-mono, shl-lt, shl-exact}
 use lib.Count.{leadingZeros, leading-top}
-use Rattle.timebase.specs.Time.{upTo}
+use Rattle.timebase.specs.Time.{nearest}
 
--- ---- rounding up
-pub upTo-scale : (a c k : ℕ) → 0 < c → 0 < k → upTo (a * k) (c * k) ≡ upTo a c
-unfolding upTo
-upTo-scale a c k hc hk =
-    let r : k - 1 < k = omega arith in
-    let e : a * k + (c * k - 1) ≡ (a + (c - 1)) * k + (k - 1) =
-    ap (λ (x : ℕ). a * k + x) (mul-pred hc hk) ∙ sym (add-assoc (a * k) ((c - 1) * k) (k - 1)) ∙ ap (λ (x : ℕ). x + (k - 1)) (sym (add-mul a (c - 1) k)) in
-    ap₂ (λ (x y : ℕ). x / y) e (mul-comm c k)
-    ∙ sym (div-div-eq-div-mul ((a + (c - 1)) * k + (k - 1)) k c)
-    ∙ ap (λ (x : ℕ). x / c) (digits-div (a + (c - 1)) r)
+-- ---- rounding to the nearest
+pub nearest-scale : (a c k : ℕ) → 0 < k → nearest (a * k) (c * k) ≡ nearest a c
+unfolding nearest
+nearest-scale a c k hk =
+    ap₂ (λ (x y : ℕ). x / y) (ap (λ (x : ℕ). x + c * k) (mul-right-comm a k 2) ∙ sym (add-mul (a * 2) c k)) (mul-right-comm c k 2)
+    ∙ mul-div-mul-right (a * 2 + c) (c * 2) hk
 
-pub upTo-cross : (a b c d : ℕ) → 0 < b → 0 < d → a * d ≡ c * b → upTo a b ≡ upTo c d
-upTo-cross a b c d hb hd e =
-    sym (upTo-scale a b d hb hd) ∙ ap₂ upTo e (mul-comm b d) ∙ upTo-scale c d b hd hb
+pub nearest-cross : (a b c d : ℕ) → 0 < b → 0 < d → a * d ≡ c * b → nearest a b ≡ nearest c d
+nearest-cross a b c d hb hd e = sym (nearest-scale a b d hd) ∙ ap₂ nearest e (mul-comm b d) ∙ nearest-scale c d b hb
 
 -- ---- the shift
 
@@ -63,33 +57,41 @@ regroup2 : (m x y k : ℕ) → m * (x * y) * k ≡ m * y * (k * x)
 regroup2 m x y k = simp (mul-assoc, mul-comm, mul-left-comm)
 
 -- one distance s, from the exponent and the count z
-pub one-shift : (m e z s : ℕ) → 0 < e → s + e ≡ 136 + z → upTo (m * 2 ^ z * 375) (2 ^ s) ≡ upTo (m * 2 ^ (e - 1) * 6144000) (2 ^ 149)
+pub one-shift : (m e z s : ℕ) → 0 < e → s + e ≡ 136 + z → nearest (m * 2 ^ z * 375) (2 ^ s) ≡ nearest (m * 2 ^ (e - 1) * 6144000) (2 ^ 149)
 one-shift m e z s o d =
     let j = e - 1 in
     let p : 2 ^ j * 2 ^ s ≡ 2 ^ 135 * 2 ^ z = sym (pow-add 2 j s) ∙ ap (λ (k : ℕ). 2 ^ k) (let f : j + s ≡ 135 + z = omega arith in f) ∙ pow-add 2 135 z in
     sym
-    (upTo-cross (m * 2 ^ j * 6144000) (2 ^ 149) (m * 2 ^ z * 375) (2 ^ s) (pow-pos 149) (pow-pos s)
+    (nearest-cross (m * 2 ^ j * 6144000) (2 ^ 149) (m * 2 ^ z * 375) (2 ^ s) (pow-pos 149) (pow-pos s)
     (regroup m (2 ^ j) 6144000 (2 ^ s)
     ∙ ap (λ (x : ℕ). m * x * 6144000) p
     ∙ regroup2 m (2 ^ 135) (2 ^ z) 6144000
     ∙ sym (mul-assoc (m * 2 ^ z) 375 (2 ^ 149))))
 
--- less than one
-far : (a s : ℕ) → 0 < a → a ≤ 2 ^ s → upTo a (2 ^ s) ≡ 1
-unfolding upTo
-far a s p h = div-eq-of-lt-le (2 ^ s) (omega (arith, pow-pos s)) (omega (arith, pow-pos s))
+-- less than a half
+far : (a s : ℕ) → a * 2 < 2 ^ s → nearest a (2 ^ s) ≡ 0
+unfolding nearest
+far a s h = div-eq-of-lt (omega arith)
 
 -- every distance past the farthest gives what the farthest gives
-pub held : (a s : ℕ) → 0 < a → a ≤ 2 ^ 41 → upTo a (2 ^ min s 63) ≡ upTo a (2 ^ s)
-held a s p h = go (decLe s 63)
+pub held : (a s : ℕ) → a < 2 ^ 41 → nearest a (2 ^ min s 63) ≡ nearest a (2 ^ s)
+held a s h = go (decLe s 63)
   where
-    go : Dec (s ≤ 63) → upTo a (2 ^ min s 63) ≡ upTo a (2 ^ s)
-    go (yes l) = ap (λ (n : ℕ). upTo a (2 ^ n)) (min-eq-left l)
+    go : Dec (s ≤ 63) → nearest a (2 ^ min s 63) ≡ nearest a (2 ^ s)
+    go (yes l) = ap (λ (n : ℕ). nearest a (2 ^ n)) (min-eq-left l)
     go (no n) =
         let l : 63 < s = lt-of-not-le n in
-        ap (λ (n : ℕ). upTo a (2 ^ n)) (min-eq-right (let k : 63 ≤ s = omega arith in k))
-        ∙ far a 63 p (le-trans h (pow-mono {i = 41} {j = 63} (omega arith)))
-        ∙ sym (far a s p (le-trans h (pow-mono {i = 41} (omega arith))))
+        let k : 2 ^ 42 ≤ 2 ^ s = pow-mono {i = 42} (omega arith) in
+        ap (λ (n : ℕ). nearest a (2 ^ n)) (min-eq-right (let k : 63 ≤ s = omega arith in k))
+        ∙ far a 63 (omega arith) ∙ sym (far a s (omega arith))
+
+-- the half that is added before the shift
+pub half-added : (p s : ℕ) → 0 < s → (p + 2 ^ s / 2) / 2 ^ s ≡ nearest p (2 ^ s)
+unfolding nearest
+half-added p s h =
+    let e : 2 ^ s ≡ 2 ^ (s - 1) * 2 = ap (λ (n : ℕ). 2 ^ n) (let f : s ≡ suc (s - 1) = omega arith in f) ∙ pow-suc 2 (s - 1) in
+    let g : p * 2 + 2 ^ s ≡ (p + 2 ^ s / 2) * 2 = omega arith in
+    sym (ap (λ (n : ℕ). n / (2 ^ s * 2)) g ∙ mul-div-mul-right (p + 2 ^ s / 2) (2 ^ s) (omega arith))
 
 pub shift-is : (m z : ℕ) → m * 2 ^ z < 2 ^ 32 → (m * 2 ^ z) % 2 ^ 32 ≡ m * 2 ^ z
 shift-is m z h = native.Mathlib.Nat.mod-eq-of-lt h

@@ -45,17 +45,17 @@ tempoBits b = le slowest (ofBits binary32 b) && le (ofBits binary32 b) fastest
 
 -- ---- ticks, by the exact number m * 2 ^ e that a float is, which is the fraction m * up e / down e
 
--- a / c rounded up to whole, for a c above 0
-unfoldable pub upTo : ℕ → ℕ → ℕ
-upTo a c = (a + (c - 1)) / c
+-- a / c to the nearest whole number, an exact half going up, for a c above 0
+unfoldable pub nearest : ℕ → ℕ → ℕ
+nearest a c = (a * 2 + c) / (c * 2)
 
--- the exact number times 6,144,000, rounded up to whole; 0 for what is below zero or no number
+-- the exact number times 6,144,000, to the nearest whole number; 0 for what is below zero or no number
 unfoldable pub ticksOf : Float → ℕ
-unfolding upTo
+unfolding nearest
 ticksOf nan = 0
 ticksOf (inf s) = 0
 ticksOf (fin true m e) = 0
-ticksOf (fin false m e) = upTo (m * up e * 6144000) (down e)
+ticksOf (fin false m e) = nearest (m * up e * 6144000) (down e)
 
 -- ticks of a time or duration: 0 past the latest time
 unfoldable pub ticksIn : Float → ℕ

@@ -1,8 +1,8 @@
 // Times, durations, tempos and values by their 32-bit patterns; ticks of a time and of a tempo (document 01,
 // "Score lines, bit by bit"). Every function is total.
 ghost use mathlib.Core.Path.{_≡_};
-ghost use Prim.Native.Nat.{_+_, _-_, _*_, _^_, _<_, _≤_, min};
-ghost use Rattle.timebase.specs.Time.{upTo, ticksIn, cycleIn, finiteBits, timeBits, durationBits, tempoBits};
+ghost use Prim.Native.Nat.{_+_, _-_, _*_, _/_, _^_, _<_, _≤_, min};
+ghost use Rattle.timebase.specs.Time.{nearest, ticksIn, cycleIn, finiteBits, timeBits, durationBits, tempoBits};
 ghost use Rattle.timebase.specs.Range.{checked};
 
 // A float is its significand times 2^(exponent - 150): the bias of its exponent, and 23 digits behind the point. 6,144,000
@@ -14,8 +14,8 @@ const PLACES: u32 = 9;
 // The farthest shift of a 64-bit number.
 const FARTHEST: u32 = 63;
 
-// How far 375 times a significand that was shifted up by its leading zeros is shifted down to ticks. Past 40 less than one
-// tick is left of it, so that a distance past the farthest gives what the farthest gives.
+// How far 375 times a significand that was shifted up by its leading zeros is shifted down to ticks. Past 41 less than half
+// a tick is left of it, so that a distance past the farthest gives what the farthest gives.
 fn distance(exponent: u32, zeros: u32) -> u32
     requires { ⌜ (exponent ≤ 136 + zeros) × (zeros < 32) ⌝ }
     ensures { λ r. ⌜ r ≡ min (136 + zeros - exponent) 63 ⌝ }
@@ -24,16 +24,23 @@ fn distance(exponent: u32, zeros: u32) -> u32
     if FARTHEST < far { FARTHEST } else { far }
 }
 
-// The ticks of a significand above 0 and an exponent, rounded up.
+fn half_of(tick: u64) -> u64
+    requires { ⌜ 1 < tick ⌝ }
+    ensures { λ r. ⌜ r ≡ tick / 2 ⌝ }
+{
+    tick / 2
+}
+
+// The ticks of a significand above 0 and an exponent: the half of a tick that is added makes the whole part the nearest.
 fn shifted(significand: u32, exponent: u32) -> u64
     requires { ⌜ (0 < significand) × (0 < exponent) × (significand * 2 ^ (exponent - 1) ≤ 2 ^ 163) ⌝ }
-    ensures { λ r. ⌜ r ≡ upTo (significand * 2 ^ (exponent - 1) * 6144000) (2 ^ 149) ⌝ }
+    ensures { λ r. ⌜ r ≡ nearest (significand * 2 ^ (exponent - 1) * 6144000) (2 ^ 149) ⌝ }
 {
     let zeros = u32::leading_zeros(significand);
     let product = ((significand << zeros) as u64) * 375;
     let down = distance(exponent, zeros);
     let tick = 1u64 << down;
-    (product + (tick - 1)) >> down
+    (product + half_of(tick)) >> down
 }
 
 // The ticks of a time or a duration: 0 past the latest time.

@@ -183,6 +183,11 @@ fn missed(d: Desk) -> Desk {
     left(d, panel, Panel::missed_notes(panel))
 }
 
+fn position(d: Desk) -> Desk {
+    let panel = d.panel;
+    left(d, panel, Panel::position_in_ticks(panel))
+}
+
 fn ticks_of(c: Checked) -> u64 {
     match c {
         Checked::Value(x) => timebase::beats_to_ticks(x),
@@ -211,6 +216,7 @@ enum Call {
     Silent,
     Sounding,
     Ticks,
+    Position,
     Decode,
     DecodeUnit,
     Write,
@@ -254,6 +260,9 @@ fn told_of(text: &[u8], h: Head) -> Call {
     if text::is_name(text, h, b"ticks") {
         return Call::Ticks;
     }
+    if text::is_name(text, h, b"position") {
+        return Call::Position;
+    }
     on_area(text, h)
 }
 
@@ -296,6 +305,7 @@ fn called(d: Desk, c: Call, size: usize, bytes: &[u8], numbers: &[u32]) -> Desk 
         Call::Silent => silent(d),
         Call::Sounding => sounding(d),
         Call::Ticks => got(d, ticks(numbers)),
+        Call::Position => position(d),
         Call::Decode => got(d, crate::areas::decode(bytes, size)),
         Call::DecodeUnit => got(d, crate::areas::decode_unit(bytes, size)),
         Call::Write => got(d, crate::areas::write(numbers, size)),

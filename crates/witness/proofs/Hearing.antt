@@ -47,7 +47,7 @@ read-as = scoreOf (bitsOf score)
 
 -- the score read, computed
 score-read : (read-as .answer ≡ Taken) × (read-as .lines ≡ line ∷ [])
-unfolding bitstream-bits.bit bitstream-bits.field bitstream-bits.bitsOf bitstream-bits.valueOf bitstream-fields.roomFor bitstream-fields.written bitstream-filling.filled bitstream-filling.filledUp bitstream-filling.bytesFrom bitstream-filling.bytesOf bitstream-reads.readAt formats-reading.numberFrom formats-format.small score-line-format.inRange score-line-format.float score-line-format.number score-line-format.timed score-line-format.when score-line-format.label score-line-format.kind score-line-format.labelled score-line-format.body score-line-format.counted score-line-format.values score-line-format.afterTime score-line-format.parts score-line-format.padded score-line-format.line score-line-reading.lineOf score-line-reading.answerOf score-line-reading.refusedLine score-line-reading.lineRead score-line-reading.lineAt score-line-reading.lineInWords score-line-reading.wholeRun score-line-reading.keypadLine formats-source.bitSource formats-source.keypadSource score-score.linesFrom score-score.ended score-score.counted score-score.scoreOf score-score.firstOf score-score.nextOf score-score.walked score-score.wholeLine score-score.opened score-score.unitOf timebase-range.checked timebase-time.finiteBits timebase-time.timeBits timebase-time.durationBits timebase-time.tempoBits timebase-time.upTo timebase-time.ticksOf timebase-time.ticksIn timebase-time.cycleOf timebase-time.cycleIn ofBits le
+unfolding bitstream-bits.bit bitstream-bits.field bitstream-bits.bitsOf bitstream-bits.valueOf bitstream-fields.roomFor bitstream-fields.written bitstream-filling.filled bitstream-filling.filledUp bitstream-filling.bytesFrom bitstream-filling.bytesOf bitstream-reads.readAt formats-reading.numberFrom formats-format.small score-line-format.inRange score-line-format.float score-line-format.number score-line-format.timed score-line-format.when score-line-format.label score-line-format.kind score-line-format.labelled score-line-format.body score-line-format.counted score-line-format.values score-line-format.afterTime score-line-format.parts score-line-format.padded score-line-format.line score-line-reading.lineOf score-line-reading.answerOf score-line-reading.refusedLine score-line-reading.lineRead score-line-reading.lineAt score-line-reading.lineInWords score-line-reading.wholeRun score-line-reading.keypadLine formats-source.bitSource formats-source.keypadSource score-score.linesFrom score-score.ended score-score.counted score-score.scoreOf score-score.firstOf score-score.nextOf score-score.walked score-score.wholeLine score-score.opened score-score.unitOf timebase-range.checked timebase-time.finiteBits timebase-time.timeBits timebase-time.durationBits timebase-time.tempoBits timebase-time.ticksIn timebase-time.cycleOf timebase-time.cycleIn ofBits le
 score-read = (refl, refl)
 
 enough : 0 ≤ 0

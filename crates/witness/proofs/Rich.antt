@@ -35,7 +35,7 @@ use Rattle.players.specs.Calls.{stick, unit, keypad}
 use Rattle.float32.specs.Limit.{held, sampleOf}
 use Rattle.float32.specs.Builtins.{truth}
 use Rattle.float32.specs.Operators.{binaryOf}
-use Rattle.timebase.specs.Time.{upTo, ticksOf, ticksIn, cycleOf, cycleIn}
+use Rattle.timebase.specs.Time.{ticksIn, cycleOf, cycleIn}
 use Rattle.sounding.specs.Voices as code
 use Rattle.voices.specs.Tree.{silent, instrumentOf, importsOf, treeVoices}
 use Rattle.claims.specs.Claims.{settings}
@@ -71,17 +71,17 @@ accepted = record { tokens = tokens; sized = sized; derived = derived; named = r
 
 -- what the three doors read
 all-read : IsRead stick onStick before × IsRead unit inUnit (control ∷ []) × IsRead keypad onKeypad (end ∷ [])
-unfolding bitstream-bits.bit bitstream-bits.field bitstream-bits.bitsOf bitstream-bits.valueOf bitstream-fields.roomFor bitstream-fields.written bitstream-filling.filled bitstream-filling.filledUp bitstream-filling.bytesFrom bitstream-filling.bytesOf bitstream-reads.readAt formats-reading.numberFrom formats-format.small score-line-format.inRange score-line-format.float score-line-format.number score-line-format.timed score-line-format.when score-line-format.label score-line-format.kind score-line-format.labelled score-line-format.body score-line-format.counted score-line-format.values score-line-format.afterTime score-line-format.parts score-line-format.padded score-line-format.line score-line-reading.lineOf score-line-reading.answerOf score-line-reading.refusedLine score-line-reading.lineRead score-line-reading.lineAt score-line-reading.lineInWords score-line-reading.wholeRun score-line-reading.keypadLine formats-source.bitSource formats-source.keypadSource score-score.linesFrom score-score.ended score-score.counted score-score.scoreOf score-score.firstOf score-score.nextOf score-score.walked score-score.wholeLine score-score.opened score-score.unitOf timebase-range.checked timebase-time.finiteBits timebase-time.timeBits timebase-time.durationBits timebase-time.tempoBits timebase-time.upTo timebase-time.ticksOf timebase-time.ticksIn timebase-time.cycleOf timebase-time.cycleIn ofBits le
+unfolding bitstream-bits.bit bitstream-bits.field bitstream-bits.bitsOf bitstream-bits.valueOf bitstream-fields.roomFor bitstream-fields.written bitstream-filling.filled bitstream-filling.filledUp bitstream-filling.bytesFrom bitstream-filling.bytesOf bitstream-reads.readAt formats-reading.numberFrom formats-format.small score-line-format.inRange score-line-format.float score-line-format.number score-line-format.timed score-line-format.when score-line-format.label score-line-format.kind score-line-format.labelled score-line-format.body score-line-format.counted score-line-format.values score-line-format.afterTime score-line-format.parts score-line-format.padded score-line-format.line score-line-reading.lineOf score-line-reading.answerOf score-line-reading.refusedLine score-line-reading.lineRead score-line-reading.lineAt score-line-reading.lineInWords score-line-reading.wholeRun score-line-reading.keypadLine formats-source.bitSource formats-source.keypadSource score-score.linesFrom score-score.ended score-score.counted score-score.scoreOf score-score.firstOf score-score.nextOf score-score.walked score-score.wholeLine score-score.opened score-score.unitOf timebase-range.checked timebase-time.finiteBits timebase-time.timeBits timebase-time.durationBits timebase-time.tempoBits timebase-time.ticksIn timebase-time.cycleOf timebase-time.cycleIn ofBits le
 all-read = ((refl, refl), (refl, refl), (refl, refl))
 
 in-time : Later control × Later end
-unfolding plainAt plainStart ticksIn ticksOf upTo ofBits le lt eq
+unfolding plainAt plainStart ticksIn ofBits le lt eq
 in-time = (omega arith, omega arith)
 
 -- the cycles of the plain player
 played-out : Gives 0 (pos 8192) × Gives 1 (pos 16384) × (plainAt (treeVoices tree) (settings ceiling) lines 1 .plays .counts .missed ≡ 1)
     × (answerAt (treeVoices tree) (settings ceiling) lines 2 ≡ 9)
-unfolding answerAt answerOf blockAt blockOf limited bandOf startedOf runAll runFrom started controlled dueAt laterThan plainAt cycled plainStart sixty endsBy anyEnd played goesOn lastTempo cycleIn cycleOf keep fold each isDue insert ordered joinedBy born controlledBy ticksIn ticksOf upTo treeVoices instrumentOf importsOf silent sampleOf held binaryOf cycle kPass aPasses pass outputs assigned value fresh birth put putIn namedBy named placeFrom add mul round ofBits lt le eq code.named truth ne
+unfolding answerAt answerOf blockAt blockOf limited bandOf startedOf runAll runFrom started controlled dueAt laterThan plainAt cycled plainStart sixty endsBy anyEnd played goesOn lastTempo cycleIn cycleOf keep fold each isDue insert ordered joinedBy born controlledBy ticksIn treeVoices instrumentOf importsOf silent sampleOf held binaryOf cycle kPass aPasses pass outputs assigned value fresh birth put putIn namedBy named placeFrom add mul round ofBits lt le eq code.named truth ne
 played-out = ((refl, refl), (refl, refl), refl, refl)
 
 pub rich : Rich

@@ -20,7 +20,7 @@ use Rattle.players.specs.Holds.{sixty, dueAt, laterThan, endsBy, answerOf, star
 use Rattle.players.specs.Plain.{plainStart, plainAt, answerAt, blockAt}
 use Rattle.float32.specs.Limit.{held, sampleOf}
 use Rattle.float32.specs.Operators.{binaryOf}
-use Rattle.timebase.specs.Time.{upTo, ticksOf, ticksIn, cycleOf, cycleIn}
+use Rattle.timebase.specs.Time.{ticksIn, cycleOf, cycleIn}
 use Rattle.voices.specs.Tree.{silent, instrumentOf, importsOf, treeVoices}
 use Rattle.witness.specs.Growing.{bytes, tree, Sounds}
 
@@ -44,5 +44,5 @@ unfolding named namedBy has apart knownIn known eachKept rateOf rate ratesKept r
 accepted = record { tokens = tokens; sized = sized; derived = derived; named = refl; rated = refl }
 
 pub growing-sounds : Sounds
-unfolding answerAt answerOf blockAt blockOf limited bandOf startedOf runAll runFrom started controlled dueAt laterThan plainAt cycled plainStart sixty endsBy anyEnd played goesOn lastTempo cycleIn cycleOf keep fold each isDue insert ordered joinedBy born controlledBy ticksIn ticksOf upTo treeVoices instrumentOf importsOf silent sampleOf held binaryOf cycle kPass aPasses pass outputs assigned value fresh birth put putIn namedBy named placeFrom add mul round ofBits lt le eq
+unfolding answerAt answerOf blockAt blockOf limited bandOf startedOf runAll runFrom started controlled dueAt laterThan plainAt cycled plainStart sixty endsBy anyEnd played goesOn lastTempo cycleIn cycleOf keep fold each isDue insert ordered joinedBy born controlledBy ticksIn treeVoices instrumentOf importsOf silent sampleOf held binaryOf cycle kPass aPasses pass outputs assigned value fresh birth put putIn namedBy named placeFrom add mul round ofBits lt le eq
 growing-sounds = record { accepted = accepted; first = (refl, refl); second = (refl, refl); held = refl }
