@@ -414,17 +414,17 @@ module _ (is : List Instrument) (p : Panel) (r : StandsFor is (p .program)) (lon
   at-door-given d b n l (taken ls s t) =
       when-read d b ls (s .0) (s .1) (s .2) ∙ all-fit is (p .program) r d (own p .reached) (p .state .queue) ls (p .state .queue) _ 0 (has-own d) t
 
-  given : (c : Call) (n l : ℕ) → Verdict is (own p) c n l → afterOf p c .answers ≡ one n l
+  pub given : (c : Call) (n l : ℕ) → Verdict is (own p) c n l → afterOf p c .answers ≡ one n l
   given (bring d b) n l v = at-door-given d b n l v
   given (cycle b) n l v = at-cycle-given b n l v
 
 -- ---- every call has a verdict
 
 module _ {S : Type 0} (is : List Instrument) (h : History S) where
-  record Decided (c : Call) : Type 0 where
-    number : ℕ
-    line : ℕ
-    verdict : Verdict is h c number line
+  pub record Decided (c : Call) : Type 0 where
+    pub number : ℕ
+    pub line : ℕ
+    pub verdict : Verdict is h c number line
 
   module _ (d : Door) where
     data OneLine (n : ℕ) (l : Line) : Type 0 where
@@ -521,7 +521,7 @@ module _ {S : Type 0} (is : List Instrument) (h : History S) where
       go true false false hw he hx = record { number = 0; line = 0; verdict = plays hw he hx }
       go false e x hw he hx = record { number = 10; line = 0; verdict = otherLength hw }
 
-  decided : (c : Call) → Decided c
+  pub decided : (c : Call) → Decided c
   decided (bring d handed) = at-door d handed
   decided (cycle block) = at-cycle block
 

@@ -1,4 +1,4 @@
--- The panel holds what its history says, its cycle is the cycle of its history, and so it keeps condition 3.
+-- The panel holds what its history says, its cycle is the cycle of its history, and so it keeps condition 3, notes by place.
 use mathlib.Core.Path.{_≡_, refl, sym, ap, _∙_, subst, subst⁻¹}
 use mathlib.Core.Bool.{Bool, true, false, cond, _&&_}
 use mathlib.Core.List.{List, [], _∷_, _++_, append-nil}
@@ -9,25 +9,22 @@ use lib.ListN.{length, length-take, length-replicate}
 use lib.Dec.{eqb, leb}
 use borrow.Author.Tests.{le-leb}
 use Rattle.answer.specs.Numbers.{isTaken}
-use Rattle.bitstream.specs.Bits.{bitsOf}
 use Rattle.float32.specs.Limit.{Within}
-use Rattle.score_line.specs.Reading.{keypadLine}
 use Rattle.score_line.specs.declared.Line.{Line}
-use Rattle.score_line.specs.declared.LineRead.{LineRead}
-use Rattle.score.specs.Score.{unitOf}
 use Rattle.syntax.specs.Tree.{Instrument}
 use Rattle.voices.specs.Tree.{treeVoices}
 use Rattle.voices.proofs.Laws.{Sixteen, alike}
 use Rattle.voices.proofs.Alike.{Alike, Notes, block-same, played-same, played-good}
+use Rattle.written_voices.specs.Voices.{nextBlock}
 use Rattle.sounding.specs.Voices.{Held}
 use Rattle.players.specs.Lists.{each, All}
 use Rattle.players.specs.Cycle.{Voices, farthest}
 use Rattle.players.specs.Holds.{Settings, settingsOf, Holds, behind, laterThan, dueOf, endsBy, marked, answerOf, capped, blockOf, played, cycled}
 use Rattle.players.specs.Plain.{plainStart}
-use Rattle.players.specs.Calls.{Door, stick, unit, keypad, reads, single, Call, bring, cycle, Answer, one, After, numbered, linesOf, takenOf, isZero, Last, none, cyclesWith, lastWith, momentOf, traceFrom, trace, afterAll}
-use Rattle.players.specs.Condition3.{WithinCeiling}
+use Rattle.players.specs.Calls.{Door, reads, Call, bring, cycle, Answer, one, After, numbered, linesOf, takenOf, isZero, Last, none, cyclesWith, lastWith, momentOf, traceFrom, trace, afterAll}
+use Rattle.players.specs.Condition3.{PlainAlike, WithinCeiling}
 use Rattle.players.specs.History.{nowhere, at, History, unbegun, withCycle, withMoment, historyFrom}
-use Rattle.players.proofs.Lists.{cond-true, cond-false, all-append}
+use Rattle.players.proofs.Lists.{cond-true, cond-false, all-append, all-map}
 use Rattle.players.proofs.Join.{behind-none}
 use Rattle.players.proofs.Count.{AllSteady, steady, Slow, within-limit, cap-none, slow-played, starting}
 use Rattle.players.proofs.Ceiling.{block-within}
@@ -43,8 +40,8 @@ use Rattle.panel.specs.State.{tableOf, voicesOf, holdsOf, startOf, withQueue, e
 use Rattle.panel.specs.Calls.{freshOf, playedOf}
 use Rattle.panel.specs.declared.Panel.{Panel}
 use Rattle.panel.specs.declared.Fresh.{Fresh}
-use Rattle.claims.specs.Claims.{afterOf, panel, reachedOf, Given, fresh, settings, past, panelAfter, CycleByTree, Condition3, CeilingBinds}
-use Rattle.claims.proofs.Steady.{score-steady, unit-steady, keypad-steady}
+use Rattle.claims.specs.Claims.{afterOf, panel, reachedOf, Given, fresh, settings, past, panelAfter, CeilingBinds}
+use Rattle.claims.proofs.Ranged.{ranged, ranged-steady, reads-ranged}
 use Rattle.claims.proofs.Doors.{differ, differ′, Behind, Brings, takes, refuses, brings}
 use Rattle.claims.proofs.Cycles.{holds-ended, holds-played, reached-ended, reached-played, played-long, Cycles, off, over-before, ends, plays, cycles}
 
@@ -52,19 +49,10 @@ use Rattle.claims.proofs.Cycles.{holds-ended, holds-played, reached-end
 abbrev pub own : Panel → History Held
 own p = record { holds = holdsOf p; reached = reachedOf p }
 
--- ---- every line read has a tempo of at least 1, if it is a tempo line
-
-single-steady : (r : LineRead) → steady (r .line .event) → AllSteady (single r .lines)
-single-steady r h = go (isTaken (r .answer))
-  where
-    go : (b : Bool) → AllSteady (cond b (r .line ∷ []) [])
-    go true = (h, tt)
-    go false = tt
-
+-- every line read has a tempo of at least 1, if it is a tempo line
 reads-steady : (d : Door) (handed : List ℕ) → AllSteady (reads d handed .lines)
-reads-steady stick b = score-steady (bitsOf b)
-reads-steady unit b = single-steady (unitOf (bitsOf b)) (unit-steady (bitsOf b))
-reads-steady keypad b = single-steady (keypadLine b) (keypad-steady b)
+reads-steady d handed =
+    all-map (λ (l : Line). ranged (l .event)) (λ (l : Line). steady (l .event)) (λ l h. ranged-steady (l .event) h) (reads d handed .lines) (reads-ranged d handed)
 
 -- ---- what the panel keeps true of itself
 
@@ -407,7 +395,7 @@ module _ (orchestra : List ℕ) (is : List Instrument) (ceiling : ℕ) (g : Give
         good = tt;
       }
 
-  fresh-kept : Kept program ceiling is stands (fresh orchestra ceiling)
+  pub fresh-kept : Kept program ceiling is stands (fresh orchestra ceiling)
   fresh-kept = subst⁻¹ (Kept program ceiling is stands) fresh-is start-kept
 
   fresh-own : own (fresh orchestra ceiling) ≡ unbegun (settingsOf ceiling)
@@ -426,19 +414,17 @@ module _ (orchestra : List ℕ) (is : List Instrument) (ceiling : ℕ) (g : Give
       subst (λ (h : History Held). AllFollow panel (treeVoices is) (settings ceiling) h (trace panel (fresh orchestra ceiling) cs)) fresh-own
       (follows program ceiling is stands cs 0 none (fresh orchestra ceiling) fresh-kept)
 
-pub cycle-by-tree : CycleByTree
-unfolding CycleByTree
-cycle-by-tree orchestra is ceiling g cs =
-    let e = past-is orchestra is ceiling g cs in (
-      record { holds = ap (λ (h : History Held). h .holds) e; reached = ap (λ (h : History Held). h .reached) e },
-      λ lent t.
-          sounded (loadOf orchestra .program) ceiling is (stands orchestra is ceiling g) (panelAfter orchestra is ceiling cs) (kept-after orchestra is ceiling g cs) lent t
-          ∙ ap (λ (h : History Held). blockOf (treeVoices is) (settingsOf ceiling) (dueOf (h .holds)) (h .holds .plays)) e,
-    )
+-- what a cycle leaves, and condition 3, with the notes' values by place
+pub block-by-place : (orchestra : List ℕ) (is : List Instrument) (ceiling : ℕ) → Given orchestra is ceiling → (cs : List Call) (lent : List ℤ)
+    → isZero (afterOf (panelAfter orchestra is ceiling cs) (cycle lent) .answers) ≡ true
+    → afterOf (panelAfter orchestra is ceiling cs) (cycle lent) .block
+    ≡ nextBlock (treeVoices is) (settings ceiling) (settingsOf ceiling) (trace panel (fresh orchestra ceiling) cs)
+block-by-place orchestra is ceiling g cs lent t =
+    sounded (loadOf orchestra .program) ceiling is (stands orchestra is ceiling g) (panelAfter orchestra is ceiling cs) (kept-after orchestra is ceiling g cs) lent t
+    ∙ ap (λ (h : History Held). blockOf (treeVoices is) (settingsOf ceiling) (dueOf (h .holds)) (h .holds .plays)) (past-is orchestra is ceiling g cs)
 
-pub condition-3 : Condition3
-unfolding Condition3
-condition-3 orchestra is ceiling g = plain-alike panel (treeVoices is) (settings ceiling) (fresh orchestra ceiling) (follows-past orchestra is ceiling g)
+pub by-place : (orchestra : List ℕ) (is : List Instrument) (ceiling : ℕ) → Given orchestra is ceiling → PlainAlike panel (treeVoices is) (settings ceiling) (fresh orchestra ceiling)
+by-place orchestra is ceiling g = plain-alike panel (treeVoices is) (settings ceiling) (fresh orchestra ceiling) (follows-past orchestra is ceiling g)
 
 pub ceiling-binds : CeilingBinds
 unfolding CeilingBinds

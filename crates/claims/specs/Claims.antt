@@ -14,10 +14,11 @@ use Rattle.tokens.specs.Spelling.{Bytes}
 use Rattle.orchestra.specs.Verdict.{Accepted}
 use Rattle.voices.specs.Tree.{treeVoices}
 use Rattle.sounding.specs.Voices.{Held}
+use Rattle.written_voices.specs.Voices.{writtenVoices, Fits, nextBlock}
 use Rattle.players.specs.Lists.{All}
-use Rattle.players.specs.Holds.{Settings, settingsOf, dueOf, endsBy, blockOf}
+use Rattle.players.specs.Holds.{Settings, settingsOf, dueOf, endsBy}
 use Rattle.players.specs.Plain.{plainStart}
-use Rattle.players.specs.Calls.{Door, hasTime, reads, Call, bring, cycle, numbered, one, After, Player, isZero, Moment, trace, afterAll}
+use Rattle.players.specs.Calls.{Door, hasTime, reads, Call, bring, cycle, numbered, one, After, Player, isZero, Moment, trace, allTaken, afterAll}
 use Rattle.players.specs.Condition3.{PlainAlike, WithinCeiling}
 use Rattle.players.specs.History.{Reached, nowhere, at, History, historyOf}
 use Rattle.waiting.specs.Admission.{waitingIn}
@@ -143,12 +144,12 @@ module _ (orchestra : List ℕ) (is : List Instrument) (ceiling : ℕ) where
     pub holds : holdsOf (panelAfter cs) ≡ past cs .holds
     pub reached : reachedOf (panelAfter cs) ≡ past cs .reached
 
-  -- and a cycle call that answers 0 leaves the block of document 01's cycle, with what the tree means.
+  -- and a cycle call that answers 0 leaves the block of document 01's cycle, the notes being those of the orchestra as it is written.
   abbrev pub BlockByPast : List Call → List ℤ → Type 0
   BlockByPast cs lent =
       isZero (afterOf (panelAfter cs) (cycle lent) .answers) ≡ true
       → afterOf (panelAfter cs) (cycle lent) .block
-      ≡ blockOf (treeVoices is) (settingsOf ceiling) (dueOf (past cs .holds)) (past cs .holds .plays)
+      ≡ nextBlock (writtenVoices is) (settings ceiling) (settingsOf ceiling) (trace panel (fresh orchestra ceiling) cs)
 
   -- Each call answers once, with the number that its history gives, and is given each number exactly then.
   pub record Answered (cs : List Call) (c : Call) : Type 0 where
@@ -170,11 +171,17 @@ CallVerdict =
     (orchestra : List ℕ) (is : List Instrument) (ceiling : ℕ) → Given orchestra is ceiling → (cs : List Call) (c : Call) →
     Answered orchestra is ceiling cs c × VerdictGiven orchestra is ceiling cs c
 
--- Condition 3, first half and second half.
+-- Each line taken has no more values than its instrument has fields, and a control line's symbol has 16 bits.
+unfoldable pub LinesFit : Type 0
+LinesFit =
+    (orchestra : List ℕ) (is : List Instrument) (ceiling : ℕ) → Given orchestra is ceiling → (cs : List Call) →
+    All (λ (l : Line). Fits is l (l .event)) (allTaken (trace panel (fresh orchestra ceiling) cs))
+
+-- Condition 3, first half and second half: the plain player's notes are those of the orchestra as it is written, their values by symbol.
 unfoldable pub Condition3 : Type 0
 Condition3 =
     (orchestra : List ℕ) (is : List Instrument) (ceiling : ℕ) → Given orchestra is ceiling →
-    PlainAlike panel (treeVoices is) (settings ceiling) (fresh orchestra ceiling)
+    PlainAlike panel (writtenVoices is) (settings ceiling) (fresh orchestra ceiling)
 
 unfoldable pub CeilingBinds : Type 0
 CeilingBinds =

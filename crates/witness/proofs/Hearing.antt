@@ -28,11 +28,11 @@ use Rattle.players.specs.Plain.{plainStart, answerAt, blockAt}
 use Rattle.players.specs.Calls.{stick, bring, cycle, Answer, one, numbered, linesOf, takenOf, isZero, none, Moment, lastWith, momentOf, traceFrom, allTaken, afterAll}
 use Rattle.players.specs.Condition3.{inTime, InTime, AsPlain, PlainAlike}
 use Rattle.players.specs.History.{historyFrom}
-use Rattle.voices.specs.Tree.{treeVoices}
+use Rattle.written_voices.specs.Voices.{writtenVoices}
 use Rattle.panel.specs.declared.Panel.{Panel}
 use Rattle.claims.specs.Verdict.{here, taken, Verdict}
 use Rattle.claims.specs.Claims.{afterOf, panel, Given, settings, past, Condition3, CallVerdict}
-use Rattle.claims.proofs.Past.{condition-3}
+use Rattle.claims.proofs.Written.{condition-3}
 use Rattle.claims.proofs.Answers.{call-verdict}
 use Rattle.witness.specs.Growing.{ceiling, bytes, tree, line}
 use Rattle.witness.specs.Calls.{score, lent, calls, started, loaded, cycled, moments, Heard}
@@ -85,27 +85,27 @@ lines-taken =
     λ i. stick-line i ++ (no-line (afterOf loaded (cycle lent) .answers) i ++ (no-line (afterOf cycled (cycle lent) .answers) i ++ []))
 
 -- the line came before any cycle, and it is timed
-in-time : All (InTime panel (treeVoices tree) (settings ceiling) (line ∷ [])) moments
+in-time : All (InTime panel (writtenVoices tree) (settings ceiling) (line ∷ [])) moments
 unfolding traceFrom
 in-time = (
-  subst⁻¹ (All (inTime panel (treeVoices tree) (settings ceiling) (line ∷ []) none)) stick-line (tt, tt),
+  subst⁻¹ (All (inTime panel (writtenVoices tree) (settings ceiling) (line ∷ []) none)) stick-line (tt, tt),
   (
-    subst⁻¹ (All (inTime panel (treeVoices tree) (settings ceiling) (line ∷ []) none)) (no-line (afterOf loaded (cycle lent) .answers)) tt,
-    (subst⁻¹ (All (inTime panel (treeVoices tree) (settings ceiling) (line ∷ []) (lastWith (momentOf panel 0 none loaded (cycle lent))))) (no-line (afterOf cycled (cycle lent) .answers)) tt, tt),
+    subst⁻¹ (All (inTime panel (writtenVoices tree) (settings ceiling) (line ∷ []) none)) (no-line (afterOf loaded (cycle lent) .answers)) tt,
+    (subst⁻¹ (All (inTime panel (writtenVoices tree) (settings ceiling) (line ∷ []) (lastWith (momentOf panel 0 none loaded (cycle lent))))) (no-line (afterOf cycled (cycle lent) .answers)) tt, tt),
   ),
 )
 
 -- the claims of condition 3, of these calls
-as-plain : All (AsPlain panel (treeVoices tree) (settings ceiling) (line ∷ [])) moments
+as-plain : All (AsPlain panel (writtenVoices tree) (settings ceiling) (line ∷ [])) moments
 unfolding Condition3 PlainAlike
 as-plain =
-    subst (λ (ls : List Line). All (AsPlain panel (treeVoices tree) (settings ceiling) ls) moments) lines-taken
-    (condition-3 bytes tree ceiling given calls (subst⁻¹ (λ (ls : List Line). All (InTime panel (treeVoices tree) (settings ceiling) ls) moments) lines-taken in-time))
+    subst (λ (ls : List Line). All (AsPlain panel (writtenVoices tree) (settings ceiling) ls) moments) lines-taken
+    (condition-3 bytes tree ceiling given calls (subst⁻¹ (λ (ls : List Line). All (InTime panel (writtenVoices tree) (settings ceiling) ls) moments) lines-taken in-time))
 
 -- a cycle's answer and block are the plain player's
-module _ {b : List ℤ} (m : Moment Panel) (a : AsPlain panel (treeVoices tree) (settings ceiling) (line ∷ []) m) where
-  sounds : numbered (m .call) ≡ true → answerAt (treeVoices tree) (settings ceiling) (line ∷ []) (m .cycles) ≡ 0
-      → blockAt (treeVoices tree) (settings ceiling) (line ∷ []) (m .cycles) ≡ b → (m .after .answers ≡ one 0 0) × (m .after .block ≡ b)
+module _ {b : List ℤ} (m : Moment Panel) (a : AsPlain panel (writtenVoices tree) (settings ceiling) (line ∷ []) m) where
+  sounds : numbered (m .call) ≡ true → answerAt (writtenVoices tree) (settings ceiling) (line ∷ []) (m .cycles) ≡ 0
+      → blockAt (writtenVoices tree) (settings ceiling) (line ∷ []) (m .cycles) ≡ b → (m .after .answers ≡ one 0 0) × (m .after .block ≡ b)
   sounds n e f =
       let x : m .after .answers ≡ one 0 0 = a .answer n ∙ ap (λ (y : ℕ). one y 0) e in
       (x, a .block n (ap isZero x) ∙ f)

@@ -1,6 +1,8 @@
 -- The richer piece, computed.
-use mathlib.Core.Path.{_≡_, refl}
-use lib.IntN.{pos}
+use mathlib.Core.Path.{_≡_, refl, sym, _∙_}
+use Prim.Native.Nat.{ℕ, zero, suc, _≤_, _<_}
+use lib.IntN.{ℤ, pos}
+use lib.ListN.{replicate}
 use mathlib.Core.List.{List, [], _∷_}
 use native.Mathlib.Omega.{arith}
 use lib.Ieee.{binary32, ofBits, fits, size, add, mul, round, lt, le, eq, ne}
@@ -27,8 +29,10 @@ use Rattle.syntax.specs.Grammar.{named as a·name, sides, plus}
 use Rattle.syntax.specs.Grammar.{none, set, out, either, one, none as no·fields, some as some·fields, ivar, asig, imports, none as no·decls, some as some·decls, is, Orchestra, last, next}
 use Rattle.orchestra.specs.Verdict.{Sized, Accepted}
 use Rattle.meaning.specs.Placed.{value, assigned, outputs, pass, fresh, birth, kPass, aPasses, cycle}
-use Rattle.players.specs.Lists.{keep, fold, each}
-use Rattle.players.specs.Cycle.{isDue, insert, ordered, anyEnd, lastTempo, limited, joinedBy, goesOn, born, started, controlledBy, controlled, runFrom, runAll}
+use Rattle.score_line.specs.declared.Line.{Line}
+use Rattle.players.specs.Lists.{keep, fold, each, All}
+use Rattle.players.proofs.Lists.{all-append}
+use Rattle.players.specs.Cycle.{Voices, isDue, insert, ordered, anyEnd, lastTempo, limited, joinedBy, goesOn, born, started, controlledBy, controlled, runFrom, runAll}
 use Rattle.players.specs.Holds.{sixty, dueAt, laterThan, endsBy, answerOf, startedOf, bandOf, blockOf, played, cycled}
 use Rattle.players.specs.Plain.{plainStart, plainAt, answerAt, blockAt}
 use Rattle.players.specs.Calls.{stick, unit, keypad}
@@ -37,10 +41,12 @@ use Rattle.float32.specs.Builtins.{truth}
 use Rattle.float32.specs.Operators.{binaryOf}
 use Rattle.timebase.specs.Time.{ticksIn, cycleOf, cycleIn}
 use Rattle.sounding.specs.Voices as code
-use Rattle.voices.specs.Tree.{silent, instrumentOf, importsOf, treeVoices}
+use Rattle.voices.specs.Tree.{silent, instrumentOf, importsOf, noSymbol, treeVoices}
+use Rattle.written_voices.specs.Voices.{writtenVoices, Fits, PlaysAsWritten}
+use Rattle.written_voices.proofs.Written.{every-piece}
 use Rattle.claims.specs.Claims.{settings}
 use Rattle.witness.specs.Growing.{ceiling}
-use Rattle.witness.specs.Rich.{bytes, tree, onStick, inUnit, onKeypad, before, control, end, lines, IsRead, Later, Gives, Rich}
+use Rattle.witness.specs.Rich.{bytes, tree, rest, onStick, inUnit, onKeypad, before, control, end, lines, IsRead, Later, Gives, Rich}
 
 abbrev tokens : List Token
 tokens =
@@ -74,26 +80,70 @@ all-read : IsRead stick onStick before × IsRead unit inUnit (control ∷ []) ×
 unfolding bitstream-bits.bit bitstream-bits.field bitstream-bits.bitsOf bitstream-bits.valueOf bitstream-fields.roomFor bitstream-fields.written bitstream-filling.filled bitstream-filling.filledUp bitstream-filling.bytesFrom bitstream-filling.bytesOf bitstream-reads.readAt formats-reading.numberFrom formats-format.small score-line-format.inRange score-line-format.float score-line-format.number score-line-format.timed score-line-format.when score-line-format.label score-line-format.kind score-line-format.labelled score-line-format.body score-line-format.counted score-line-format.values score-line-format.afterTime score-line-format.parts score-line-format.padded score-line-format.line score-line-reading.lineOf score-line-reading.answerOf score-line-reading.refusedLine score-line-reading.lineRead score-line-reading.lineAt score-line-reading.lineInWords score-line-reading.wholeRun score-line-reading.keypadLine formats-source.bitSource formats-source.keypadSource score-score.linesFrom score-score.ended score-score.counted score-score.scoreOf score-score.firstOf score-score.nextOf score-score.walked score-score.wholeLine score-score.opened score-score.unitOf timebase-range.checked timebase-time.finiteBits timebase-time.timeBits timebase-time.durationBits timebase-time.tempoBits timebase-time.ticksIn timebase-time.cycleOf timebase-time.cycleIn ofBits le
 all-read = ((refl, refl), (refl, refl), (refl, refl))
 
-in-time : Later control × Later end
+in-time : {S : Type 0} (v : Voices S) → Later v control × Later v end
 unfolding plainAt plainStart ticksIn ofBits le lt eq
-in-time = (omega arith, omega arith)
+in-time v = (omega arith, omega arith)
 
 -- the cycles of the plain player
-played-out : Gives 0 (pos 8192) × Gives 1 (pos 16384) × (plainAt (treeVoices tree) (settings ceiling) lines 1 .plays .counts .missed ≡ 1)
+played-out : Gives (treeVoices tree) 0 (pos 8192) × Gives (treeVoices tree) 1 (pos 16384) × (plainAt (treeVoices tree) (settings ceiling) lines 1 .plays .counts .missed ≡ 1)
     × (answerAt (treeVoices tree) (settings ceiling) lines 2 ≡ 9)
 unfolding answerAt answerOf blockAt blockOf limited bandOf startedOf runAll runFrom started controlled dueAt laterThan plainAt cycled plainStart sixty endsBy anyEnd played goesOn lastTempo cycleIn cycleOf keep fold each isDue insert ordered joinedBy born controlledBy ticksIn treeVoices instrumentOf importsOf silent sampleOf held binaryOf cycle kPass aPasses pass outputs assigned value fresh birth put putIn namedBy named placeFrom add mul round ofBits lt le eq code.named truth ne
 played-out = ((refl, refl), (refl, refl), refl, refl)
 
-pub rich : Rich
+-- with the notes' values by place
+by-place : Rich (treeVoices tree)
+by-place =
+    record {
+      accepted = accepted;
+      stick = all-read .0;
+      unit = all-read .1;
+      keypad = all-read .2;
+      inTime = in-time (treeVoices tree);
+      first = played-out .0;
+      second = played-out .1;
+      missed = played-out .2;
+      over = played-out .3;
+    }
+
+-- ---- the lines fit
+
+abbrev AllFits : List Line → Type 0
+AllFits ls = All (λ (l : Line). Fits tree l (l .event)) ls
+
+no-values : 0 ≤ 0
+no-values = omega arith
+
+one-value : 1 ≤ 1
+one-value = omega arith
+
+sixteen-bits : 5 < noSymbol
+sixteen-bits = omega arith
+
+rests-fitting : (n : ℕ) → AllFits (replicate n rest)
+unfolding instrumentOf
+rests-fitting zero = tt
+rests-fitting (suc n) = (no-values, rests-fitting n)
+
+fitting : AllFits lines
+unfolding instrumentOf
+fitting = all-append (λ (l : Line). Fits tree l (l .event)) before (control ∷ end ∷ []) (one-value, rests-fitting 16) (sixteen-bits, (tt, tt))
+
+as-written : (n : ℕ) → PlaysAsWritten tree (settings ceiling) lines n
+as-written n = every-piece tree (settings ceiling) lines n (accepted .named) fitting
+
+gives : (k : ℕ) (x : ℤ) → Gives (treeVoices tree) k x → Gives (writtenVoices tree) k x
+gives k x h = (sym (as-written k .answers) ∙ h .0, sym (as-written k .blocks) ∙ h .1)
+
+pub rich : Rich (writtenVoices tree)
 rich =
     record {
       accepted = accepted;
       stick = all-read .0;
       unit = all-read .1;
       keypad = all-read .2;
-      inTime = in-time;
-      first = played-out .0;
-      second = played-out .1;
-      missed = played-out .2;
-      over = played-out .3;
+      inTime = in-time (writtenVoices tree);
+      first = gives 0 _ (by-place .first);
+      second = gives 1 _ (by-place .second);
+      missed = sym (as-written 1 .missed) ∙ by-place .missed;
+      over = sym (as-written 2 .answers) ∙ by-place .over;
     }

@@ -1,6 +1,7 @@
 -- The piece's tokens, its tree and its blocks, computed.
-use mathlib.Core.Path.{refl}
+use mathlib.Core.Path.{refl, sym, _∙_}
 use mathlib.Core.List.{List, [], _∷_}
+use Prim.Native.Nat.{ℕ, _≤_}
 use native.Mathlib.Omega.{arith}
 use lib.Ieee.{binary32, ofBits, toBits, fits, size, add, mul, round, lt, le, eq}
 use Rattle.tokens.specs.declared.Token.{Token}
@@ -14,7 +15,8 @@ use Rattle.syntax.specs.Grammar.{real, named as a·name, sides, plus}
 use Rattle.syntax.specs.Grammar.{none, set, out, one, none as no·fields, ksig, none as no·decls, some as some·decls, is, Orchestra, last}
 use Rattle.orchestra.specs.Verdict.{Sized, Accepted}
 use Rattle.meaning.specs.Placed.{value, assigned, outputs, pass, fresh, birth, kPass, aPasses, cycle}
-use Rattle.players.specs.Lists.{keep, fold, each}
+use Rattle.score_line.specs.declared.Line.{Line}
+use Rattle.players.specs.Lists.{keep, fold, each, All}
 use Rattle.players.specs.Cycle.{isDue, insert, ordered, anyEnd, lastTempo, limited, joinedBy, goesOn, born, started, controlledBy, controlled, runFrom, runAll}
 use Rattle.players.specs.Holds.{sixty, dueAt, laterThan, endsBy, answerOf, startedOf, bandOf, blockOf, played, cycled}
 use Rattle.players.specs.Plain.{plainStart, plainAt, answerAt, blockAt}
@@ -22,7 +24,10 @@ use Rattle.float32.specs.Limit.{held, sampleOf}
 use Rattle.float32.specs.Operators.{binaryOf}
 use Rattle.timebase.specs.Time.{ticksIn, cycleOf, cycleIn}
 use Rattle.voices.specs.Tree.{silent, instrumentOf, importsOf, treeVoices}
-use Rattle.witness.specs.Growing.{bytes, tree, Sounds}
+use Rattle.written_voices.specs.Voices.{writtenVoices, Fits, PlaysAsWritten}
+use Rattle.written_voices.proofs.Written.{every-piece}
+use Rattle.claims.specs.Claims.{settings}
+use Rattle.witness.specs.Growing.{bytes, tree, line, ceiling, low, Sounds}
 
 -- instr s1 ( ) { ksig s2 ; s2 = s2 + 0.25 ; output ( s2 ) ; }
 abbrev tokens : List Token
@@ -43,6 +48,26 @@ accepted : Accepted bytes tree
 unfolding named namedBy has apart knownIn known eachKept rateOf rate ratesKept rateRules
 accepted = record { tokens = tokens; sized = sized; derived = derived; named = refl; rated = refl }
 
-pub growing-sounds : Sounds
+-- with the notes' values by place
+by-place : Sounds (treeVoices tree)
 unfolding answerAt answerOf blockAt blockOf limited bandOf startedOf runAll runFrom started controlled dueAt laterThan plainAt cycled plainStart sixty endsBy anyEnd played goesOn lastTempo cycleIn cycleOf keep fold each isDue insert ordered joinedBy born controlledBy ticksIn treeVoices instrumentOf importsOf silent sampleOf held binaryOf cycle kPass aPasses pass outputs assigned value fresh birth put putIn namedBy named placeFrom add mul round ofBits lt le eq
-growing-sounds = record { accepted = accepted; first = (refl, refl); second = (refl, refl); held = refl }
+by-place = record { accepted = accepted; first = (refl, refl); second = (refl, refl); held = refl }
+
+no-values : 0 ≤ 0
+no-values = omega arith
+
+fitting : All (λ (l : Line). Fits tree l (l .event)) (line ∷ [])
+unfolding instrumentOf
+fitting = (no-values, tt)
+
+as-written : (c n : ℕ) → PlaysAsWritten tree (settings c) (line ∷ []) n
+as-written c n = every-piece tree (settings c) (line ∷ []) n (accepted .named) fitting
+
+pub growing-sounds : Sounds (writtenVoices tree)
+growing-sounds =
+    record {
+      accepted = accepted;
+      first = (sym (as-written ceiling 0 .answers) ∙ by-place .first .0, sym (as-written ceiling 0 .blocks) ∙ by-place .first .1);
+      second = (sym (as-written ceiling 1 .answers) ∙ by-place .second .0, sym (as-written ceiling 1 .blocks) ∙ by-place .second .1);
+      held = sym (as-written low 1 .blocks) ∙ by-place .held;
+    }

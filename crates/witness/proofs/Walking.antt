@@ -21,6 +21,7 @@ use Rattle.float32.specs.Operators.{binaryOf}
 use Rattle.timebase.specs.Time.{ticksIn, cycleOf, cycleIn}
 use Rattle.sounding.specs.Voices as code
 use Rattle.voices.specs.Tree.{silent, instrumentOf, importsOf, treeVoices}
+use Rattle.written_voices.specs.Voices.{writtenVoices}
 use Rattle.score_line.specs.declared.Line.{Line}
 use Rattle.players.specs.Calls.{stick, unit, keypad, bring, cycle, Answer, one, numbered, linesOf, takenOf, isZero, Last, latest, none, Moment, takenIn, lastWith, momentOf, traceFrom, trace, allTaken, afterAll}
 use Rattle.players.specs.Condition3.{inTime, InTime, AsPlain, PlainAlike}
@@ -28,7 +29,7 @@ use Rattle.players.specs.History.{History, nowhere, withCycle, historyFrom}
 use Rattle.panel.specs.declared.Panel.{Panel}
 use Rattle.claims.specs.Verdict.{here, there, taken, plays, Verdict, AllFit}
 use Rattle.claims.specs.Claims.{afterOf, panel, fresh, Given, settings, past, Condition3, CallVerdict}
-use Rattle.claims.proofs.Past.{condition-3}
+use Rattle.claims.proofs.Written.{condition-3}
 use Rattle.claims.proofs.Answers.{call-verdict}
 use Rattle.sounding.specs.Voices.{Held}
 use Rattle.witness.specs.Growing.{ceiling}
@@ -152,7 +153,7 @@ lines-taken =
     ++ (no-line (afterOf p4 (cycle lent) .answers) i ++ (no-line (afterOf p5 (cycle lent) .answers) i ++ [])))))
 
 abbrev Timely : Last → List Line → Type 0
-Timely z ls = All (inTime panel (treeVoices tree) (settings ceiling) lines z) ls
+Timely z ls = All (inTime panel (writtenVoices tree) (settings ceiling) lines z) ls
 
 rests-timely : (n : ℕ) → Timely none (replicate n rest)
 rests-timely zero = tt
@@ -168,7 +169,7 @@ last-is = ap (λ (a : List Answer). cond (numbered (cycle lent) && isZero a) (la
 none-timely : (z : Last) (given : List Answer) → Timely z (takenOf ([] ∷ []) given)
 none-timely z given = subst⁻¹ (Timely z) (no-line given) tt
 
-in-time : All (InTime panel (treeVoices tree) (settings ceiling) lines) moments
+in-time : All (InTime panel (writtenVoices tree) (settings ceiling) lines) moments
 unfolding traceFrom p5
 in-time = (
   subst⁻¹ (Timely none) stick-lines (tt, rests-timely 16),
@@ -186,20 +187,20 @@ in-time = (
   ),
 )
 
-as-plain : All (AsPlain panel (treeVoices tree) (settings ceiling) lines) moments
+as-plain : All (AsPlain panel (writtenVoices tree) (settings ceiling) lines) moments
 unfolding Condition3 PlainAlike
 as-plain =
-    subst (λ (ls : List Line). All (AsPlain panel (treeVoices tree) (settings ceiling) ls) moments) lines-taken
-    (condition-3 bytes tree ceiling given calls (subst⁻¹ (λ (ls : List Line). All (InTime panel (treeVoices tree) (settings ceiling) ls) moments) lines-taken in-time))
+    subst (λ (ls : List Line). All (AsPlain panel (writtenVoices tree) (settings ceiling) ls) moments) lines-taken
+    (condition-3 bytes tree ceiling given calls (subst⁻¹ (λ (ls : List Line). All (InTime panel (writtenVoices tree) (settings ceiling) ls) moments) lines-taken in-time))
 
 -- ---- what is heard
 
-module _ (m : Moment Panel) (a : AsPlain panel (treeVoices tree) (settings ceiling) lines m) where
-  answers : (n : ℕ) → numbered (m .call) ≡ true → answerAt (treeVoices tree) (settings ceiling) lines (m .cycles) ≡ n → m .after .answers ≡ one n 0
+module _ (m : Moment Panel) (a : AsPlain panel (writtenVoices tree) (settings ceiling) lines m) where
+  answers : (n : ℕ) → numbered (m .call) ≡ true → answerAt (writtenVoices tree) (settings ceiling) lines (m .cycles) ≡ n → m .after .answers ≡ one n 0
   answers n q e = a .answer q ∙ ap (λ (y : ℕ). one y 0) e
 
-  sounds : {b : List ℤ} → numbered (m .call) ≡ true → answerAt (treeVoices tree) (settings ceiling) lines (m .cycles) ≡ 0
-      → blockAt (treeVoices tree) (settings ceiling) lines (m .cycles) ≡ b → m .after .block ≡ b
+  sounds : {b : List ℤ} → numbered (m .call) ≡ true → answerAt (writtenVoices tree) (settings ceiling) lines (m .cycles) ≡ 0
+      → blockAt (writtenVoices tree) (settings ceiling) lines (m .cycles) ≡ b → m .after .block ≡ b
   sounds q e f = a .block q (ap isZero (answers 0 q e)) ∙ f
 
 pub walked : Walked

@@ -8,7 +8,7 @@ use Rattle.players.specs.Lists.{All}
 use Rattle.players.specs.Cycle.{samples}
 use Rattle.players.specs.Calls.{stick, Call, bring, cycle, one, Moment, trace, allTaken}
 use Rattle.players.specs.Condition3.{InTime}
-use Rattle.voices.specs.Tree.{treeVoices}
+use Rattle.written_voices.specs.Voices.{writtenVoices}
 use Rattle.panel.specs.declared.Panel.{Panel}
 use Rattle.claims.specs.Claims.{afterOf, panel, fresh, settings}
 use Rattle.witness.specs.Growing.{ceiling, bytes, tree, line}
@@ -41,6 +41,6 @@ moments = trace panel started calls
 pub record Heard : Type 0 where
   pub taken-whole : afterOf started (bring stick score) .answers ≡ one 0 0
   pub lines : allTaken moments ≡ line ∷ []
-  pub in-time : All (InTime panel (treeVoices tree) (settings ceiling) (line ∷ [])) moments
+  pub in-time : All (InTime panel (writtenVoices tree) (settings ceiling) (line ∷ [])) moments
   pub first : (afterOf loaded (cycle lent) .answers ≡ one 0 0) × (afterOf loaded (cycle lent) .block ≡ replicate samples (pos 8192))
   pub second : (afterOf cycled (cycle lent) .answers ≡ one 0 0) × (afterOf cycled (cycle lent) .block ≡ replicate samples (pos 16384))

@@ -13,9 +13,8 @@ use Rattle.score_line.specs.declared.When.the-variants.{Timed}
 use Rattle.score_line.specs.declared.Label.the-variants.{Unlabelled}
 use Rattle.score_line.specs.declared.Event.the-variants.{Instr}
 use Rattle.score_line.specs.declared.Line.{Line}
-use Rattle.players.specs.Cycle.{samples}
+use Rattle.players.specs.Cycle.{Voices, samples}
 use Rattle.players.specs.Plain.{answerAt, blockAt}
-use Rattle.voices.specs.Tree.{treeVoices}
 use Rattle.claims.specs.Claims.{settings}
 
 -- instr s1 ( ) { ksig s2 ; s2 = s2 + 0.25 ; output ( s2 ) ; }
@@ -55,13 +54,13 @@ ceiling = 32767
 abbrev pub low : ℕ
 low = 10000
 
--- The orchestra is accepted with that tree. The plain player of the line answers 0 with a block of 8,192 in cycle 0 and of 16,384 in cycle 1: not
--- silence, not the first block again.
-pub record Sounds : Type 0 where
+-- The orchestra is accepted with that tree. The plain player of the line, with these notes, answers 0 with a block of 8,192 in cycle 0 and of
+-- 16,384 in cycle 1: not silence, not the first block again.
+pub record Sounds {S : Type 0} (v : Voices S) : Type 0 where
   pub accepted : Accepted bytes tree
-  pub first : (answerAt (treeVoices tree) (settings ceiling) (line ∷ []) 0 ≡ 0)
-      × (blockAt (treeVoices tree) (settings ceiling) (line ∷ []) 0 ≡ replicate samples (pos 8192))
-  pub second : (answerAt (treeVoices tree) (settings ceiling) (line ∷ []) 1 ≡ 0)
-      × (blockAt (treeVoices tree) (settings ceiling) (line ∷ []) 1 ≡ replicate samples (pos 16384))
+  pub first : (answerAt v (settings ceiling) (line ∷ []) 0 ≡ 0)
+      × (blockAt v (settings ceiling) (line ∷ []) 0 ≡ replicate samples (pos 8192))
+  pub second : (answerAt v (settings ceiling) (line ∷ []) 1 ≡ 0)
+      × (blockAt v (settings ceiling) (line ∷ []) 1 ≡ replicate samples (pos 16384))
   -- at a ceiling of 10,000 the second cycle is held there
-  pub held : blockAt (treeVoices tree) (settings low) (line ∷ []) 1 ≡ replicate samples (pos low)
+  pub held : blockAt v (settings low) (line ∷ []) 1 ≡ replicate samples (pos low)

@@ -16,12 +16,12 @@ use Rattle.score_line.specs.declared.Label.the-variants.{Unlabelled, Labelled}
 use Rattle.score_line.specs.declared.Event.{Event}
 use Rattle.score_line.specs.declared.Event.the-variants.{Instr, Control, End}
 use Rattle.score_line.specs.declared.Line.{Line}
-use Rattle.players.specs.Cycle.{samples}
+use Rattle.players.specs.Cycle.{Voices, samples}
 use Rattle.players.specs.Lists.{All, each}
 use Rattle.players.specs.Plain.{plainAt, answerAt, blockAt}
 use Rattle.players.specs.Calls.{stick, unit, keypad, Door, reads, Call, bring, cycle, Answer, one, Moment, trace, allTaken}
 use Rattle.players.specs.Condition3.{above, InTime}
-use Rattle.voices.specs.Tree.{treeVoices}
+use Rattle.written_voices.specs.Voices.{writtenVoices}
 use Rattle.panel.specs.State.{holdsOf}
 use Rattle.panel.specs.declared.Panel.{Panel}
 use Rattle.claims.specs.Claims.{afterOf, panel, fresh, settings}
@@ -111,27 +111,28 @@ abbrev pub IsRead : Door → List ℕ → List Line → Type 0
 IsRead d handed ls = (reads d handed .answer ≡ Taken) × (reads d handed .lines ≡ ls)
 
 -- above the plain player's position at the start of cycle 0, which has answered 0 when these lines come
-abbrev pub Later : Line → Type 0
-Later l = above (plainAt (treeVoices tree) (settings ceiling) lines 0 .plays .position) (l .when)
+abbrev pub Later : {S : Type 0} → Voices S → Line → Type 0
+Later v l = above (plainAt v (settings ceiling) lines 0 .plays .position) (l .when)
 
 -- a cycle of the plain player: its answer and its block
-abbrev pub Gives : ℕ → ℤ → Type 0
-Gives k x = (answerAt (treeVoices tree) (settings ceiling) lines k ≡ 0) × (blockAt (treeVoices tree) (settings ceiling) lines k ≡ replicate samples x)
+abbrev pub Gives : {S : Type 0} → Voices S → ℕ → ℤ → Type 0
+Gives v k x = (answerAt v (settings ceiling) lines k ≡ 0) × (blockAt v (settings ceiling) lines k ≡ replicate samples x)
 
-pub record Rich : Type 0 where
+-- the piece, and what its plain player does with these notes
+pub record Rich {S : Type 0} (v : Voices S) : Type 0 where
   pub accepted : Accepted bytes tree
   pub stick : IsRead stick onStick before
   pub unit : IsRead unit inUnit (control ∷ [])
   pub keypad : IsRead keypad onKeypad (end ∷ [])
   -- the lines behind cycle 0 are in time
-  pub inTime : Later control × Later end
+  pub inTime : Later v control × Later v end
   -- the field's value twice, by the else; then with the control line's added
-  pub first : Gives 0 (pos 8192)
-  pub second : Gives 1 (pos 16384)
+  pub first : Gives v 0 (pos 8192)
+  pub second : Gives v 1 (pos 16384)
   -- the seventeenth note
-  pub missed : plainAt (treeVoices tree) (settings ceiling) lines 1 .plays .counts .missed ≡ 1
+  pub missed : plainAt v (settings ceiling) lines 1 .plays .counts .missed ≡ 1
   -- the end is found in cycle 2
-  pub over : answerAt (treeVoices tree) (settings ceiling) lines 2 ≡ 9
+  pub over : answerAt v (settings ceiling) lines 2 ≡ 9
 
 -- ---- by the panel's own calls
 
@@ -160,7 +161,7 @@ p4 = afterOf p3 (bring keypad onKeypad) .player
 -- Condition 3's premise is met with lines that come behind a cycle, and so each cycle is the plain player's.
 pub record Walked : Type 0 where
   pub taken : allTaken moments ≡ lines
-  pub inTime : All (InTime panel (treeVoices tree) (settings ceiling) lines) moments
+  pub inTime : All (InTime panel (writtenVoices tree) (settings ceiling) lines) moments
   pub answers : answersOf moments ≡ one 0 0 ∷ one 0 0 ∷ one 0 0 ∷ one 0 0 ∷ one 0 0 ∷ one 9 0 ∷ []
   pub first : afterOf p1 (cycle lent) .block ≡ replicate samples (pos 8192)
   pub missed : holdsOf p2 .plays .counts .missed ≡ 1

@@ -13,9 +13,11 @@ use Rattle.score_line.specs.declared.Event.the-variants.{Instr, Control, End, T
 use Rattle.score_line.specs.declared.Line.{Line}
 use Rattle.players.specs.Lists.{keep, fold, each, All}
 use Rattle.players.specs.Cycle.{Voices, Note, Started, Band, samples, isDue, earlier, insert, ordered, withState, joinedBy, born, startedBy, started, controlledBy, controlEvent, controlled, runFrom, runAll, anyEnd, farthest, lastTempo, limited, goesOn}
-use Rattle.players.specs.Holds.{Settings, Holds, dueAt, laterThan, dueOf, endsBy, marked, answerOf, startedOf, bandOf, blockOf, played, cycled}
+use Rattle.players.specs.Holds.{Settings, Holds, behind, dueAt, laterThan, dueOf, endsBy, marked, answerOf, startedOf, bandOf, blockOf, played, cycled}
 use Rattle.players.specs.Plain.{plainStart, plainAt, answerAt, blockAt}
-use Rattle.players.proofs.Lists.{all-keep}
+use Rattle.players.specs.Calls.{numbered, Moment, takenIn, allTaken}
+use Rattle.players.specs.History.{at, History, unbegun, withCycle, withMoment, historyFrom, historyOf}
+use Rattle.players.proofs.Lists.{all-keep, all-append}
 
 -- ---- what holds of all lines holds of the due ones
 
@@ -32,6 +34,10 @@ all-fold : (P : Line → Type 0) (xs before : List Line) → All P xs → All P 
 unfolding fold
 all-fold P [] before h g = g
 all-fold P (x ∷ xs) before h g = all-fold P xs (insert x before) (h .1) (all-insert P x before (h .0) g)
+
+all-parts : (P : Line → Type 0) (xs ys : List Line) → All P (xs ++ ys) → All P xs × All P ys
+all-parts P [] ys h = (tt, h)
+all-parts P (x ∷ xs) ys h = let r = all-parts P xs ys (h .1) in ((h .0, r .0), r .1)
 
 module _ {S S′ : Type 0} (R : S → S′ → Type 0) (Ok : Line → Event → Type 0) where
   abbrev pub AllOk : List Line → Type 0
@@ -63,11 +69,11 @@ module _ {S S′ : Type 0} (R : S → S′ → Type 0) (Ok : Line → Event → 
   long (x ∷ xs) [] h = absurd h
   long (x ∷ xs) (y ∷ ys) h = ap suc (long xs ys (h .1))
 
-  behind : (xs : List (Note S)) (ys : List (Note S′)) (x : Note S) (y : Note S′) → Notes xs ys → Same x y → Notes (xs ++ x ∷ []) (ys ++ y ∷ [])
-  behind [] [] x y h g = (g, tt)
-  behind [] (z ∷ ys) x y h g = absurd h
-  behind (z ∷ xs) [] x y h g = absurd h
-  behind (z ∷ xs) (u ∷ ys) x y h g = (h .0, behind xs ys x y (h .1) g)
+  one-more : (xs : List (Note S)) (ys : List (Note S′)) (x : Note S) (y : Note S′) → Notes xs ys → Same x y → Notes (xs ++ x ∷ []) (ys ++ y ∷ [])
+  one-more [] [] x y h g = (g, tt)
+  one-more [] (z ∷ ys) x y h g = absurd h
+  one-more (z ∷ xs) [] x y h g = absurd h
+  one-more (z ∷ xs) (u ∷ ys) x y h g = (h .0, one-more xs ys x y (h .1) g)
 
   record Begun (s : Started S) (t : Started S′) : Type 0 where
     notes : Notes (s .notes) (t .notes)
@@ -80,7 +86,7 @@ module _ {S S′ : Type 0} (R : S → S′ → Type 0) (Ok : Line → Event → 
       go : (b : Bool)
           → Begun (cond {A = Started S} b (record { notes = s .notes ++ (x ∷ []); missed = s .missed }) (record { notes = s .notes; missed = s .missed + 1 }))
           (cond {A = Started S′} b (record { notes = t .notes ++ (y ∷ []); missed = t .missed }) (record { notes = t .notes; missed = t .missed + 1 }))
-      go true = record { notes = behind (s .notes) (t .notes) x y (h .notes) g; missed = h .missed }
+      go true = record { notes = one-more (s .notes) (t .notes) x y (h .notes) g; missed = h .missed }
       go false = record { notes = h .notes; missed = ap (λ m. m + 1) (h .missed) }
 
   kept : (pos : ℕ) (xs : List (Note S)) (ys : List (Note S′)) → Notes xs ys → Notes (keep (goesOn pos) xs) (keep (goesOn pos) ys)
@@ -279,3 +285,61 @@ module _ {S S′ : Type 0} (R : S → S′ → Type 0) (Ok : Line → Event → 
 
       pub missed-related : (ls : List Line) (n : ℕ) → AllOk ls → plainAt v settings ls n .plays .counts .missed ≡ plainAt w settings ls n .plays .counts .missed
       missed-related ls n o = at-cores ls o n .missed
+
+      pub position-related : (ls : List Line) (n : ℕ) → AllOk ls → plainAt v settings ls n .plays .position ≡ plainAt w settings ls n .plays .position
+      position-related ls n o = at-cores ls o n .position
+
+      -- ---- every list of calls
+
+      record Pasts (h : History S) (h′ : History S′) : Type 0 where
+        holds : Cores (h .holds) (h′ .holds)
+        reached : h .reached ≡ h′ .reached
+
+      module _ {P : Type 0} where
+        one-moment : (m : Moment P) (h : History S) (h′ : History S′) → AllOk (takenIn m) → Pasts h h′ → Pasts (withMoment v settings h m) (withMoment w settings h′ m)
+        unfolding behind
+        one-moment m h h′ o g = go (numbered (m .call))
+          where
+            c : Cores (h .holds) (h′ .holds)
+            c = g .holds
+
+            go : (b : Bool)
+                → Pasts (cond b (withCycle v settings (m .cycles) h) (record { holds = behind (takenIn m) (h .holds); reached = h .reached }))
+                (cond b (withCycle w settings (m .cycles) h′) (record { holds = behind (takenIn m) (h′ .holds); reached = h′ .reached }))
+            go true =
+                record {
+                  holds = next (settings (m .cycles)) (h .holds) (h′ .holds) c;
+                  reached = λ j. cond (eqb (answer (settings (m .cycles)) (h .holds) (h′ .holds) c j) 0) (at (c .position j)) (g .reached j);
+                }
+            go false =
+                record {
+                  holds =
+                      record {
+                        lines = λ j. c .lines j ++ takenIn m;
+                        notes = c .notes;
+                        position = c .position;
+                        tempo = c .tempo;
+                        missed = c .missed;
+                        ended = c .ended;
+                        ok = all-append (λ (l : Line). Ok l (l .event)) (h .holds .waits) (takenIn m) (c .ok) o;
+                      };
+                  reached = g .reached;
+                }
+
+        all-moments : (ms : List (Moment P)) (h : History S) (h′ : History S′) → AllOk (allTaken ms) → Pasts h h′ → Pasts (historyFrom v settings h ms) (historyFrom w settings h′ ms)
+        unfolding allTaken historyFrom
+        all-moments [] h h′ o g = g
+        all-moments (m ∷ ms) h h′ o g =
+            let p = all-parts (λ (l : Line). Ok l (l .event)) (takenIn m) (allTaken ms) o in
+            all-moments ms (withMoment v settings h m) (withMoment w settings h′ m) (p .1) (one-moment m h h′ (p .0) g)
+
+        past : (ms : List (Moment P)) → AllOk (allTaken ms) → Pasts (historyOf v settings ms) (historyOf w settings ms)
+        unfolding plainStart
+        past ms o =
+            all-moments ms (unbegun (settings 0)) (unbegun (settings 0)) o
+            (record { holds = record { lines = refl; notes = tt; position = refl; tempo = refl; missed = refl; ended = refl; ok = tt }; reached = refl })
+
+        pub past-block-related : (q : Settings) (ms : List (Moment P)) → AllOk (allTaken ms)
+            → blockOf v q (dueOf (historyOf v settings ms .holds)) (historyOf v settings ms .holds .plays)
+            ≡ blockOf w q (dueOf (historyOf w settings ms .holds)) (historyOf w settings ms .holds .plays)
+        past-block-related q ms o = block q (historyOf v settings ms .holds) (historyOf w settings ms .holds) (past ms o .holds)

@@ -26,8 +26,8 @@ use Rattle.meaning.specs.Meaning.{Memory, set, importsIn, control, birth, cycle
 use Rattle.meaning.specs.Translation.{Stands}
 use Rattle.meaning.proofs.Translation.{birth-agrees, cycle-agrees}
 use Rattle.syntax.proofs.Places.{kept, index, place-is}
-use Rattle.written_voices.specs.Voices.{Held, writtenVoices, Fits, PlaysAsWritten, EveryPiece}
-use Rattle.written_voices.proofs.Related.{Related, blocks-related, answers-related, missed-related}
+use Rattle.written_voices.specs.Voices.{Held, writtenVoices, Fits, PlaysAsWritten, EveryPiece, EveryPast}
+use Rattle.written_voices.proofs.Related.{Related, blocks-related, answers-related, missed-related, position-related, past-block-related}
 
 -- ---- each name once
 
@@ -194,12 +194,19 @@ related is e =
           c .1 ∙ ap (λ (j : ℕ). cycle (instrumentOf is j) (t .memory) mix .mix) (h .same);
     }
 
+named-related : (is : List Instrument) → nameRules is ≡ true → Related (Holds is) (Fits is) (treeVoices is) (writtenVoices is)
+named-related is e =
+    related is (both-true (distinct (map titleOf is)) (eachKept is) (both-true (leb (length is) 8) (distinct (map titleOf is) && eachKept is) e .1) .1)
+
 pub every-piece : EveryPiece
 every-piece is settings ls n e o =
-    let k = both-true (distinct (map titleOf is)) (eachKept is) (both-true (leb (length is) 8) (distinct (map titleOf is) && eachKept is) e .1) .1 in
-    let r = related is k in
+    let r = named-related is e in
     record {
       answers = answers-related (Holds is) (Fits is) r settings ls n o;
       blocks = blocks-related (Holds is) (Fits is) r settings ls n o;
+      position = position-related (Holds is) (Fits is) r settings ls n o;
       missed = missed-related (Holds is) (Fits is) r settings ls n o;
     }
+
+pub every-past : EveryPast
+every-past P is settings s ms e o = past-block-related (Holds is) (Fits is) (named-related is e) settings s ms o

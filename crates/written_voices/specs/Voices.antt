@@ -3,6 +3,7 @@ use Prim.Native.Nat.{ℕ, _≤_, _<_}
 use mathlib.Core.Path.{_≡_}
 use mathlib.Core.Bool.{true}
 use mathlib.Core.List.{List}
+use lib.IntN.{ℤ}
 use lib.ListN.{length, take}
 use lib.Ieee.{Float}
 use Rattle.score_line.specs.declared.Line.{Line}
@@ -12,7 +13,9 @@ use Rattle.syntax.specs.Tree.{Instrument}
 use Rattle.syntax.specs.Names.{nameRules}
 use Rattle.players.specs.Lists.{All}
 use Rattle.players.specs.Cycle.{Voices, Ran}
-use Rattle.players.specs.Holds.{Settings}
+use Rattle.players.specs.Holds.{Settings, dueOf, blockOf}
+use Rattle.players.specs.Calls.{Moment, allTaken}
+use Rattle.players.specs.History.{historyOf}
 use Rattle.players.specs.Plain.{plainAt, answerAt, blockAt}
 use Rattle.voices.specs.Tree.{instrumentOf, noSymbol, treeVoices}
 use Rattle.meaning.specs.Meaning.{Memory, birth, control, cycle}
@@ -39,13 +42,27 @@ module _ (is : List Instrument) where
   Fits l End = Unit {0}
   Fits l (Tempo t) = Unit {0}
 
+-- the block of the cycle that follows a list of calls
+abbrev pub nextBlock : {P S : Type 0} → Voices S → (ℕ → Settings) → Settings → List (Moment P) → List ℤ
+nextBlock v settings s ms =
+    let h = historyOf v settings ms .holds in
+    blockOf v s (dueOf h) (h .plays)
+
 -- with such lines the plain player by place is the plain player as written, in every cycle
 pub record PlaysAsWritten (is : List Instrument) (settings : ℕ → Settings) (ls : List Line) (n : ℕ) : Type 0 where
   pub answers : answerAt (treeVoices is) settings ls n ≡ answerAt (writtenVoices is) settings ls n
   pub blocks : blockAt (treeVoices is) settings ls n ≡ blockAt (writtenVoices is) settings ls n
+  -- before the cycle
+  pub position : plainAt (treeVoices is) settings ls n .plays .position ≡ plainAt (writtenVoices is) settings ls n .plays .position
   pub missed : plainAt (treeVoices is) settings ls n .plays .counts .missed ≡ plainAt (writtenVoices is) settings ls n .plays .counts .missed
 
 abbrev pub EveryPiece : Type 0
 EveryPiece =
     (is : List Instrument) (settings : ℕ → Settings) (ls : List Line) (n : ℕ) → nameRules is ≡ true → All (λ (l : Line). Fits is l (l .event)) ls
     → PlaysAsWritten is settings ls n
+
+-- and so is the block of the next cycle, after every list of calls, by its history
+abbrev pub EveryPast : Type 1
+EveryPast =
+    (P : Type 0) (is : List Instrument) (settings : ℕ → Settings) (s : Settings) (ms : List (Moment P)) → nameRules is ≡ true
+    → All (λ (l : Line). Fits is l (l .event)) (allTaken ms) → nextBlock (treeVoices is) settings s ms ≡ nextBlock (writtenVoices is) settings s ms

@@ -1,0 +1,155 @@
+-- Every line taken fits, so every cycle and condition 3 are those of the orchestra as it is written.
+use mathlib.Core.Path.{_≡_, refl, ap, _∙_, subst⁻¹}
+use mathlib.Core.Bool.{Bool, true, false, cond}
+use mathlib.Core.List.{List, [], _∷_, _++_}
+use Prim.Native.Nat.{ℕ, _≤_}
+use native.Mathlib.Omega.{arith}
+use lib.IntN.{ℤ}
+use lib.ListN.{length, take, length-take}
+use lib.Dec.{eqb}
+use borrow.Author.Tests.{eqb-true, eq-eqb}
+use Rattle.score_line.specs.declared.Event.{Event}
+use Rattle.score_line.specs.declared.Event.the-variants.{Instr, Control, End, Tempo}
+use Rattle.score_line.specs.declared.Line.{Line}
+use Rattle.syntax.specs.Tree.{Instrument}
+use Rattle.voices.specs.Tree.{instrumentOf, treeVoices}
+use Rattle.written_voices.specs.Voices.{writtenVoices, PlaysAsWritten}
+use Rattle.written_voices.specs.Voices as written
+use Rattle.written_voices.proofs.Written.{every-piece, every-past}
+use Rattle.sounding.specs.Voices.{Held}
+use Rattle.players.specs.Lists.{All}
+use Rattle.players.specs.Holds.{Settings, settingsOf}
+use Rattle.players.specs.Calls.{Door, reads, Call, bring, cycle, Answer, one, linesOf, takenOf, Last, none, latest, Moment, takenIn, cyclesWith, lastWith, momentOf, traceFrom, trace, allTaken, afterAll}
+use Rattle.players.specs.Condition3.{above, inTime, InTime, AsPlain, PlainAlike}
+use Rattle.players.specs.History.{Reached, History}
+use Rattle.players.proofs.Lists.{cond-true, all-append, all-map}
+use Rattle.loader.specs.Loading.{loadOf}
+use Rattle.loader_claims.specs.Claims.{StandsFor}
+use Rattle.panel.specs.declared.Panel.{Panel}
+use Rattle.claims.specs.Verdict.{HasFields, here, there, Playable, Fits, AllFit, Faulty, untimed, unplayable, late, full, AtDoor, over, cut, notCarried, outOfRange, tooManyValues, leftOver, faulty, taken}
+use Rattle.claims.specs.Claims.{afterOf, panel, Given, fresh, settings, LinesFit, CycleByTree, Condition3}
+use Rattle.claims.proofs.Ranged.{ranged, AllRanged, reads-ranged}
+use Rattle.claims.proofs.Past.{Kept, own, kept-all, stands, fresh-kept, past-is, block-by-place, by-place}
+use Rattle.claims.proofs.Answers.{given, decided}
+
+-- ---- no more values than fields
+
+enough-fields : {name n : ℕ} {is : List Instrument} → HasFields name n is → n ≤ length (instrumentOf is name .fields)
+unfolding instrumentOf
+enough-fields {name} {n} (here {i = i} {is = is} q h) =
+    subst⁻¹ (λ (x : Instrument). n ≤ length (x .fields)) (cond-true i (instrumentOf is name) (eq-eqb (i .name) name q)) h
+enough-fields {name} {n} (there {i = i} {is = is} q h) = go (eqb (i .name) name) refl (enough-fields h)
+  where
+    go : (b : Bool) → eqb (i .name) name ≡ b → n ≤ length (instrumentOf is name .fields) → n ≤ length (cond b i (instrumentOf is name) .fields)
+    go true e r = absurd (q (eqb-true (i .name) name e))
+    go false e r = r
+
+module _ (is : List Instrument) where
+  abbrev AllTakable : List Line → Type 0
+  AllTakable ls = All (λ (l : Line). written.Fits is l (l .event)) ls
+
+  event-fits : (l : Line) (e : Event) → Playable is (l .count) e → ranged e → written.Fits is l e
+  event-fits l (Instr label name d) h r = omega (arith, enough-fields h, length-take (l .count) (l .values))
+  event-fits l (Control label x y) h r = r
+  event-fits l End h r = tt
+  event-fits l (Tempo t) h r = tt
+
+  lines-fitting : (d : Door) (reached : Reached) (ls : List Line) (n : ℕ) → AllFit is d reached n ls → AllRanged ls → AllTakable ls
+  lines-fitting d reached [] n h r = tt
+  lines-fitting d reached (l ∷ ls) n h r = (event-fits l (l .event) (h .0 .playable) (r .0), lines-fitting d reached ls _ (h .1) (r .1))
+
+  -- ---- one call
+
+  faulty-takes : (d : Door) (reached : Reached) (n : ℕ) (l : Line) (number : ℕ) (ls : List Line) → Faulty is d reached n l number
+      → AllTakable (cond (eqb number 0) ls [] ++ [])
+  faulty-takes d reached n l number ls (untimed m t) = tt
+  faulty-takes d reached n l number ls (unplayable t u) = tt
+  faulty-takes d reached n l number ls (late t u x) = tt
+  faulty-takes d reached n l number ls (full t u x y) = tt
+
+  door-fits : (p : Panel) (d : Door) (handed : List ℕ) (number line : ℕ) → AtDoor is (own p) d handed number line
+      → AllTakable (takenOf (linesOf (bring d handed)) (one number line))
+  door-fits p d handed number line (over e) = tt
+  door-fits p d handed number line (cut e q) = tt
+  door-fits p d handed number line (notCarried e q) = tt
+  door-fits p d handed number line (outOfRange e q) = tt
+  door-fits p d handed number line (tooManyValues e q) = tt
+  door-fits p d handed number line (leftOver e q) = tt
+  door-fits p d handed number line (faulty {number = m} before l later s t f) = faulty-takes d (own p .reached) _ l m (reads d handed .lines) f
+  door-fits p d handed number line (taken ls s t) =
+      all-append (λ (l : Line). written.Fits is l (l .event)) (reads d handed .lines) []
+      (lines-fitting d (own p .reached) (reads d handed .lines) (length (own p .holds .waits))
+      (subst⁻¹ (AllFit is d (own p .reached) (length (own p .holds .waits))) (s .2) t) (reads-ranged d handed)) tt
+
+  none-taken : (given : List Answer) → AllTakable (takenOf ([] ∷ []) given)
+  none-taken [] = tt
+  none-taken (a ∷ given) = go (eqb (a .number) 0)
+    where
+      go : (b : Bool) → AllTakable (cond {A = List Line} b [] [] ++ [])
+      go true = tt
+      go false = tt
+
+  call-fits : (p : Panel) → StandsFor is (p .program) → length (p .state .queue .lines) ≡ 64 → (c : Call) → AllTakable (takenOf (linesOf c) (afterOf p c .answers))
+  call-fits p r long (bring d handed) =
+      let x = decided is (own p) (bring d handed) in
+      subst⁻¹ (λ (a : List Answer). AllTakable (takenOf (linesOf (bring d handed)) a)) (given is p r long (bring d handed) (x .number) (x .line) (x .verdict))
+      (door-fits p d handed (x .number) (x .line) (x .verdict))
+  call-fits p r long (cycle b) = none-taken (afterOf p (cycle b) .answers)
+
+-- ---- every list of calls
+
+module _ (orchestra : List ℕ) (is : List Instrument) (ceiling : ℕ) (g : Given orchestra is ceiling) where
+  all-fitting : (cs : List Call) (n : ℕ) (z : Last) (p : Panel) → Kept (loadOf orchestra .program) ceiling is (stands orchestra is ceiling g) p
+      → AllTakable is (allTaken (traceFrom panel n z p cs))
+  unfolding traceFrom allTaken afterAll
+  all-fitting [] n z p k = tt
+  all-fitting (c ∷ cs) n z p k =
+      let m = momentOf panel n z p c in
+      all-append (λ (l : Line). written.Fits is l (l .event)) (takenIn m) (allTaken (traceFrom panel (cyclesWith m) (lastWith m) (afterOf p c .player) cs))
+      (call-fits is p (subst⁻¹ (StandsFor is) (k .has) (stands orchestra is ceiling g)) (k .long) c)
+      (all-fitting cs (cyclesWith m) (lastWith m) (afterOf p c .player) (kept-all (loadOf orchestra .program) ceiling is (stands orchestra is ceiling g) (c ∷ []) p k))
+
+pub lines-fit : LinesFit
+unfolding LinesFit
+lines-fit orchestra is ceiling g cs = all-fitting orchestra is ceiling g cs 0 none (fresh orchestra ceiling) (fresh-kept orchestra is ceiling g)
+
+-- ---- every cycle of sound
+
+pub cycle-by-tree : CycleByTree
+unfolding CycleByTree LinesFit
+cycle-by-tree orchestra is ceiling g cs =
+    let e = past-is orchestra is ceiling g cs in
+    let ms = trace panel (fresh orchestra ceiling) cs in (
+      record { holds = ap (λ (h : History Held). h .holds) e; reached = ap (λ (h : History Held). h .reached) e },
+      λ lent t.
+          block-by-place orchestra is ceiling g cs lent t
+          ∙ every-past Panel is (settings ceiling) (settingsOf ceiling) ms (g .accepted .named) (lines-fit orchestra is ceiling g cs),
+    )
+
+-- ---- condition 3
+
+module _ (is : List Instrument) (s : ℕ → Settings) (ls : List Line) (w : (n : ℕ) → PlaysAsWritten is s ls n) where
+  line-timely : (z : Last) (l : Line) → inTime panel (writtenVoices is) s ls z l → inTime panel (treeVoices is) s ls z l
+  line-timely none l h = h
+  line-timely (latest n) l h = subst⁻¹ (λ (x : ℕ). above x (l .when)) (w n .position) h
+
+  timely : (m : Moment Panel) → InTime panel (writtenVoices is) s ls m → InTime panel (treeVoices is) s ls m
+  timely m h = all-map (inTime panel (writtenVoices is) s ls (m .last)) (inTime panel (treeVoices is) s ls (m .last)) (line-timely (m .last)) (takenIn m) h
+
+  as-written : (m : Moment Panel) → AsPlain panel (treeVoices is) s ls m → AsPlain panel (writtenVoices is) s ls m
+  as-written m a =
+      record {
+        answer = λ q. a .answer q ∙ ap (λ (y : ℕ). one y 0) (w (m .cycles) .answers);
+        block = λ q t. a .block q t ∙ w (m .cycles) .blocks;
+        counts = a .counts ∙ (λ i. record { missed = w (cyclesWith m) .missed i });
+      }
+
+pub condition-3 : Condition3
+unfolding Condition3 PlainAlike LinesFit
+condition-3 orchestra is ceiling g cs i =
+    let ms = trace panel (fresh orchestra ceiling) cs in
+    let ls = allTaken ms in
+    let s = settings ceiling in
+    let w : (n : ℕ) → PlaysAsWritten is s ls n = λ n. every-piece is s ls n (g .accepted .named) (lines-fit orchestra is ceiling g cs) in
+    all-map (AsPlain panel (treeVoices is) s ls) (AsPlain panel (writtenVoices is) s ls) (as-written is s ls w) ms
+    (by-place orchestra is ceiling g cs (all-map (InTime panel (writtenVoices is) s ls) (InTime panel (treeVoices is) s ls) (timely is s ls w) ms i))
