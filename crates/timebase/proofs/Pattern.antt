@@ -8,11 +8,12 @@ use lib.IntN.{pos}
 use lib.Dec.{T, leb, eqb, lt→ltb}
 use lib.Pow.{pow-pos}
 use borrow.Author.Tests.{ltb-true, ltb-false}
-use lib.Ieee.{Float, nan, inf, fin, binary32, up, down, lt, le, isNan, odd, ofFields, ofBits}
+use lib.Ieee.{Float, nan, inf, fin, binary32, up, down, lt, le, isNan, odd, ofFields, ofBits, toBits, fits}
+use lib.Ieee.Bits.{ofBits-toBits}
 use lib.Ieee.Exact.{HasValue, odd-sign}
 use lib.Ieee.Fits.{down-pos}
 use lib.Ieee.Scale.{finite}
-use lib.Ieee.Positive.{num, den, positive, values-of-le, value-pos, value→cross, den-pos}
+use lib.Ieee.Positive.{num, den, positive, positive-finite, values-of-le, value-pos, value→cross, den-pos}
 use Rattle.timebase.specs.Time.{nearest, ticksOf, ticksIn, latest}
 use Rattle.timebase.proofs.Shift.{nearest-cross}
 
@@ -35,11 +36,11 @@ high-field s (suc x) t n f =
     pick (eqb (suc x) 255) (eqb t 0) s (odd 24 s (8388608 + t) x 149) ((8388608 + t) * 2 ^ (suc x - 1)) (2 ^ 149) f
     (subst (λ (k : ℕ). HasValue (odd 24 s (8388608 + t) x 149) s ((8388608 + t) * 2 ^ k) (2 ^ 149)) (sym e) (odd-sign 24 s (8388608 + t) x 149))
 
-pub low-pattern : (b : ℕ) → b % 2 ^ 31 / 2 ^ 23 ≡ 0 → HasValue (ofBits binary32 b) (leb (2 ^ 31) b) (b % 2 ^ 23 * 2 ^ 0) (2 ^ 149)
+low-pattern : (b : ℕ) → b % 2 ^ 31 / 2 ^ 23 ≡ 0 → HasValue (ofBits binary32 b) (leb (2 ^ 31) b) (b % 2 ^ 23 * 2 ^ 0) (2 ^ 149)
 unfolding ofBits
 low-pattern b e = low-field (leb (2 ^ 31) b) (b % 2 ^ 31 / 2 ^ 23) (b % 2 ^ 23) e
 
-pub high-pattern : (b : ℕ) → (b % 2 ^ 31 / 2 ^ 23 ≡ 0 → ⊥) → T (finite (ofBits binary32 b)) → HasValue (ofBits binary32 b) (leb (2 ^ 31) b) ((8388608 + b % 2 ^ 23) * 2 ^ (b % 2 ^ 31 / 2 ^ 23 - 1)) (2 ^ 149)
+high-pattern : (b : ℕ) → (b % 2 ^ 31 / 2 ^ 23 ≡ 0 → ⊥) → T (finite (ofBits binary32 b)) → HasValue (ofBits binary32 b) (leb (2 ^ 31) b) ((8388608 + b % 2 ^ 23) * 2 ^ (b % 2 ^ 31 / 2 ^ 23 - 1)) (2 ^ 149)
 unfolding ofBits
 high-pattern b n f = high-field (leb (2 ^ 31) b) (b % 2 ^ 31 / 2 ^ 23) (b % 2 ^ 23) n f
 
@@ -92,6 +93,26 @@ units x s a p q h =
       most = subst (λ (n : ℕ). n ≤ 2 ^ 163) (native.Mathlib.Nat.mul-one a) m;
       ticks = nearest-cross (a * 6144000) (2 ^ 149) (num x * 6144000) (den x) (pow-pos 149) (den-pos x) u ∙ sym (ticks-num x o) ∙ sym (ap (λ (b : Bool). cond b (ticksOf x) 0) q);
     }
+
+-- of its pattern's exponent e and digits d: a subnormal float has no hidden digit, and the exponent of the smallest normal one
+module _ (x : Float) (e d : ℕ) (good : T (fits binary32 x)) (p : lt zeroF x ≡ true) (q : le x latest ≡ true)
+    (he : e ≡ toBits binary32 x % 2 ^ 31 / 2 ^ 23) (hd : d ≡ toBits binary32 x % 2 ^ 23) where
+  own : ofBits binary32 (toBits binary32 x) ≡ x
+  own = ofBits-toBits binary32 x good
+
+  pub low-units : e ≡ 0 → Units x (d * 2 ^ 0)
+  low-units z =
+      let b = toBits binary32 x in
+      units x (leb (2 ^ 31) b) (d * 2 ^ 0) p q
+      (rw hd (subst (λ (y : Float). HasValue y (leb (2 ^ 31) b) (b % 2 ^ 23 * 2 ^ 0) (2 ^ 149)) own (low-pattern b (sym he ∙ z))))
+
+  pub high-units : (e ≡ 0 → ⊥) → Units x ((8388608 + d) * 2 ^ (e - 1))
+  high-units n =
+      let b = toBits binary32 x in
+      let a = (8388608 + b % 2 ^ 23) * 2 ^ (b % 2 ^ 31 / 2 ^ 23 - 1) in
+      let f : T (finite (ofBits binary32 b)) = subst (λ (y : Float). T (finite y)) (sym own) (positive-finite x (above-zero x p q)) in
+      units x (leb (2 ^ 31) b) ((8388608 + d) * 2 ^ (e - 1)) p q
+      (rw (hd, he) (subst (λ (y : Float). HasValue y (leb (2 ^ 31) b) a (2 ^ 149)) own (high-pattern b (λ z. n (he ∙ z)) f)))
 
 -- ---- the other floats
 same : (b : Bool) → _≡_ {A = ℕ} 0 (cond b 0 0)

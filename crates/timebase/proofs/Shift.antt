@@ -1,7 +1,7 @@
 -- Rounding sees only a fraction's value, and a time's ticks are one shift. Assumes nothing.
 use Prim.Native.Nat.{ℕ, suc, _+_, _-_, _*_, _/_, _%_, _^_, _<_, _≤_, min}
 use mathlib.Core.Path.{_≡_, sym, ap, ap₂, _∙_, subst}
-use native.Mathlib.Nat.{mul-assoc, mul-comm, mul-left-comm, mul-right-comm, add-mul, mul-pos, le-trans, lt-of-not-le, not-le-of-lt, mul-le-mul-right, le-of-eq, div-eq-of-lt, mul-div-mul-right, pow-suc, min-eq-left, min-eq-right}
+use native.Mathlib.Nat.{mul-assoc, mul-comm, mul-left-comm, mul-right-comm, add-mul, mul-pos, le-trans, lt-of-not-le, not-le-of-lt, mul-le-mul-right, le-of-eq, div-eq-of-lt, mul-div-mul-right, pow-suc, min-eq-left, min-eq-right, min-le-right, le-min}
 use native.Mathlib.Decide.{decLe}
 use native.Mathlib.Omega.{arith}
 use lib.Pow.{pow-add, pow-pos, pow-lt, pow-mono, shl-lt, shl-exact}
@@ -92,6 +92,33 @@ half-added p s h =
     let e : 2 ^ s ≡ 2 ^ (s - 1) * 2 = ap (λ (n : ℕ). 2 ^ n) (let f : s ≡ suc (s - 1) = omega arith in f) ∙ pow-suc 2 (s - 1) in
     let g : p * 2 + 2 ^ s ≡ (p + 2 ^ s / 2) * 2 = omega arith in
     sym (ap (λ (n : ℕ). n / (2 ^ s * 2)) g ∙ mul-div-mul-right (p + 2 ^ s / 2) (2 ^ s) (omega arith))
+
+-- the product p that is shifted down, the distance d, and what the shift gives
+pub record Down (m e p d : ℕ) : Type 0 where
+  pub small : p < 2 ^ 41
+  pub some : 0 < d
+  pub near : d ≤ 63
+  pub ticks : (p + 2 ^ d / 2) / 2 ^ d ≡ nearest (m * 2 ^ (e - 1) * 6144000) (2 ^ 149)
+
+pub down-by : (m e z p d : ℕ) → 0 < e → Top m e z → p ≡ m * 2 ^ z * 375 → d ≡ min (136 + z - e) 63 → Down m e p d
+down-by m e z p d o t hp hd =
+    let s = 136 + z - e in
+    let r = t .reach in
+    let b = t .below in
+    let small : p < 2 ^ 41 = omega arith in
+    let h : 1 ≤ min s 63 = le-min (omega arith) (omega arith) in
+    let some : 0 < d = omega arith in
+    record {
+      small = small;
+      some = some;
+      near = omega (arith, min-le-right s 63);
+      ticks =
+          half-added p d some
+          ∙ ap (λ n. nearest p (2 ^ n)) hd
+          ∙ held p s small
+          ∙ ap (λ n. nearest n (2 ^ s)) hp
+          ∙ one-shift m e z s o (omega arith);
+    }
 
 pub shift-is : (m z : ℕ) → m * 2 ^ z < 2 ^ 32 → (m * 2 ^ z) % 2 ^ 32 ≡ m * 2 ^ z
 shift-is m z h = native.Mathlib.Nat.mod-eq-of-lt h

@@ -1,7 +1,7 @@
 // Times, durations, tempos and values by their 32-bit patterns; ticks of a time and of a tempo (document 01,
 // "Score lines, bit by bit"). Every function is total.
 ghost use mathlib.Core.Path.{_≡_};
-ghost use Prim.Native.Nat.{_+_, _-_, _*_, _/_, _^_, _<_, _≤_, min};
+ghost use Prim.Native.Nat.{_+_, _-_, _*_, _/_, _%_, _^_, _<_, _≤_, min};
 ghost use Rattle.timebase.specs.Time.{nearest, ticksIn, cycleIn, finiteBits, timeBits, durationBits, tempoBits};
 ghost use Rattle.timebase.specs.Range.{checked};
 
@@ -13,6 +13,14 @@ const PLACES: u32 = 9;
 
 // The farthest shift of a 64-bit number.
 const FARTHEST: u32 = 63;
+
+// 375 times a significand that is shifted up by its leading zeros.
+fn scaled(significand: u32, zeros: u32) -> u64
+    requires { ⌜ (zeros < 32) × (significand * 2 ^ zeros < 2 ^ 32) ⌝ }
+    ensures { λ r. ⌜ r ≡ significand * 2 ^ zeros * 375 ⌝ }
+{
+    ((significand << zeros) as u64) * 375
+}
 
 // How far 375 times a significand that was shifted up by its leading zeros is shifted down to ticks. Past 41 less than half
 // a tick is left of it, so that a distance past the farthest gives what the farthest gives.
@@ -37,10 +45,24 @@ fn shifted(significand: u32, exponent: u32) -> u64
     ensures { λ r. ⌜ r ≡ nearest (significand * 2 ^ (exponent - 1) * 6144000) (2 ^ 149) ⌝ }
 {
     let zeros = u32::leading_zeros(significand);
-    let product = ((significand << zeros) as u64) * 375;
+    let product = scaled(significand, zeros);
     let down = distance(exponent, zeros);
     let tick = 1u64 << down;
     (product + half_of(tick)) >> down
+}
+
+// The exponent's field of a pattern, without the sign bit.
+fn exponent_of(pattern: u32) -> u32
+    ensures { λ r. ⌜ r ≡ pattern % 2 ^ 31 / 2 ^ 23 ⌝ }
+{
+    pattern % 0x8000_0000 / 0x80_0000
+}
+
+// The digits of a pattern's significand, without the hidden one.
+fn digits_of(pattern: u32) -> u32
+    ensures { λ r. ⌜ r ≡ pattern % 2 ^ 23 ⌝ }
+{
+    pattern % 0x80_0000
 }
 
 // The ticks of a time or a duration: 0 past the latest time.
@@ -50,8 +72,8 @@ pub fn beats_to_ticks(time: f32) -> u64
     if 0.0 < time {
         if time <= 16384.0 {
             let b = f32::to_bits(time);
-            let exponent = b % 0x8000_0000 / 0x80_0000;
-            let digits = b % 0x80_0000;
+            let exponent = exponent_of(b);
+            let digits = digits_of(b);
             // a subnormal float has no hidden digit, and the exponent of the smallest normal one
             if exponent == 0 {
                 return shifted(digits, 1);

@@ -12,16 +12,9 @@ or-no : (b : Bool) → (b || false) ≡ b
 or-no true = refl
 or-no false = refl
 
-returns : tie.Need-returns
-unfolding checked ofBits neg durationBits timeBits le
-returns c = rw (c .if1 .taken)
-
-time-of-requires : tie.Need-time-of-requires
-time-of-requires c κs = search needs
-
-returns-2 : tie.Need-returns-2
-unfolding durationBits
-returns-2 c = c .time-of .ensures ∙ sym (rw (ne-eqb _ _ (c .before .if1 .left), or-no))
-
 pub duration-of-spec : {M : Type 1} → statement M
-duration-of-spec = tie.close (tie.spec returns time-of-requires returns-2)
+duration-of-spec =
+    tie.close (tie.spec
+    (λ c. unfold checked ofBits neg durationBits timeBits le in rw (c .if1 .taken))
+    (λ c κs. search needs)
+    (λ c. unfold durationBits in c .time-of .ensures ∙ sym (rw (ne-eqb _ _ (c .before .if1 .left), or-no))))
