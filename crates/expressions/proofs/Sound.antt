@@ -10,7 +10,7 @@ use Rattle.tokens.specs.declared.Token.{Token}
 use Rattle.tokens.specs.declared.Token.the-variants.{Sign}
 use Rattle.syntax.specs.Tree.{Expr, unary, binary, choose}
 use Rattle.signs.specs.Signs as signs
-use Rattle.signs.specs.Operators.{unarySign, binarySign}
+use Rattle.signs.specs.Operators.{unarySign}
 use Rattle.syntax.specs.Program.{Ins, ins, chooseOp, compile, unaryOp, binaryOp}
 use Rattle.expressions.specs.declared.Head.{Head}
 use Rattle.expressions.specs.declared.Tail.{Tail}

@@ -2,15 +2,15 @@
 use Prim.Native.Nat.{ℕ, zero, suc, _+_, _≤_}
 use Prim.Native.Nat.{min as lesser}
 use mathlib.Core.Path.{_≡_, refl, sym, ap, ap₂, _∙_, subst}
-use mathlib.Core.Bool.{Bool, true, false, _&&_, cond}
+use mathlib.Core.Bool.{Bool, _&&_, cond}
 use mathlib.Core.List.{List, [], _∷_, _++_, append-nil}
 use native.Mathlib.Nat.{zero-add}
 use native.Mathlib.Omega.{arith}
 use borrow.Author.Tests.{eq-eqb}
-use lib.Dec.{T, eqb, leb, leb→le, eqb→eq}
-use lib.ListN.{length, take, drop}
+use lib.Dec.{T, eqb, leb→le, eqb→eq}
+use lib.ListN.{length, take}
 use lib.Seq.{drop-at, length-take-le}
-use lib.Ieee.{Float, binary32, fits, toBits}
+use lib.Ieee.{Float, binary32, fits}
 use lib.Ieee.Bits.{toBits-lt}
 use lib.Ieee.Fits.{and-i, and-l, and-r}
 use Rattle.laws.proofs.Choice.{cond-true}
@@ -29,7 +29,7 @@ use Rattle.formats.proofs.Gives.{Gives}
 use Rattle.formats.proofs.InBits.{bits-there}
 use Rattle.formats.proofs.InWords.{words-there, length-words}
 use Rattle.formats.proofs.Descriptions.{Raises, Every, Held, Fate, lawful-value, refused-value, law, fate}
-use Rattle.score_line.specs.LineFormat.{symbol, float, number, timed, when, label, Kind, instr, control, end, tempo, kind, Body, labelled, body, counted, Values, values, valuesOf, eventParts, kindOf, countOf, listOf, afterTime, Parts, parts, filled, partsOf, lineWith, padded, used, line, lawful}
+use Rattle.score_line.specs.LineFormat.{symbol, float, number, timed, when, label, Kind, instr, control, end, tempo, kind, labelled, body, counted, values, valuesOf, eventParts, kindOf, countOf, listOf, afterTime, Parts, parts, filled, partsOf, lineWith, padded, used, line, lawful}
 use Rattle.score_line.specs.Reading.{lineFrom, answerOf, refusedLine, lineRead, lineAt, lineInWords, wholeRun, keypadLine}
 use Rattle.score_line.specs.declared.When.{When}
 use Rattle.score_line.specs.declared.When.the-variants.{Timed, Untimed}

@@ -29,7 +29,7 @@ use Rattle.formats.proofs.Descriptions.{append}
 use Rattle.line_writer.specs.Fields.{flag, float, whenBefore, labelBefore, eventBefore, valueFields, lineFields}
 use Rattle.line_writer.specs.Packed.{toEighteen, packed, Room, Joined}
 use Rattle.line_writer.specs.declared.Fields.{Fields}
-use Rattle.score_line.specs.LineFormat.{timed, when, label, kind, body, eventParts, kindOf, number, counted, valuesOf, afterTime, parts, line}
+use Rattle.score_line.specs.LineFormat.{timed, when, label, kind, body, eventParts, kindOf, number, counted, afterTime, parts, line}
 use Rattle.score_line.specs.LineFormat.{labelled as labelled·format}
 use Rattle.score_line.specs.LineFormat.{float as real}
 use Rattle.score_line.specs.LineFormat.{values as values·format}

@@ -1,6 +1,6 @@
 -- A refused orchestra leaves a blank program.
 use mathlib.Core.Path.{_≡_, refl, ap, _∙_}
-use mathlib.Core.List.{List, []}
+use mathlib.Core.List.{[]}
 use lib.ListN.{replicate}
 use Rattle.lowering.specs.Orchestra.{codeOf, rateOfProgram, walkFrom, filled}
 use Rattle.orchestra.specs.Compiled as compiled

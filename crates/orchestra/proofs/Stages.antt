@@ -1,16 +1,12 @@
 -- The reader's stages are document 01's.
-use mathlib.Core.Path.{_≡_, refl, sym, ap, _∙_}
-use mathlib.Core.List.{List, [], map}
-use Rattle.tokens.specs.declared.Token.{Token}
-use Rattle.syntax.specs.Tree.{Instrument}
+use mathlib.Core.Path.{refl, sym, ap, _∙_}
+use mathlib.Core.List.{map}
 use Rattle.syntax.specs.Placed.{placed}
-use Rattle.syntax.specs.Program.{Ins, program}
+use Rattle.syntax.specs.Program.{program}
 use Rattle.syntax.proofs.Rates.{rates-agree}
-use Rattle.expressions.specs.Reader.{Res, no, ok}
 use Rattle.expressions.proofs.Runs.{took-of}
-use Rattle.grammar.specs.Reader.{orchestra}
 use Rattle.grammar.proofs.Complete.{complete}
-use Rattle.grammar.proofs.Sound.{Orchestrated, sound}
+use Rattle.grammar.proofs.Sound.{sound}
 use Rattle.grammar.proofs.Unique.{unique}
 use Rattle.rules.specs.Formed.{opsOf, argsOf}
 use Rattle.rules.specs.Rating.{ratesPass}

@@ -9,7 +9,6 @@ use lib.Dec.{ltb}
 use borrow.Author.Tests.{ltb-true, ltb-false, lt-ltb, le-ltb}
 use Rattle.answer.specs.declared.Answer.the-variants.{Taken, BadGrammar, BadNames, BadRates, TooLarge}
 use Rattle.tokens.specs.declared.Token.{Token}
-use Rattle.tokens.specs.Spelling.{Bytes}
 use Rattle.tokens.specs.Scanning.{Got, none, some, tokensOf, ScansSpelling}
 use Rattle.tokens.specs.Measures.{longest, measured}
 use Rattle.tokens.proofs.Laws.{every-scan, spelt-found, one-spelling}

@@ -1,5 +1,5 @@
 -- The plain player by place is the plain player as written.
-use Prim.Native.Nat.{ℕ, zero, suc, _≤_, _<_}
+use Prim.Native.Nat.{ℕ, suc, _≤_}
 use native.Mathlib.Omega.{arith}
 use mathlib.Core.Path.{_≡_, refl, sym, ap, _∙_, subst}
 use mathlib.Core.Bool.{Bool, true, false, not, _&&_, _||_, cond, true≢false}
@@ -10,15 +10,11 @@ use lib.Dec.{eqb, leb}
 use lib.Ieee.{Float}
 use borrow.Author.Tests.{eqb-true, eq-eqb}
 use Rattle.laws.proofs.Choice.{both-true}
-use Rattle.score_line.specs.declared.Line.{Line}
-use Rattle.score_line.specs.declared.Event.{Event}
 use Rattle.syntax.specs.Tree.{Instrument, importsKind}
 use Rattle.syntax.specs.Names.{Named, namesOf, symbols, has, apart, distinct, namesKept, eachKept, titleOf, nameRules, known, named, namedBy}
-use Rattle.syntax.specs.Placed.{place}
 use Rattle.float32.specs.Builtins.{zeroF}
-use Rattle.players.specs.Lists.{All}
 use Rattle.sounding.specs.Voices as by
-use Rattle.voices.specs.Tree.{instrumentOf, silent, noSymbol, bodyOf, setOf, treeVoices}
+use Rattle.voices.specs.Tree.{instrumentOf, silent, bodyOf, treeVoices}
 use Rattle.meaning.specs.Placed as placed
 use Rattle.voices.specs.Claims.{imported}
 use Rattle.voices.proofs.Lines.{control-names}
@@ -26,7 +22,7 @@ use Rattle.meaning.specs.Meaning.{Memory, set, importsIn, control, birth, cycle
 use Rattle.meaning.specs.Translation.{Stands}
 use Rattle.meaning.proofs.Translation.{birth-agrees, cycle-agrees}
 use Rattle.syntax.proofs.Places.{kept, index, place-is}
-use Rattle.written_voices.specs.Voices.{Held, writtenVoices, Fits, PlaysAsWritten, EveryPiece, EveryPast}
+use Rattle.written_voices.specs.Voices.{Held, writtenVoices, Fits, EveryPiece, EveryPast}
 use Rattle.written_voices.proofs.Related.{Related, blocks-related, answers-related, missed-related, position-related, past-block-related}
 
 -- ---- each name once

@@ -10,17 +10,10 @@ use Rattle.bitstream.proofs.low_bits.Tie as tie
 left : (n : ℕ) → n ≤ 32 → 1 * 2 ^ n % 2 ^ 64 ≡ 2 ^ n
 left n h = shl-exact {a = 1} 1 n 64 (omega arith) (omega arith) ∙ one-mul (2 ^ n)
 
-shl-result : tie.Need-shl-result
-shl-result c = search needs
-
-rem-result : tie.Need-rem-result
-rem-result c = rw (left (c .args .n) (c .pre)) (pow-pos (c .args .n))
-
-cast-result : tie.Need-cast-result
-cast-result c = rw (left (c .args .n) (c .pre)) (record { fits = lt-of-lt-of-le (mod-lt (c .args .x) (pow-pos (c .args .n))) (pow-mono {j = 32} (c .pre)) })
-
-returns : tie.Need-returns
-returns c = rw (left (c .args .n) (c .pre))
-
 pub low-bits-spec : {M : Type 1} → statement M
-low-bits-spec = tie.close (tie.spec shl-result rem-result cast-result returns)
+low-bits-spec =
+    tie.close (tie.spec
+    (λ c. search needs)
+    (λ c. rw (left (c .args .n) (c .pre)) (pow-pos (c .args .n)))
+    (λ c. rw (left (c .args .n) (c .pre)) (record { fits = lt-of-lt-of-le (mod-lt (c .args .x) (pow-pos (c .args .n))) (pow-mono {j = 32} (c .pre)) }))
+    (λ c. rw (left (c .args .n) (c .pre))))

@@ -1,3 +1,4 @@
+use borrow.Author.Needs.{needs}
 use Rattle.float32.proofs.int.Statement.{statement}
 use Rattle.float32.proofs.int.Tie as tie
 use Rattle.float32.proofs.Whole.{int-large, int-low, small, int-in, int-of, Small}
@@ -15,22 +16,10 @@ in-range : (c : tie.Then2) → Small (c .before .before .args .x)
 unfolding ofBits neg
 in-range c = small (c .before .before .args .x) (c .before .if1 .taken) (c .if2 .taken)
 
-truncating-f32-to-i64-requires : tie.Need-truncating-f32-to-i64-requires
-truncating-f32-to-i64-requires c κs = in-range c .range
-
-int-to-float-result : tie.Need-int-to-float-result
-int-to-float-result c = rw (toZ-ofZ w64 (c .before .truncating-f32-to-i64 .result) (record { sfits = c .before .truncating-f32-to-i64 .ok }), c .before .truncating-f32-to-i64 .ensures) (int-in (in-range (c .before .before)))
-
-returns : tie.Need-returns
-returns c = rw (toZ-ofZ w64 (c .before .truncating-f32-to-i64 .result) (record { sfits = c .before .truncating-f32-to-i64 .ok }), c .before .truncating-f32-to-i64 .ensures) (int-of (in-range (c .before .before)))
-
-returns-2 : tie.Need-returns-2
-unfolding ofBits neg
-returns-2 c = int-low (c .before .before .args .x) (good (c .before .before)) (c .if2 .left)
-
-returns-3 : tie.Need-returns-3
-unfolding ofBits neg
-returns-3 c = int-large (c .before .args .x) (good (c .before)) (c .if1 .left)
-
 pub int-spec : {M : Type 1} → statement M
-int-spec = tie.close (tie.spec truncating-f32-to-i64-requires int-to-float-result returns returns-2 returns-3)
+int-spec =
+    tie.close (tie.spec
+    (λ c κs. in-range c .range)
+    (λ c. rw (toZ-ofZ w64 (c .before .truncating-f32-to-i64 .result) (record { sfits = c .before .truncating-f32-to-i64 .ok }), c .before .truncating-f32-to-i64 .ensures) (int-in (in-range (c .before .before))))
+    (λ c. rw (toZ-ofZ w64 (c .before .truncating-f32-to-i64 .result) (record { sfits = c .before .truncating-f32-to-i64 .ok }), c .before .truncating-f32-to-i64 .ensures) (int-of (in-range (c .before .before))))
+    (λ c. unfold ofBits neg in search (int-low, needs)) (λ c. unfold ofBits neg in search (int-large, needs)))

@@ -11,65 +11,14 @@ use Rattle.float32.proofs.unary.Tie as tie
 at : (x : Float) {op n : ℕ} → op ≡ n → unaryOf n x ≡ unaryOf op x
 at x e = ap (λ (k : ℕ). unaryOf k x) (sym e)
 
-abs-requires : tie.Need-abs-requires
-abs-requires c κs = search needs
-
-sgn-requires : tie.Need-sgn-requires
-sgn-requires c κs = search needs
-
-int-requires : tie.Need-int-requires
-int-requires c κs = search needs
-
-frac-requires : tie.Need-frac-requires
-frac-requires c κs = search needs
-
-negated-requires : tie.Need-negated-requires
-negated-requires c κs = search needs
-
-minus-requires : tie.Need-minus-requires
-minus-requires c κs = search needs
-
-returns : tie.Need-returns
-unfolding unaryOf
-returns c = c .abs .ensures ∙ at (c .before .before .args .x) (c .before .match .keys1)
-
-returns-2 : tie.Need-returns-2
-unfolding unaryOf
-returns-2 c = c .sgn .ensures ∙ at (c .before .before .args .x) (c .before .match .keys2)
-
-returns-3 : tie.Need-returns-3
-unfolding unaryOf
-returns-3 c = c .int .ensures ∙ at (c .before .before .args .x) (c .before .match .keys3)
-
-returns-4 : tie.Need-returns-4
-unfolding unaryOf
-returns-4 c = c .frac .ensures ∙ at (c .before .before .args .x) (c .before .match .keys4)
-
-returns-5 : tie.Need-returns-5
-unfolding unaryOf
-returns-5 c = c .negated .ensures ∙ at (c .before .before .args .x) (c .before .match .keys5)
-
-returns-6 : tie.Need-returns-6
-unfolding unaryOf
-returns-6 c = c .minus .ensures ∙ at (c .before .before .args .x) (c .before .match .keys6)
-
-returns-7 : tie.Need-returns-7
-returns-7 c = unary-other _ _ (c .match .rest)
-
 pub unary-spec : {M : Type 1} → statement M
 unary-spec =
-    tie.close
-    (tie.spec
-    abs-requires
-    sgn-requires
-    int-requires
-    frac-requires
-    negated-requires
-    minus-requires
-    returns
-    returns-2
-    returns-3
-    returns-4
-    returns-5
-    returns-6
-    returns-7)
+    tie.close (tie.spec
+    (λ c κs. search needs) (λ c κs. search needs) (λ c κs. search needs) (λ c κs. search needs) (λ c κs. search needs) (λ c κs. search needs)
+    (λ c. unfold unaryOf in c .abs .ensures ∙ at (c .before .before .args .x) (c .before .match .keys1))
+    (λ c. unfold unaryOf in c .sgn .ensures ∙ at (c .before .before .args .x) (c .before .match .keys2))
+    (λ c. unfold unaryOf in c .int .ensures ∙ at (c .before .before .args .x) (c .before .match .keys3))
+    (λ c. unfold unaryOf in c .frac .ensures ∙ at (c .before .before .args .x) (c .before .match .keys4))
+    (λ c. unfold unaryOf in c .negated .ensures ∙ at (c .before .before .args .x) (c .before .match .keys5))
+    (λ c. unfold unaryOf in c .minus .ensures ∙ at (c .before .before .args .x) (c .before .match .keys6))
+    (λ c. search unary-other))

@@ -39,149 +39,86 @@ module _ (t : ℕ) where
   abbrev K-declarations : declarations-lts.Claims
   K-declarations = (lead-at-reads.Asked, lead-at-reads.Learnt, listed-reads.Asked, listed-reads.Learnt, declarations-below t, declarations.Post, pass-reads.Asked, pass-reads.Learnt)
 
-  declarations-enum-known-got : declarations-lts.Need-enum-known-got K-declarations (declarations-at t) declarations.Post
-  declarations-enum-known-got c = search needs
-
-  declarations-enum-told : declarations-lts.Need-enum-told K-declarations (declarations-at t) declarations.Post
-  declarations-enum-told c = search needs
-
-  declarations-returns : declarations-lts.Need-returns K-declarations (declarations-at t) declarations.Post
-  declarations-returns c = gone (c .enum-told .given .1) refl refl
-
-  declarations-lead-at-requires : declarations-lts.Need-lead-at-requires K-declarations (declarations-at t) declarations.Post
-  declarations-lead-at-requires c κs = search needs
-
-  declarations-enum-known-k : declarations-lts.Need-enum-known-k K-declarations (declarations-at t) declarations.Post
-  declarations-enum-known-k c = search needs
-
-  declarations-add-t16 : declarations-lts.Need-add-t16 K-declarations (declarations-at t) declarations.Post
-  declarations-add-t16 c =
-      let c₁ = c .before in
-      let c₂ = c₁ .before .before in
-      let c₃ = c₂ .before .before in
-      let s = c₃ .before .before .before .before .before .before .before .before in
-      let T = toks (s .args .kinds .now) (s .args .words .now) (s .args .reals .now) in
-      let h = lead-in T (c₃ .got .given .0 .0) (c₂ .lead-at .ensures) (c₁ .k .given .1) tt in
-      omega (arith, length-toks (s .args .kinds .now) (s .args .words .now) (s .args .reals .now), s .good .0 .0)
-
-  declarations-listed-requires : declarations-lts.Need-listed-requires K-declarations (declarations-at t) declarations.Post
-  declarations-listed-requires c κs =
-      let c₁ = c .before .before .before .before in
-      let c₂ = c₁ .before .before in
-      let c₃ = c₂ .before .before in
-      let s = c₃ .before .before .before .before .before .before .before .before in
-      let T = toks (s .args .kinds .now) (s .args .words .now) (s .args .reals .now) in
-      let p₀ = lead-past T (c₃ .got .given .0 .0) (s .pre .1) (s .pre .0) (c₃ .got .given .1) (c₂ .lead-at .ensures) (c₁ .k .given .1) tt in
-      past-ready p₀
-
-  declarations-declarations-requires : declarations-lts.Need-declarations-requires K-declarations (declarations-at t) declarations.Post
-  declarations-declarations-requires c κs =
-      let c₁ = c .before .before .before .before .before .before .before .before .before in
-      let c₂ = c₁ .before .before .before .before .before in
-      let c₃ = c₂ .before .before in
-      let c₄ = c₃ .before .before in
-      let s = c₄ .before .before .before .before .before .before .before .before in
-      let T = toks (s .args .kinds .now) (s .args .words .now) (s .args .reals .now) in
-      let p₀ = lead-past T (c₄ .got .given .0 .0) (s .pre .1) (s .pre .0) (c₄ .got .given .1) (c₃ .lead-at .ensures) (c₂ .k .given .1) tt in
-      let p₁ = past-took 1 (listed-took (c₂ .k .given .0 .0)) p₀ (c₁ .listed .ensures) in
-      (p₁ .less, past-ready p₁)
-
-  declarations-enum-told-2 : declarations-lts.Need-enum-told-2 K-declarations (declarations-at t) declarations.Post
-  declarations-enum-told-2 c = search needs
-
-  declarations-add-t30 : declarations-lts.Need-add-t30 K-declarations (declarations-at t) declarations.Post
-  declarations-add-t30 c =
-      let c₁ = c .before .before in
-      let c₂ = c₁ .before .before in
-      let s = c₂ .before .before .before .before .before .before .before .before in
-      let T = toks (s .args .kinds .now) (s .args .words .now) (s .args .reals .now) in
-      let h = lead-in T (c₂ .got .given .0 .0) (c₁ .lead-at .ensures) (c .enum-told2 .given .1) tt in
-      omega (arith, length-toks (s .args .kinds .now) (s .args .words .now) (s .args .reals .now), s .good .0 .0)
-
-  declarations-pass-requires : declarations-lts.Need-pass-requires K-declarations (declarations-at t) declarations.Post
-  declarations-pass-requires c κs = search needs
-
-  declarations-listed-requires-2 : declarations-lts.Need-listed-requires-2 K-declarations (declarations-at t) declarations.Post
-  declarations-listed-requires-2 c κs =
-      let c₁ = c .before .before .before in
-      let c₂ = c₁ .before in
-      let c₃ = c₂ .before .before in
-      let c₄ = c₃ .before .before in
-      let s = c₄ .before .before .before .before .before .before .before .before in
-      let T = toks (s .args .kinds .now) (s .args .words .now) (s .args .reals .now) in
-      let p₀ = lead-past T (c₄ .got .given .0 .0) (s .pre .1) (s .pre .0) (c₄ .got .given .1) (c₃ .lead-at .ensures) (c₂ .enum-told2 .given .1) tt in
-      let p₁ = past-sign 3 p₀ (c₁ .pass .ensures) in
-      past-ready p₁
-
-  declarations-declarations-requires-2 : declarations-lts.Need-declarations-requires-2 K-declarations (declarations-at t) declarations.Post
-  declarations-declarations-requires-2 c κs =
-      let c₁ = c .before .before .before .before .before .before .before .before .before in
-      let c₂ = c₁ .before .before .before .before in
-      let c₃ = c₂ .before in
-      let c₄ = c₃ .before .before in
-      let c₅ = c₄ .before .before in
-      let s = c₅ .before .before .before .before .before .before .before .before in
-      let T = toks (s .args .kinds .now) (s .args .words .now) (s .args .reals .now) in
-      let p₀ = lead-past T (c₅ .got .given .0 .0) (s .pre .1) (s .pre .0) (c₅ .got .given .1) (c₄ .lead-at .ensures) (c₃ .enum-told2 .given .1) tt in
-      let p₁ = past-sign 3 p₀ (c₂ .pass .ensures) in
-      let p₂ = past-took 1 (listed-took importsKind) p₁ (c₁ .listed2 .ensures) in
-      (p₂ .less, past-ready p₂)
-
-  declarations-enum-told-3 : declarations-lts.Need-enum-told-3 K-declarations (declarations-at t) declarations.Post
-  declarations-enum-told-3 c = search needs
-
-  declarations-same-length : declarations-lts.Need-same-length K-declarations (declarations-at t) declarations.Post
-  declarations-same-length c = search needs
-
-  declarations-same-length-2 : declarations-lts.Need-same-length-2 K-declarations (declarations-at t) declarations.Post
-  declarations-same-length-2 c = search needs
-
-  declarations-same-length-3 : declarations-lts.Need-same-length-3 K-declarations (declarations-at t) declarations.Post
-  declarations-same-length-3 c = search needs
-
-  declarations-returns-2 : declarations-lts.Need-returns-2 K-declarations (declarations-at t) declarations.Post
-  declarations-returns-2 c =
-      let c₁ = c .before .before .before .before .before .before in
-      let c₂ = c₁ .before .before .before .before .before .before .before .before .before .before in
-      let c₃ = c₂ .before .before .before .before .before in
-      let c₄ = c₃ .before .before in
-      let c₅ = c₄ .before .before in
-      let s = c₅ .before .before .before .before .before .before .before .before in
-      let T = toks (s .args .kinds .now) (s .args .words .now) (s .args .reals .now) in
-      declarations-as T (c₅ .got .given .0 .0) (Kind (c₃ .k .given .0 .0)) (λ z. seq (R.listed (c₃ .k .given .0 .0) z) R.declarations) (λ z. refl) (c₅ .got .given .1) (c₄ .lead-at .ensures) (c₃ .k .given .1)
-      (runs-seq R.declarations (c₂ .listed .ensures) (c₁ .declarations .ensures))
-
-  declarations-same-length-4 : declarations-lts.Need-same-length-4 K-declarations (declarations-at t) declarations.Post
-  declarations-same-length-4 c = search needs
-
-  declarations-same-length-5 : declarations-lts.Need-same-length-5 K-declarations (declarations-at t) declarations.Post
-  declarations-same-length-5 c = search needs
-
-  declarations-same-length-6 : declarations-lts.Need-same-length-6 K-declarations (declarations-at t) declarations.Post
-  declarations-same-length-6 c = search needs
-
-  declarations-returns-3 : declarations-lts.Need-returns-3 K-declarations (declarations-at t) declarations.Post
-  declarations-returns-3 c =
-      let c₁ = c .before .before .before .before .before .before in
-      let c₂ = c₁ .before .before .before .before .before .before .before .before .before .before in
-      let c₃ = c₂ .before .before .before .before in
-      let c₄ = c₃ .before in
-      let c₅ = c₄ .before .before in
-      let c₆ = c₅ .before .before in
-      let s = c₆ .before .before .before .before .before .before .before .before in
-      let T = toks (s .args .kinds .now) (s .args .words .now) (s .args .reals .now) in
-      declarations-as T (c₆ .got .given .0 .0) Imports (λ z. seq (sign 3 z) (λ p. seq (R.listed importsKind p) R.declarations)) (λ z. refl) (c₆ .got .given .1) (c₅ .lead-at .ensures) (c₄ .enum-told2 .given .1)
-      (runs-seq (λ p. seq (R.listed importsKind p) R.declarations) (runs-sign T 3 _ (c₃ .pass .ensures)) (runs-seq R.declarations (c₂ .listed2 .ensures) (c₁ .declarations2 .ensures)))
-
-  declarations-returns-4 : declarations-lts.Need-returns-4 K-declarations (declarations-at t) declarations.Post
-  declarations-returns-4 c =
-      let c₁ = c .before .before in
-      let c₂ = c₁ .before .before in
-      let s = c₂ .before .before .before .before .before .before .before .before in
-      let T = toks (s .args .kinds .now) (s .args .words .now) (s .args .reals .now) in
-      declarations-stop T (c₂ .got .given .0 .0) (s .pre .1) (c₂ .got .given .1) (c₁ .lead-at .ensures) (c .enum-told3 .given .1)
-
 pub +declarations-spec : {M : Type 1} → statement M
 +declarations-spec =
     close μ-declarations
-    (λ t. declarations-lts.spec (K-declarations t) (declarations-at t) declarations.Post (declarations-enum-known-got t) (declarations-enum-told t) (declarations-returns t) (declarations-lead-at-requires t) (declarations-enum-known-k t) (declarations-add-t16 t) (declarations-listed-requires t) (declarations-declarations-requires t) (declarations-enum-told-2 t) (declarations-add-t30 t) (declarations-pass-requires t) (declarations-listed-requires-2 t) (declarations-declarations-requires-2 t) (declarations-enum-told-3 t) (declarations-same-length t) (declarations-same-length-2 t) (declarations-same-length-3 t) (declarations-returns-2 t) (declarations-same-length-4 t) (declarations-same-length-5 t) (declarations-same-length-6 t) (declarations-returns-3 t) (declarations-returns-4 t))
+    (λ t. declarations-lts.spec
+    (K-declarations t) (declarations-at t) declarations.Post (λ c. search needs) (λ c. search needs) (λ c. gone (c .enum-told .given .1) refl refl)
+    (λ c κs. search needs) (λ c. search needs)
+    (λ c. let c₁ = c .before in
+    let c₂ = c₁ .before .before in
+    let c₃ = c₂ .before .before in
+    let s = c₃ .before .before .before .before .before .before .before .before in
+    let T = toks (s .args .kinds .now) (s .args .words .now) (s .args .reals .now) in
+    let h = lead-in T (c₃ .got .given .0 .0) (c₂ .lead-at .ensures) (c₁ .k .given .1) tt in
+    omega (arith, length-toks (s .args .kinds .now) (s .args .words .now) (s .args .reals .now), s .good .0 .0))
+    (λ c κs. let c₁ = c .before .before .before .before in
+    let c₂ = c₁ .before .before in
+    let c₃ = c₂ .before .before in
+    let s = c₃ .before .before .before .before .before .before .before .before in
+    let T = toks (s .args .kinds .now) (s .args .words .now) (s .args .reals .now) in
+    let p₀ = lead-past T (c₃ .got .given .0 .0) (s .pre .1) (s .pre .0) (c₃ .got .given .1) (c₂ .lead-at .ensures) (c₁ .k .given .1) tt in
+    past-ready p₀)
+    (λ c κs. let c₁ = c .before .before .before .before .before .before .before .before .before in
+    let c₂ = c₁ .before .before .before .before .before in
+    let c₃ = c₂ .before .before in
+    let c₄ = c₃ .before .before in
+    let s = c₄ .before .before .before .before .before .before .before .before in
+    let T = toks (s .args .kinds .now) (s .args .words .now) (s .args .reals .now) in
+    let p₀ = lead-past T (c₄ .got .given .0 .0) (s .pre .1) (s .pre .0) (c₄ .got .given .1) (c₃ .lead-at .ensures) (c₂ .k .given .1) tt in
+    let p₁ = past-took 1 (listed-took (c₂ .k .given .0 .0)) p₀ (c₁ .listed .ensures) in
+    (p₁ .less, past-ready p₁))
+    (λ c. search needs)
+    (λ c. let c₁ = c .before .before in
+    let c₂ = c₁ .before .before in
+    let s = c₂ .before .before .before .before .before .before .before .before in
+    let T = toks (s .args .kinds .now) (s .args .words .now) (s .args .reals .now) in
+    let h = lead-in T (c₂ .got .given .0 .0) (c₁ .lead-at .ensures) (c .enum-told2 .given .1) tt in
+    omega (arith, length-toks (s .args .kinds .now) (s .args .words .now) (s .args .reals .now), s .good .0 .0))
+    (λ c κs. search needs)
+    (λ c κs. let c₁ = c .before .before .before in
+    let c₂ = c₁ .before in
+    let c₃ = c₂ .before .before in
+    let c₄ = c₃ .before .before in
+    let s = c₄ .before .before .before .before .before .before .before .before in
+    let T = toks (s .args .kinds .now) (s .args .words .now) (s .args .reals .now) in
+    let p₀ = lead-past T (c₄ .got .given .0 .0) (s .pre .1) (s .pre .0) (c₄ .got .given .1) (c₃ .lead-at .ensures) (c₂ .enum-told2 .given .1) tt in
+    let p₁ = past-sign 3 p₀ (c₁ .pass .ensures) in
+    past-ready p₁)
+    (λ c κs. let c₁ = c .before .before .before .before .before .before .before .before .before in
+    let c₂ = c₁ .before .before .before .before in
+    let c₃ = c₂ .before in
+    let c₄ = c₃ .before .before in
+    let c₅ = c₄ .before .before in
+    let s = c₅ .before .before .before .before .before .before .before .before in
+    let T = toks (s .args .kinds .now) (s .args .words .now) (s .args .reals .now) in
+    let p₀ = lead-past T (c₅ .got .given .0 .0) (s .pre .1) (s .pre .0) (c₅ .got .given .1) (c₄ .lead-at .ensures) (c₃ .enum-told2 .given .1) tt in
+    let p₁ = past-sign 3 p₀ (c₂ .pass .ensures) in
+    let p₂ = past-took 1 (listed-took importsKind) p₁ (c₁ .listed2 .ensures) in
+    (p₂ .less, past-ready p₂))
+    (λ c. search needs) (λ c. search needs) (λ c. search needs) (λ c. search needs)
+    (λ c. let c₁ = c .before .before .before .before .before .before in
+    let c₂ = c₁ .before .before .before .before .before .before .before .before .before .before in
+    let c₃ = c₂ .before .before .before .before .before in
+    let c₄ = c₃ .before .before in
+    let c₅ = c₄ .before .before in
+    let s = c₅ .before .before .before .before .before .before .before .before in
+    let T = toks (s .args .kinds .now) (s .args .words .now) (s .args .reals .now) in
+    declarations-as T (c₅ .got .given .0 .0) (Kind (c₃ .k .given .0 .0)) (λ z. seq (R.listed (c₃ .k .given .0 .0) z) R.declarations) (λ z. refl) (c₅ .got .given .1) (c₄ .lead-at .ensures) (c₃ .k .given .1)
+    (runs-seq R.declarations (c₂ .listed .ensures) (c₁ .declarations .ensures)))
+    (λ c. search needs) (λ c. search needs) (λ c. search needs)
+    (λ c. let c₁ = c .before .before .before .before .before .before in
+    let c₂ = c₁ .before .before .before .before .before .before .before .before .before .before in
+    let c₃ = c₂ .before .before .before .before in
+    let c₄ = c₃ .before in
+    let c₅ = c₄ .before .before in
+    let c₆ = c₅ .before .before in
+    let s = c₆ .before .before .before .before .before .before .before .before in
+    let T = toks (s .args .kinds .now) (s .args .words .now) (s .args .reals .now) in
+    declarations-as T (c₆ .got .given .0 .0) Imports (λ z. seq (sign 3 z) (λ p. seq (R.listed importsKind p) R.declarations)) (λ z. refl) (c₆ .got .given .1) (c₅ .lead-at .ensures) (c₄ .enum-told2 .given .1)
+    (runs-seq (λ p. seq (R.listed importsKind p) R.declarations) (runs-sign T 3 _ (c₃ .pass .ensures)) (runs-seq R.declarations (c₂ .listed2 .ensures) (c₁ .declarations2 .ensures))))
+    (λ c. let c₁ = c .before .before in
+    let c₂ = c₁ .before .before in
+    let s = c₂ .before .before .before .before .before .before .before .before in
+    let T = toks (s .args .kinds .now) (s .args .words .now) (s .args .reals .now) in
+    declarations-stop T (c₂ .got .given .0 .0) (s .pre .1) (c₂ .got .given .1) (c₁ .lead-at .ensures) (c .enum-told3 .given .1)))

@@ -32,75 +32,32 @@ module _ (t : ℕ) where
   abbrev K-instruments : instruments-lts.Claims
   K-instruments = (instrument-reads.Asked, instrument-reads.Learnt, instruments-below t, instruments.Post)
 
-  instruments-instrument-requires : instruments-lts.Need-instrument-requires K-instruments (instruments-at t) instruments.Post
-  instruments-instrument-requires c κs = c .before .before .before .before .before .before .before .before .before .pre .1
-
-  instruments-enum-known-a : instruments-lts.Need-enum-known-a K-instruments (instruments-at t) instruments.Post
-  instruments-enum-known-a c = search needs
-
-  instruments-enum-told : instruments-lts.Need-enum-told K-instruments (instruments-at t) instruments.Post
-  instruments-enum-told c = search needs
-
-  instruments-same-length : instruments-lts.Need-same-length K-instruments (instruments-at t) instruments.Post
-  instruments-same-length c = search needs
-
-  instruments-same-length-2 : instruments-lts.Need-same-length-2 K-instruments (instruments-at t) instruments.Post
-  instruments-same-length-2 c = search needs
-
-  instruments-same-length-3 : instruments-lts.Need-same-length-3 K-instruments (instruments-at t) instruments.Post
-  instruments-same-length-3 c = search needs
-
-  instruments-returns : instruments-lts.Need-returns K-instruments (instruments-at t) instruments.Post
-  instruments-returns c =
-      let c₁ = c .before .before .before .before .before .before .before .before in
-      last-no (c₁ .instrument .ensures) (c .enum-told .given .1)
-
-  instruments-instruments-requires : instruments-lts.Need-instruments-requires K-instruments (instruments-at t) instruments.Post
-  instruments-instruments-requires c κs =
-      let c₁ = c .before .before .before .before .before in
-      let c₂ = c₁ .before .before .before .before .before .before .before .before in
-      let s = c₂ .before .before .before .before .before .before .before .before .before .before in
-      let T = toks (s .args .kinds .now) (s .args .words .now) (s .args .reals .now) in
-      let p = past-first 4 instrument-took (s .pre .1) (s .pre .0) (runs-to (c₁ .a .given .1) (c₂ .instrument .ensures)) refl in
-      (p .less, past-ready p)
-
-  instruments-same-length-4 : instruments-lts.Need-same-length-4 K-instruments (instruments-at t) instruments.Post
-  instruments-same-length-4 c = search needs
-
-  instruments-same-length-5 : instruments-lts.Need-same-length-5 K-instruments (instruments-at t) instruments.Post
-  instruments-same-length-5 c = search needs
-
-  instruments-same-length-6 : instruments-lts.Need-same-length-6 K-instruments (instruments-at t) instruments.Post
-  instruments-same-length-6 c = search needs
-
-  instruments-returns-2 : instruments-lts.Need-returns-2 K-instruments (instruments-at t) instruments.Post
-  instruments-returns-2 c =
-      let c₁ = c .before .before .before .before .before .before in
-      let c₂ = c₁ .before .before .before .before in
-      let c₃ = c₂ .before .before in
-      let c₄ = c₃ .before .before .before .before .before .before .before .before in
-      let s = c₄ .before .before .before .before .before .before .before .before .before .before in
-      let T = toks (s .args .kinds .now) (s .args .words .now) (s .args .reals .now) in
-      others-follow T (c₃ .a .given .0 .0) (c₄ .instrument .ensures) (c₃ .a .given .1) (rw (length-toks (s .args .kinds .now) (s .args .words .now) (s .args .reals .now)) (c₂ .if1 .taken)) (c₁ .instruments .ensures)
-
-  instruments-same-length-7 : instruments-lts.Need-same-length-7 K-instruments (instruments-at t) instruments.Post
-  instruments-same-length-7 c = search needs
-
-  instruments-same-length-8 : instruments-lts.Need-same-length-8 K-instruments (instruments-at t) instruments.Post
-  instruments-same-length-8 c = search needs
-
-  instruments-same-length-9 : instruments-lts.Need-same-length-9 K-instruments (instruments-at t) instruments.Post
-  instruments-same-length-9 c = search needs
-
-  instruments-returns-3 : instruments-lts.Need-returns-3 K-instruments (instruments-at t) instruments.Post
-  instruments-returns-3 c =
-      let c₁ = c .before .before in
-      let c₂ = c₁ .before .before .before .before .before .before .before .before in
-      let s = c₂ .before .before .before .before .before .before .before .before .before .before in
-      let T = toks (s .args .kinds .now) (s .args .words .now) (s .args .reals .now) in
-      last-one T (c₁ .a .given .0 .0) (c₂ .instrument .ensures) (c₁ .a .given .1) (s .pre .1) (rw (length-toks (s .args .kinds .now) (s .args .words .now) (s .args .reals .now)) (c .if1 .left))
-
 pub +instruments-spec : {M : Type 1} → statement M
 +instruments-spec =
     close μ-instruments
-    (λ t. instruments-lts.spec (K-instruments t) (instruments-at t) instruments.Post (instruments-instrument-requires t) (instruments-enum-known-a t) (instruments-enum-told t) (instruments-same-length t) (instruments-same-length-2 t) (instruments-same-length-3 t) (instruments-returns t) (instruments-instruments-requires t) (instruments-same-length-4 t) (instruments-same-length-5 t) (instruments-same-length-6 t) (instruments-returns-2 t) (instruments-same-length-7 t) (instruments-same-length-8 t) (instruments-same-length-9 t) (instruments-returns-3 t))
+    (λ t. instruments-lts.spec
+    (K-instruments t) (instruments-at t) instruments.Post
+    (λ c κs. c .before .before .before .before .before .before .before .before .before .pre .1)
+    (λ c. search needs) (λ c. search needs) (λ c. search needs) (λ c. search needs) (λ c. search needs)
+    (λ c. let c₁ = c .before .before .before .before .before .before .before .before in
+    last-no (c₁ .instrument .ensures) (c .enum-told .given .1))
+    (λ c κs. let c₁ = c .before .before .before .before .before in
+    let c₂ = c₁ .before .before .before .before .before .before .before .before in
+    let s = c₂ .before .before .before .before .before .before .before .before .before .before in
+    let T = toks (s .args .kinds .now) (s .args .words .now) (s .args .reals .now) in
+    let p = past-first 4 instrument-took (s .pre .1) (s .pre .0) (runs-to (c₁ .a .given .1) (c₂ .instrument .ensures)) refl in
+    (p .less, past-ready p))
+    (λ c. search needs) (λ c. search needs) (λ c. search needs)
+    (λ c. let c₁ = c .before .before .before .before .before .before in
+    let c₂ = c₁ .before .before .before .before in
+    let c₃ = c₂ .before .before in
+    let c₄ = c₃ .before .before .before .before .before .before .before .before in
+    let s = c₄ .before .before .before .before .before .before .before .before .before .before in
+    let T = toks (s .args .kinds .now) (s .args .words .now) (s .args .reals .now) in
+    others-follow T (c₃ .a .given .0 .0) (c₄ .instrument .ensures) (c₃ .a .given .1) (rw (length-toks (s .args .kinds .now) (s .args .words .now) (s .args .reals .now)) (c₂ .if1 .taken)) (c₁ .instruments .ensures))
+    (λ c. search needs) (λ c. search needs) (λ c. search needs)
+    (λ c. let c₁ = c .before .before in
+    let c₂ = c₁ .before .before .before .before .before .before .before .before in
+    let s = c₂ .before .before .before .before .before .before .before .before .before .before in
+    let T = toks (s .args .kinds .now) (s .args .words .now) (s .args .reals .now) in
+    last-one T (c₁ .a .given .0 .0) (c₂ .instrument .ensures) (c₁ .a .given .1) (s .pre .1) (rw (length-toks (s .args .kinds .now) (s .args .words .now) (s .args .reals .now)) (c .if1 .left))))

@@ -33,92 +33,44 @@ module _ (t : ℕ) where
   abbrev K-names : names-lts.Claims
   K-names = (name-reads.Asked, name-reads.Learnt, sign-at-reads.Asked, sign-at-reads.Learnt, names-below t, names.Post)
 
-  names-name-requires : names-lts.Need-name-requires K-names (names-at t) names.Post
-  names-name-requires c κs = c .before .before .before .before .before .before .before .before .before .pre .1
-
-  names-enum-known-a : names-lts.Need-enum-known-a K-names (names-at t) names.Post
-  names-enum-known-a c = search needs
-
-  names-enum-told : names-lts.Need-enum-told K-names (names-at t) names.Post
-  names-enum-told c = search needs
-
-  names-same-length : names-lts.Need-same-length K-names (names-at t) names.Post
-  names-same-length c = search needs
-
-  names-same-length-2 : names-lts.Need-same-length-2 K-names (names-at t) names.Post
-  names-same-length-2 c = search needs
-
-  names-same-length-3 : names-lts.Need-same-length-3 K-names (names-at t) names.Post
-  names-same-length-3 c = search needs
-
-  names-returns : names-lts.Need-returns K-names (names-at t) names.Post
-  names-returns c =
-      let c₁ = c .before .before .before .before .before .before .before .before in
-      let s = c₁ .before .before .before .before .before .before .before .before .before .before in
-      names-no (s .args .kind) (c₁ .name .ensures) (c .enum-told .given .1)
-
-  names-sign-at-requires : names-lts.Need-sign-at-requires K-names (names-at t) names.Post
-  names-sign-at-requires c κs = search needs
-
-  names-add-t20 : names-lts.Need-add-t20 K-names (names-at t) names.Post
-  names-add-t20 c =
-      let c₁ = c .before in
-      let c₂ = c₁ .before .before in
-      let s = c₂ .before .before .before .before .before .before .before .before .before .before .before .before .before .before .before .before .before .before in
-      let T = toks (s .args .kinds .now) (s .args .words .now) (s .args .reals .now) in
-      let h = sign-in T (c₂ .a .given .0 .0) 19 (sym (c₁ .sign-at .ensures) ∙ c .if1 .taken) in
-      omega (arith, length-toks (s .args .kinds .now) (s .args .words .now) (s .args .reals .now), s .good .0 .0)
-
-  names-names-requires : names-lts.Need-names-requires K-names (names-at t) names.Post
-  names-names-requires c κs =
-      let c₁ = c .before .before .before in
-      let c₂ = c₁ .before in
-      let c₃ = c₂ .before .before in
-      let c₄ = c₃ .before .before .before .before .before .before .before .before in
-      let s = c₄ .before .before .before .before .before .before .before .before .before .before in
-      let T = toks (s .args .kinds .now) (s .args .words .now) (s .args .reals .now) in
-      let p = names-past T (s .args .kind) (c₃ .a .given .0 .0) (c₄ .name .ensures) (c₃ .a .given .1) (c₂ .sign-at .ensures) (s .pre .1) (s .pre .0) (c₁ .if1 .taken) in
-      (p .less, past-ready p)
-
-  names-same-length-4 : names-lts.Need-same-length-4 K-names (names-at t) names.Post
-  names-same-length-4 c = search needs
-
-  names-same-length-5 : names-lts.Need-same-length-5 K-names (names-at t) names.Post
-  names-same-length-5 c = search needs
-
-  names-same-length-6 : names-lts.Need-same-length-6 K-names (names-at t) names.Post
-  names-same-length-6 c = search needs
-
-  names-returns-2 : names-lts.Need-returns-2 K-names (names-at t) names.Post
-  names-returns-2 c =
-      let c₁ = c .before .before .before .before .before .before in
-      let c₂ = c₁ .before .before .before .before in
-      let c₃ = c₂ .before in
-      let c₄ = c₃ .before .before in
-      let c₅ = c₄ .before .before .before .before .before .before .before .before in
-      let s = c₅ .before .before .before .before .before .before .before .before .before .before in
-      let T = toks (s .args .kinds .now) (s .args .words .now) (s .args .reals .now) in
-      names-more T (s .args .kind) (c₄ .a .given .0 .0) (c₅ .name .ensures) (c₄ .a .given .1) (c₃ .sign-at .ensures) (c₂ .if1 .taken) (c₁ .names .ensures)
-
-  names-same-length-7 : names-lts.Need-same-length-7 K-names (names-at t) names.Post
-  names-same-length-7 c = search needs
-
-  names-same-length-8 : names-lts.Need-same-length-8 K-names (names-at t) names.Post
-  names-same-length-8 c = search needs
-
-  names-same-length-9 : names-lts.Need-same-length-9 K-names (names-at t) names.Post
-  names-same-length-9 c = search needs
-
-  names-returns-3 : names-lts.Need-returns-3 K-names (names-at t) names.Post
-  names-returns-3 c =
-      let c₁ = c .before in
-      let c₂ = c₁ .before .before in
-      let c₃ = c₂ .before .before .before .before .before .before .before .before in
-      let s = c₃ .before .before .before .before .before .before .before .before .before .before in
-      let T = toks (s .args .kinds .now) (s .args .words .now) (s .args .reals .now) in
-      names-end T (s .args .kind) (c₂ .a .given .0 .0) (c₃ .name .ensures) (c₂ .a .given .1) (c₁ .sign-at .ensures) (s .pre .1) (c .if1 .left)
-
 pub +names-spec : {M : Type 1} → statement M
 +names-spec =
     close μ-names
-    (λ t. names-lts.spec (K-names t) (names-at t) names.Post (names-name-requires t) (names-enum-known-a t) (names-enum-told t) (names-same-length t) (names-same-length-2 t) (names-same-length-3 t) (names-returns t) (names-sign-at-requires t) (names-add-t20 t) (names-names-requires t) (names-same-length-4 t) (names-same-length-5 t) (names-same-length-6 t) (names-returns-2 t) (names-same-length-7 t) (names-same-length-8 t) (names-same-length-9 t) (names-returns-3 t))
+    (λ t. names-lts.spec
+    (K-names t) (names-at t) names.Post
+    (λ c κs. c .before .before .before .before .before .before .before .before .before .pre .1)
+    (λ c. search needs) (λ c. search needs) (λ c. search needs) (λ c. search needs) (λ c. search needs)
+    (λ c. let c₁ = c .before .before .before .before .before .before .before .before in
+    let s = c₁ .before .before .before .before .before .before .before .before .before .before in
+    names-no (s .args .kind) (c₁ .name .ensures) (c .enum-told .given .1))
+    (λ c κs. search needs)
+    (λ c. let c₁ = c .before in
+    let c₂ = c₁ .before .before in
+    let s = c₂ .before .before .before .before .before .before .before .before .before .before .before .before .before .before .before .before .before .before in
+    let T = toks (s .args .kinds .now) (s .args .words .now) (s .args .reals .now) in
+    let h = sign-in T (c₂ .a .given .0 .0) 19 (sym (c₁ .sign-at .ensures) ∙ c .if1 .taken) in
+    omega (arith, length-toks (s .args .kinds .now) (s .args .words .now) (s .args .reals .now), s .good .0 .0))
+    (λ c κs. let c₁ = c .before .before .before in
+    let c₂ = c₁ .before in
+    let c₃ = c₂ .before .before in
+    let c₄ = c₃ .before .before .before .before .before .before .before .before in
+    let s = c₄ .before .before .before .before .before .before .before .before .before .before in
+    let T = toks (s .args .kinds .now) (s .args .words .now) (s .args .reals .now) in
+    let p = names-past T (s .args .kind) (c₃ .a .given .0 .0) (c₄ .name .ensures) (c₃ .a .given .1) (c₂ .sign-at .ensures) (s .pre .1) (s .pre .0) (c₁ .if1 .taken) in
+    (p .less, past-ready p))
+    (λ c. search needs) (λ c. search needs) (λ c. search needs)
+    (λ c. let c₁ = c .before .before .before .before .before .before in
+    let c₂ = c₁ .before .before .before .before in
+    let c₃ = c₂ .before in
+    let c₄ = c₃ .before .before in
+    let c₅ = c₄ .before .before .before .before .before .before .before .before in
+    let s = c₅ .before .before .before .before .before .before .before .before .before .before in
+    let T = toks (s .args .kinds .now) (s .args .words .now) (s .args .reals .now) in
+    names-more T (s .args .kind) (c₄ .a .given .0 .0) (c₅ .name .ensures) (c₄ .a .given .1) (c₃ .sign-at .ensures) (c₂ .if1 .taken) (c₁ .names .ensures))
+    (λ c. search needs) (λ c. search needs) (λ c. search needs)
+    (λ c. let c₁ = c .before in
+    let c₂ = c₁ .before .before in
+    let c₃ = c₂ .before .before .before .before .before .before .before .before in
+    let s = c₃ .before .before .before .before .before .before .before .before .before .before in
+    let T = toks (s .args .kinds .now) (s .args .words .now) (s .args .reals .now) in
+    names-end T (s .args .kind) (c₂ .a .given .0 .0) (c₃ .name .ensures) (c₂ .a .given .1) (c₁ .sign-at .ensures) (s .pre .1) (c .if1 .left)))

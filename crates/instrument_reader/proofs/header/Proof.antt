@@ -10,53 +10,23 @@ use Rattle.grammar.proofs.Steps.{name-took}
 use Rattle.instrument_reader.proofs.header.Statement.{statement}
 use Rattle.instrument_reader.proofs.header.Tie as tie
 
-name-requires : tie.Need-name-requires
-name-requires c κs = c .before .before .before .before .before .before .before .before .before .pre
-
-pass-requires : tie.Need-pass-requires
-pass-requires c κs = search needs
-
-fields-requires : tie.Need-fields-requires
-fields-requires c κs =
-    let c₁ = c .before .before .before in
+pub header-spec : {M : Type 1} → statement M
+header-spec =
+    tie.close (tie.spec
+    (λ c κs. c .before .before .before .before .before .before .before .before .before .pre)
+    (λ c κs. search needs)
+    (λ c κs. let c₁ = c .before .before .before in
     let c₂ = c₁ .before .before .before .before .before .before .before in
     let s = c₂ .before .before .before .before .before .before .before .before .before .before in
     let T = toks (s .args .kinds .now) (s .args .words .now) (s .args .reals .now) in
     let r₁ = ready-took 0 (name-took instrOp) (s .pre) (c₂ .name .ensures) in
     let r₂ = ready-sign 15 r₁ (c₁ .pass .ensures) in
-    ready-less (omega arith) r₂
-
-pass-requires-2 : tie.Need-pass-requires-2
-pass-requires-2 c κs = search needs
-
-same-length : tie.Need-same-length
-same-length c = search needs
-
-same-length-2 : tie.Need-same-length-2
-same-length-2 c = search needs
-
-same-length-3 : tie.Need-same-length-3
-same-length-3 c = search needs
-
-returns : tie.Need-returns
-returns c =
-    let c₁ = c .before .before .before .before .before .before .before in
+    ready-less (omega arith) r₂)
+    (λ c κs. search needs) (λ c. search needs) (λ c. search needs) (λ c. search needs)
+    (λ c. let c₁ = c .before .before .before .before .before .before .before in
     let c₂ = c₁ .before .before .before .before in
     let c₃ = c₂ .before .before .before .before .before .before .before in
     let s = c₃ .before .before .before .before .before .before .before .before .before .before in
     let T = toks (s .args .kinds .now) (s .args .words .now) (s .args .reals .now) in
     runs-seq (λ p. seq (sign 15 p) (λ q. seq (R.fields q) (sign 16))) (c₃ .name .ensures)
-    (runs-seq (λ q. seq (R.fields q) (sign 16)) (runs-sign T 15 _ (c₂ .pass .ensures)) (runs-seq (sign 16) (c₁ .fields .ensures) (runs-sign T 16 _ (c .pass2 .ensures))))
-
-pub header-spec : {M : Type 1} → statement M
-header-spec =
-    tie.close
-    (tie.spec
-    name-requires
-    pass-requires
-    fields-requires
-    pass-requires-2
-    same-length
-    same-length-2
-    same-length-3
-    returns)
+    (runs-seq (λ q. seq (R.fields q) (sign 16)) (runs-sign T 15 _ (c₂ .pass .ensures)) (runs-seq (sign 16) (c₁ .fields .ensures) (runs-sign T 16 _ (c .pass2 .ensures))))))

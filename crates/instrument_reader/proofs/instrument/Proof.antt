@@ -9,53 +9,26 @@ use Rattle.grammar.proofs.Steps.{header-took}
 use Rattle.instrument_reader.proofs.instrument.Statement.{statement}
 use Rattle.instrument_reader.proofs.instrument.Tie as tie
 
-pass-requires : tie.Need-pass-requires
-pass-requires c κs = search needs
-
-header-requires : tie.Need-header-requires
-header-requires c κs =
-    let c₁ = c .before .before .before in
+pub instrument-spec : {M : Type 1} → statement M
+instrument-spec =
+    tie.close (tie.spec
+    (λ c κs. search needs)
+    (λ c κs. let c₁ = c .before .before .before in
     let s = c₁ .before .before .before .before .before .before .before in
     let T = toks (s .args .kinds .now) (s .args .words .now) (s .args .reals .now) in
     let r₁ = ready-sign 1 (s .pre) (c₁ .pass .ensures) in
-    ready-less (omega arith) r₁
-
-body-requires : tie.Need-body-requires
-body-requires c κs =
-    let c₁ = c .before .before .before .before .before .before .before .before .before in
+    ready-less (omega arith) r₁)
+    (λ c κs. let c₁ = c .before .before .before .before .before .before .before .before .before in
     let c₂ = c₁ .before .before .before .before in
     let s = c₂ .before .before .before .before .before .before .before in
     let T = toks (s .args .kinds .now) (s .args .words .now) (s .args .reals .now) in
     let r₁ = ready-sign 1 (s .pre) (c₂ .pass .ensures) in
     let r₂ = ready-took 2 header-took r₁ (c₁ .header .ensures) in
-    ready-less (omega arith) r₂
-
-same-length : tie.Need-same-length
-same-length c = search needs
-
-same-length-2 : tie.Need-same-length-2
-same-length-2 c = search needs
-
-same-length-3 : tie.Need-same-length-3
-same-length-3 c = search needs
-
-returns : tie.Need-returns
-returns c =
-    let c₁ = c .before .before .before .before .before .before in
+    ready-less (omega arith) r₂)
+    (λ c. search needs) (λ c. search needs) (λ c. search needs)
+    (λ c. let c₁ = c .before .before .before .before .before .before in
     let c₂ = c₁ .before .before .before .before .before .before .before .before .before .before in
     let c₃ = c₂ .before .before .before .before in
     let s = c₃ .before .before .before .before .before .before .before in
     let T = toks (s .args .kinds .now) (s .args .words .now) (s .args .reals .now) in
-    runs-seq (λ p. seq (R.header p) R.body) (runs-sign T 1 _ (c₃ .pass .ensures)) (runs-seq R.body (c₂ .header .ensures) (c₁ .body .ensures))
-
-pub instrument-spec : {M : Type 1} → statement M
-instrument-spec =
-    tie.close
-    (tie.spec
-    pass-requires
-    header-requires
-    body-requires
-    same-length
-    same-length-2
-    same-length-3
-    returns)
+    runs-seq (λ p. seq (R.header p) R.body) (runs-sign T 1 _ (c₃ .pass .ensures)) (runs-seq R.body (c₂ .header .ensures) (c₁ .body .ensures))))

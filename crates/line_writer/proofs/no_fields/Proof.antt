@@ -4,9 +4,5 @@ use Rattle.line_writer.specs.Packed.{packed, toEighteen}
 use Rattle.line_writer.proofs.no_fields.Statement.{statement}
 use Rattle.line_writer.proofs.no_fields.Tie as tie
 
-returns : tie.Need-returns
-unfolding packed toEighteen fieldWidths fieldWords
-returns c = refl
-
 pub no-fields-spec : {M : Type 1} → statement M
-no-fields-spec = tie.close (tie.spec returns)
+no-fields-spec = tie.close (tie.spec (λ c. unfold packed toEighteen fieldWidths fieldWords in refl))

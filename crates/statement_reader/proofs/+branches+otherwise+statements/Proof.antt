@@ -69,387 +69,222 @@ module _ (t : ℕ) where
   abbrev K-branches : branches-lts.Claims
   K-branches = (bracketed-reads.Asked, bracketed-reads.Learnt, statements-below t, statements.Post, close-reads.Asked, close-reads.Learnt, otherwise-below t, otherwise.Post)
 
-  branches-bracketed-requires : branches-lts.Need-bracketed-requires K-branches (branches-at t) branches.Post
-  branches-bracketed-requires c κs = c .before .before .before .before .before .before .before .before .before .pre .1
-
-  branches-enum-known-at : branches-lts.Need-enum-known-at K-branches (branches-at t) branches.Post
-  branches-enum-known-at c = search needs
-
-  branches-enum-told : branches-lts.Need-enum-told K-branches (branches-at t) branches.Post
-  branches-enum-told c = search needs
-
-  branches-same-length : branches-lts.Need-same-length K-branches (branches-at t) branches.Post
-  branches-same-length c = search needs
-
-  branches-same-length-2 : branches-lts.Need-same-length-2 K-branches (branches-at t) branches.Post
-  branches-same-length-2 c = search needs
-
-  branches-same-length-3 : branches-lts.Need-same-length-3 K-branches (branches-at t) branches.Post
-  branches-same-length-3 c = search needs
-
-  branches-returns : branches-lts.Need-returns K-branches (branches-at t) branches.Post
-  branches-returns c =
-      let c₁ = c .before .before .before .before .before .before .before .before in
-      runs-seq (λ p. seq (R.statements p) (λ q. seq (R.close elseOp q) (R.otherwise R.statements))) (runs-to (c .enum-told .given .1) (c₁ .bracketed .ensures)) (gone refl refl refl)
-
-  branches-statements-requires : branches-lts.Need-statements-requires K-branches (branches-at t) branches.Post
-  branches-statements-requires c κs =
-      let c₁ = c .before .before .before .before in
-      let c₂ = c₁ .before .before .before .before .before .before .before .before in
-      let s = c₂ .before .before .before .before .before .before .before .before .before .before in
-      let T = toks (s .args .kinds .now) (s .args .words .now) (s .args .reals .now) in
-      let b = runs-to (c₁ .at .given .1) (c₂ .bracketed .ensures) in
-      let p₁ = past-first 1 (bracketed-took 17 7) (s .pre .1) (s .pre .0) b refl in
-      (p₁ .less, past-ready p₁)
-
-  branches-close-requires : branches-lts.Need-close-requires K-branches (branches-at t) branches.Post
-  branches-close-requires c κs =
-      let c₁ = c .before .before .before .before .before .before .before .before .before in
-      let c₂ = c₁ .before .before .before .before .before in
-      let c₃ = c₂ .before .before .before .before .before .before .before .before in
-      let s = c₃ .before .before .before .before .before .before .before .before .before .before in
-      let T = toks (s .args .kinds .now) (s .args .words .now) (s .args .reals .now) in
-      let b = runs-to (c₂ .at .given .1) (c₃ .bracketed .ensures) in
-      let p₁ = past-first 1 (bracketed-took 17 7) (s .pre .1) (s .pre .0) b refl in
-      let p₂ = past-took 0 statements-took p₁ (c₁ .statements .ensures) in
-      past-ready p₂
-
-  branches-otherwise-requires : branches-lts.Need-otherwise-requires K-branches (branches-at t) branches.Post
-  branches-otherwise-requires c κs =
-      let c₁ = c .before .before .before .before .before .before .before .before .before in
-      let c₂ = c₁ .before .before .before .before .before .before .before .before .before .before in
-      let c₃ = c₂ .before .before .before .before .before in
-      let c₄ = c₃ .before .before .before .before .before .before .before .before in
-      let s = c₄ .before .before .before .before .before .before .before .before .before .before in
-      let T = toks (s .args .kinds .now) (s .args .words .now) (s .args .reals .now) in
-      let b = runs-to (c₃ .at .given .1) (c₄ .bracketed .ensures) in
-      let p₁ = past-first 1 (bracketed-took 17 7) (s .pre .1) (s .pre .0) b refl in
-      let p₂ = past-took 0 statements-took p₁ (c₂ .statements .ensures) in
-      let p₃ = past-took 0 (sign-emit 18 (ins elseOp)) p₂ (c₁ .close .ensures) in
-      (p₃ .less, ready-less (omega arith) (p₃ .ready))
-
-  branches-same-length-4 : branches-lts.Need-same-length-4 K-branches (branches-at t) branches.Post
-  branches-same-length-4 c = search (needs, c .before .before .before .before .before .before .otherwise .kept, c .before .before .before .before .before .before .before .before .before .before .before .before .before .before .before .before .close .kept, c .before .before .before .before .before .before .before .before .before .before .before .before .before .before .before .before .before .before .before .before .before .before .before .before .before .before .statements .kept, c .before .before .before .before .before .before .before .before .before .before .before .before .before .before .before .before .before .before .before .before .before .before .before .before .before .before .before .before .before .before .before .before .before .before .before .before .before .before .before .bracketed .kept)
-
-  branches-same-length-5 : branches-lts.Need-same-length-5 K-branches (branches-at t) branches.Post
-  branches-same-length-5 c = search (needs, c .before .before .before .before .before .before .otherwise .kept, c .before .before .before .before .before .before .before .before .before .before .before .before .before .before .before .before .close .kept, c .before .before .before .before .before .before .before .before .before .before .before .before .before .before .before .before .before .before .before .before .before .before .before .before .before .before .statements .kept, c .before .before .before .before .before .before .before .before .before .before .before .before .before .before .before .before .before .before .before .before .before .before .before .before .before .before .before .before .before .before .before .before .before .before .before .before .before .before .before .bracketed .kept)
-
-  branches-same-length-6 : branches-lts.Need-same-length-6 K-branches (branches-at t) branches.Post
-  branches-same-length-6 c = search (needs, c .before .before .before .before .before .before .otherwise .kept, c .before .before .before .before .before .before .before .before .before .before .before .before .before .before .before .before .close .kept, c .before .before .before .before .before .before .before .before .before .before .before .before .before .before .before .before .before .before .before .before .before .before .before .before .before .before .statements .kept, c .before .before .before .before .before .before .before .before .before .before .before .before .before .before .before .before .before .before .before .before .before .before .before .before .before .before .before .before .before .before .before .before .before .before .before .before .before .before .before .bracketed .kept)
-
-  branches-returns-2 : branches-lts.Need-returns-2 K-branches (branches-at t) branches.Post
-  branches-returns-2 c =
-      let c₁ = c .before .before .before .before .before .before in
-      let c₂ = c₁ .before .before .before .before .before .before .before .before .before .before in
-      let c₃ = c₂ .before .before .before .before .before .before .before .before .before .before in
-      let c₄ = c₃ .before .before .before .before .before in
-      let c₅ = c₄ .before .before .before .before .before .before .before .before in
-      let s = c₅ .before .before .before .before .before .before .before .before .before .before in
-      let T = toks (s .args .kinds .now) (s .args .words .now) (s .args .reals .now) in
-      let b = runs-to (c₄ .at .given .1) (c₅ .bracketed .ensures) in
-      runs-seq (λ p. seq (R.statements p) (λ q. seq (R.close elseOp q) (R.otherwise R.statements))) b
-      (runs-seq (λ q. seq (R.close elseOp q) (R.otherwise R.statements)) (c₃ .statements .ensures) (runs-seq (R.otherwise R.statements) (c₂ .close .ensures) (c₁ .otherwise .ensures)))
-
 module _ (t : ℕ) where
   abbrev K-otherwise : otherwise-lts.Claims
   K-otherwise = (sign-at-reads.Asked, sign-at-reads.Learnt, pass-reads.Asked, pass-reads.Learnt, statements-below t, statements.Post, close-reads.Asked, close-reads.Learnt, emit-reads.Asked, emit-reads.Learnt)
-
-  otherwise-enum-known-got : otherwise-lts.Need-enum-known-got K-otherwise (otherwise-at t) otherwise.Post
-  otherwise-enum-known-got c = search needs
-
-  otherwise-enum-told : otherwise-lts.Need-enum-told K-otherwise (otherwise-at t) otherwise.Post
-  otherwise-enum-told c = search needs
-
-  otherwise-returns : otherwise-lts.Need-returns K-otherwise (otherwise-at t) otherwise.Post
-  otherwise-returns c = gone (c .enum-told .given .1) refl refl
-
-  otherwise-sign-at-requires : otherwise-lts.Need-sign-at-requires K-otherwise (otherwise-at t) otherwise.Post
-  otherwise-sign-at-requires c κs = search needs
-
-  otherwise-add-t14 : otherwise-lts.Need-add-t14 K-otherwise (otherwise-at t) otherwise.Post
-  otherwise-add-t14 c =
-      let c₁ = c .before in
-      let c₂ = c₁ .before .before in
-      let s = c₂ .before .before .before .before .before .before .before .before in
-      let T = toks (s .args .kinds .now) (s .args .words .now) (s .args .reals .now) in
-      let h = sign-in T (c₂ .got .given .0 .0) 8 (sym (c₁ .sign-at .ensures) ∙ c .if1 .taken) in
-      omega (arith, length-toks (s .args .kinds .now) (s .args .words .now) (s .args .reals .now), s .good .0 .0)
-
-  otherwise-pass-requires : otherwise-lts.Need-pass-requires K-otherwise (otherwise-at t) otherwise.Post
-  otherwise-pass-requires c κs = search needs
-
-  otherwise-statements-requires : otherwise-lts.Need-statements-requires K-otherwise (otherwise-at t) otherwise.Post
-  otherwise-statements-requires c κs =
-      let c₁ = c .before .before .before in
-      let c₂ = c₁ .before in
-      let c₃ = c₂ .before in
-      let c₄ = c₃ .before .before in
-      let s = c₄ .before .before .before .before .before .before .before .before in
-      let T = toks (s .args .kinds .now) (s .args .words .now) (s .args .reals .now) in
-      let h = sign-in T (c₄ .got .given .0 .0) 8 (sym (c₃ .sign-at .ensures) ∙ c₂ .if1 .taken) in
-      let p₀ = past-start (s .pre .1) (c₄ .got .given .1) (s .pre .0) h in
-      let p₁ = past-sign 17 p₀ (c₁ .pass .ensures) in
-      (p₁ .less, past-ready p₁)
-
-  otherwise-close-requires : otherwise-lts.Need-close-requires K-otherwise (otherwise-at t) otherwise.Post
-  otherwise-close-requires c κs =
-      let c₁ = c .before .before .before .before .before .before .before .before .before in
-      let c₂ = c₁ .before .before .before .before in
-      let c₃ = c₂ .before in
-      let c₄ = c₃ .before in
-      let c₅ = c₄ .before .before in
-      let s = c₅ .before .before .before .before .before .before .before .before in
-      let T = toks (s .args .kinds .now) (s .args .words .now) (s .args .reals .now) in
-      let h = sign-in T (c₅ .got .given .0 .0) 8 (sym (c₄ .sign-at .ensures) ∙ c₃ .if1 .taken) in
-      let p₀ = past-start (s .pre .1) (c₅ .got .given .1) (s .pre .0) h in
-      let p₁ = past-sign 17 p₀ (c₂ .pass .ensures) in
-      let p₂ = past-took 0 statements-took p₁ (c₁ .statements .ensures) in
-      past-ready p₂
-
-  otherwise-emit-requires : otherwise-lts.Need-emit-requires K-otherwise (otherwise-at t) otherwise.Post
-  otherwise-emit-requires c κs =
-      let c₁ = c .before .before .before .before .before .before in
-      let s = c₁ .before .before .before .before .before .before .before .before in
-      ready-place (ready-at (c₁ .got .given .1) (s .pre .1))
-
-  otherwise-same-length : otherwise-lts.Need-same-length K-otherwise (otherwise-at t) otherwise.Post
-  otherwise-same-length c = search needs
-
-  otherwise-same-length-2 : otherwise-lts.Need-same-length-2 K-otherwise (otherwise-at t) otherwise.Post
-  otherwise-same-length-2 c = search needs
-
-  otherwise-same-length-3 : otherwise-lts.Need-same-length-3 K-otherwise (otherwise-at t) otherwise.Post
-  otherwise-same-length-3 c = search needs
-
-  otherwise-returns-2 : otherwise-lts.Need-returns-2 K-otherwise (otherwise-at t) otherwise.Post
-  otherwise-returns-2 c =
-      let c₁ = c .before .before .before .before .before .before in
-      let c₂ = c₁ .before .before .before .before .before .before .before .before .before .before in
-      let c₃ = c₂ .before .before .before .before in
-      let c₄ = c₃ .before in
-      let c₅ = c₄ .before in
-      let c₆ = c₅ .before .before in
-      let s = c₆ .before .before .before .before .before .before .before .before in
-      let T = toks (s .args .kinds .now) (s .args .words .now) (s .args .reals .now) in
-      else-on T (c₆ .got .given .0 .0) (c₆ .got .given .1) (c₅ .sign-at .ensures) (c₄ .if1 .taken)
-      (runs-seq (λ p. seq (R.statements p) (R.close endOp)) (runs-sign T 17 _ (c₃ .pass .ensures)) (runs-seq (R.close endOp) (c₂ .statements .ensures) (c₁ .close .ensures)))
-
-  otherwise-same-length-4 : otherwise-lts.Need-same-length-4 K-otherwise (otherwise-at t) otherwise.Post
-  otherwise-same-length-4 c = search needs
-
-  otherwise-same-length-5 : otherwise-lts.Need-same-length-5 K-otherwise (otherwise-at t) otherwise.Post
-  otherwise-same-length-5 c = search needs
-
-  otherwise-same-length-6 : otherwise-lts.Need-same-length-6 K-otherwise (otherwise-at t) otherwise.Post
-  otherwise-same-length-6 c = search needs
-
-  otherwise-returns-3 : otherwise-lts.Need-returns-3 K-otherwise (otherwise-at t) otherwise.Post
-  otherwise-returns-3 c =
-      let c₁ = c .before .before .before .before .before .before in
-      let c₂ = c₁ .before .before .before .before in
-      let c₃ = c₂ .before in
-      let c₄ = c₃ .before .before in
-      let s = c₄ .before .before .before .before .before .before .before .before in
-      let T = toks (s .args .kinds .now) (s .args .words .now) (s .args .reals .now) in
-      else-off T (c₄ .got .given .0 .0) (c₄ .got .given .1) (c₃ .sign-at .ensures) (c₂ .if1 .left)
-      (runs-emit (ins endOp) (ready-at (c₄ .got .given .1) (s .pre .1)) (c₁ .emit .ensures .0) (c₁ .emit .ensures .1))
 
 module _ (t : ℕ) where
   abbrev K-statements : statements-lts.Claims
   K-statements = (start-at-reads.Asked, start-at-reads.Learnt, set-to-reads.Asked, set-to-reads.Learnt, statements-below t, statements.Post, bracketed-reads.Asked, bracketed-reads.Learnt, branches-below t, branches.Post)
 
-  statements-enum-known-got : statements-lts.Need-enum-known-got K-statements (statements-at t) statements.Post
-  statements-enum-known-got c = search needs
-
-  statements-enum-told : statements-lts.Need-enum-told K-statements (statements-at t) statements.Post
-  statements-enum-told c = search needs
-
-  statements-returns : statements-lts.Need-returns K-statements (statements-at t) statements.Post
-  statements-returns c = gone (c .enum-told .given .1) refl refl
-
-  statements-start-at-requires : statements-lts.Need-start-at-requires K-statements (statements-at t) statements.Post
-  statements-start-at-requires c κs = search needs
-
-  statements-enum-known-n : statements-lts.Need-enum-known-n K-statements (statements-at t) statements.Post
-  statements-enum-known-n c = search needs
-
-  statements-add-t16 : statements-lts.Need-add-t16 K-statements (statements-at t) statements.Post
-  statements-add-t16 c =
-      let c₁ = c .before in
-      let c₂ = c₁ .before .before in
-      let c₃ = c₂ .before .before in
-      let s = c₃ .before .before .before .before .before .before .before .before in
-      let T = toks (s .args .kinds .now) (s .args .words .now) (s .args .reals .now) in
-      let h = start-in T (c₃ .got .given .0 .0) (c₂ .start-at .ensures) (c₁ .n .given .1) tt in
-      omega (arith, length-toks (s .args .kinds .now) (s .args .words .now) (s .args .reals .now), s .good .0 .0)
-
-  statements-set-to-requires : statements-lts.Need-set-to-requires K-statements (statements-at t) statements.Post
-  statements-set-to-requires c κs =
-      let c₁ = c .before .before .before .before in
-      let c₂ = c₁ .before .before in
-      let c₃ = c₂ .before .before in
-      let s = c₃ .before .before .before .before .before .before .before .before in
-      let T = toks (s .args .kinds .now) (s .args .words .now) (s .args .reals .now) in
-      let p₀ = start-past T (c₃ .got .given .0 .0) (s .pre .1) (s .pre .0) (c₃ .got .given .1) (c₂ .start-at .ensures) (c₁ .n .given .1) tt in
-      past-ready p₀
-
-  statements-statements-requires : statements-lts.Need-statements-requires K-statements (statements-at t) statements.Post
-  statements-statements-requires c κs =
-      let c₁ = c .before .before .before .before .before .before .before .before .before in
-      let c₂ = c₁ .before .before .before .before .before in
-      let c₃ = c₂ .before .before in
-      let c₄ = c₃ .before .before in
-      let s = c₄ .before .before .before .before .before .before .before .before in
-      let T = toks (s .args .kinds .now) (s .args .words .now) (s .args .reals .now) in
-      let p₀ = start-past T (c₄ .got .given .0 .0) (s .pre .1) (s .pre .0) (c₄ .got .given .1) (c₃ .start-at .ensures) (c₂ .n .given .1) tt in
-      let p₁ = past-took 1 (setTo-took (c₂ .n .given .0 .0)) p₀ (c₁ .set-to .ensures) in
-      (p₁ .less, past-ready p₁)
-
-  statements-enum-told-2 : statements-lts.Need-enum-told-2 K-statements (statements-at t) statements.Post
-  statements-enum-told-2 c = search needs
-
-  statements-add-t30 : statements-lts.Need-add-t30 K-statements (statements-at t) statements.Post
-  statements-add-t30 c =
-      let c₁ = c .before .before in
-      let c₂ = c₁ .before .before in
-      let s = c₂ .before .before .before .before .before .before .before .before in
-      let T = toks (s .args .kinds .now) (s .args .words .now) (s .args .reals .now) in
-      let h = start-in T (c₂ .got .given .0 .0) (c₁ .start-at .ensures) (c .enum-told2 .given .1) tt in
-      omega (arith, length-toks (s .args .kinds .now) (s .args .words .now) (s .args .reals .now), s .good .0 .0)
-
-  statements-bracketed-requires : statements-lts.Need-bracketed-requires K-statements (statements-at t) statements.Post
-  statements-bracketed-requires c κs =
-      let c₁ = c .before .before .before in
-      let c₂ = c₁ .before .before in
-      let c₃ = c₂ .before .before in
-      let s = c₃ .before .before .before .before .before .before .before .before in
-      let T = toks (s .args .kinds .now) (s .args .words .now) (s .args .reals .now) in
-      let p₀ = start-past T (c₃ .got .given .0 .0) (s .pre .1) (s .pre .0) (c₃ .got .given .1) (c₂ .start-at .ensures) (c₁ .enum-told2 .given .1) tt in
-      past-ready p₀
-
-  statements-statements-requires-2 : statements-lts.Need-statements-requires-2 K-statements (statements-at t) statements.Post
-  statements-statements-requires-2 c κs =
-      let c₁ = c .before .before .before .before .before .before .before .before .before in
-      let c₂ = c₁ .before .before .before .before in
-      let c₃ = c₂ .before .before in
-      let c₄ = c₃ .before .before in
-      let s = c₄ .before .before .before .before .before .before .before .before in
-      let T = toks (s .args .kinds .now) (s .args .words .now) (s .args .reals .now) in
-      let p₀ = start-past T (c₄ .got .given .0 .0) (s .pre .1) (s .pre .0) (c₄ .got .given .1) (c₃ .start-at .ensures) (c₂ .enum-told2 .given .1) tt in
-      let p₁ = past-took 2 (bracketed-took 20 6) p₀ (c₁ .bracketed .ensures) in
-      (p₁ .less, past-ready p₁)
-
-  statements-enum-told-3 : statements-lts.Need-enum-told-3 K-statements (statements-at t) statements.Post
-  statements-enum-told-3 c = search needs
-
-  statements-add-t44 : statements-lts.Need-add-t44 K-statements (statements-at t) statements.Post
-  statements-add-t44 c =
-      let c₁ = c .before .before in
-      let c₂ = c₁ .before .before in
-      let s = c₂ .before .before .before .before .before .before .before .before in
-      let T = toks (s .args .kinds .now) (s .args .words .now) (s .args .reals .now) in
-      let h = start-in T (c₂ .got .given .0 .0) (c₁ .start-at .ensures) (c .enum-told3 .given .1) tt in
-      omega (arith, length-toks (s .args .kinds .now) (s .args .words .now) (s .args .reals .now), s .good .0 .0)
-
-  statements-branches-requires : statements-lts.Need-branches-requires K-statements (statements-at t) statements.Post
-  statements-branches-requires c κs =
-      let c₁ = c .before .before .before in
-      let c₂ = c₁ .before .before in
-      let c₃ = c₂ .before .before in
-      let s = c₃ .before .before .before .before .before .before .before .before in
-      let T = toks (s .args .kinds .now) (s .args .words .now) (s .args .reals .now) in
-      let p₀ = start-past T (c₃ .got .given .0 .0) (s .pre .1) (s .pre .0) (c₃ .got .given .1) (c₂ .start-at .ensures) (c₁ .enum-told3 .given .1) tt in
-      (p₀ .less, past-ready p₀)
-
-  statements-statements-requires-3 : statements-lts.Need-statements-requires-3 K-statements (statements-at t) statements.Post
-  statements-statements-requires-3 c κs =
-      let c₁ = c .before .before .before .before .before .before .before .before .before in
-      let c₂ = c₁ .before .before .before .before in
-      let c₃ = c₂ .before .before in
-      let c₄ = c₃ .before .before in
-      let s = c₄ .before .before .before .before .before .before .before .before in
-      let T = toks (s .args .kinds .now) (s .args .words .now) (s .args .reals .now) in
-      let p₀ = start-past T (c₄ .got .given .0 .0) (s .pre .1) (s .pre .0) (c₄ .got .given .1) (c₃ .start-at .ensures) (c₂ .enum-told3 .given .1) tt in
-      let p₁ = past-took 1 (branches-took R.statements statements-took) p₀ (c₁ .branches .ensures) in
-      (p₁ .less, past-ready p₁)
-
-  statements-enum-told-4 : statements-lts.Need-enum-told-4 K-statements (statements-at t) statements.Post
-  statements-enum-told-4 c = search needs
-
-  statements-same-length : statements-lts.Need-same-length K-statements (statements-at t) statements.Post
-  statements-same-length c = search needs
-
-  statements-same-length-2 : statements-lts.Need-same-length-2 K-statements (statements-at t) statements.Post
-  statements-same-length-2 c = search needs
-
-  statements-same-length-3 : statements-lts.Need-same-length-3 K-statements (statements-at t) statements.Post
-  statements-same-length-3 c = search needs
-
-  statements-returns-2 : statements-lts.Need-returns-2 K-statements (statements-at t) statements.Post
-  statements-returns-2 c =
-      let c₁ = c .before .before .before .before .before .before in
-      let c₂ = c₁ .before .before .before .before .before .before .before .before .before .before in
-      let c₃ = c₂ .before .before .before .before .before in
-      let c₄ = c₃ .before .before in
-      let c₅ = c₄ .before .before in
-      let s = c₅ .before .before .before .before .before .before .before .before in
-      let T = toks (s .args .kinds .now) (s .args .words .now) (s .args .reals .now) in
-      statements-as T (c₅ .got .given .0 .0) (Name (c₃ .n .given .0 .0)) (λ z. seq (R.setTo (c₃ .n .given .0 .0) z) R.statements) (λ z. refl) (c₅ .got .given .1) (c₄ .start-at .ensures) (c₃ .n .given .1)
-      (runs-seq R.statements (c₂ .set-to .ensures) (c₁ .statements .ensures))
-
-  statements-same-length-4 : statements-lts.Need-same-length-4 K-statements (statements-at t) statements.Post
-  statements-same-length-4 c = search needs
-
-  statements-same-length-5 : statements-lts.Need-same-length-5 K-statements (statements-at t) statements.Post
-  statements-same-length-5 c = search needs
-
-  statements-same-length-6 : statements-lts.Need-same-length-6 K-statements (statements-at t) statements.Post
-  statements-same-length-6 c = search needs
-
-  statements-returns-3 : statements-lts.Need-returns-3 K-statements (statements-at t) statements.Post
-  statements-returns-3 c =
-      let c₁ = c .before .before .before .before .before .before in
-      let c₂ = c₁ .before .before .before .before .before .before .before .before .before .before in
-      let c₃ = c₂ .before .before .before .before in
-      let c₄ = c₃ .before .before in
-      let c₅ = c₄ .before .before in
-      let s = c₅ .before .before .before .before .before .before .before .before in
-      let T = toks (s .args .kinds .now) (s .args .words .now) (s .args .reals .now) in
-      statements-as T (c₅ .got .given .0 .0) Output (λ z. seq (R.bracketed 20 6 z) R.statements) (λ z. refl) (c₅ .got .given .1) (c₄ .start-at .ensures) (c₃ .enum-told2 .given .1)
-      (runs-seq R.statements (c₂ .bracketed .ensures) (c₁ .statements2 .ensures))
-
-  statements-same-length-7 : statements-lts.Need-same-length-7 K-statements (statements-at t) statements.Post
-  statements-same-length-7 c = search needs
-
-  statements-same-length-8 : statements-lts.Need-same-length-8 K-statements (statements-at t) statements.Post
-  statements-same-length-8 c = search needs
-
-  statements-same-length-9 : statements-lts.Need-same-length-9 K-statements (statements-at t) statements.Post
-  statements-same-length-9 c = search needs
-
-  statements-returns-4 : statements-lts.Need-returns-4 K-statements (statements-at t) statements.Post
-  statements-returns-4 c =
-      let c₁ = c .before .before .before .before .before .before in
-      let c₂ = c₁ .before .before .before .before .before .before .before .before .before .before in
-      let c₃ = c₂ .before .before .before .before in
-      let c₄ = c₃ .before .before in
-      let c₅ = c₄ .before .before in
-      let s = c₅ .before .before .before .before .before .before .before .before in
-      let T = toks (s .args .kinds .now) (s .args .words .now) (s .args .reals .now) in
-      statements-as T (c₅ .got .given .0 .0) If (λ z. seq (R.branches R.statements z) R.statements) (λ z. refl) (c₅ .got .given .1) (c₄ .start-at .ensures) (c₃ .enum-told3 .given .1)
-      (runs-seq R.statements (c₂ .branches .ensures) (c₁ .statements3 .ensures))
-
-  statements-returns-5 : statements-lts.Need-returns-5 K-statements (statements-at t) statements.Post
-  statements-returns-5 c =
-      let c₁ = c .before .before in
-      let c₂ = c₁ .before .before in
-      let s = c₂ .before .before .before .before .before .before .before .before in
-      let T = toks (s .args .kinds .now) (s .args .words .now) (s .args .reals .now) in
-      statements-stop T (c₂ .got .given .0 .0) (s .pre .1) (c₂ .got .given .1) (c₁ .start-at .ensures) (c .enum-told4 .given .1)
-
 pub +branches+otherwise+statements-spec : {M : Type 1} → statement M
 +branches+otherwise+statements-spec =
     close μ-branches μ-otherwise μ-statements
-    (λ t. branches-lts.spec (K-branches t) (branches-at t) branches.Post (branches-bracketed-requires t) (branches-enum-known-at t) (branches-enum-told t) (branches-same-length t) (branches-same-length-2 t) (branches-same-length-3 t) (branches-returns t) (branches-statements-requires t) (branches-close-requires t) (branches-otherwise-requires t) (branches-same-length-4 t) (branches-same-length-5 t) (branches-same-length-6 t) (branches-returns-2 t))
-    (λ t. otherwise-lts.spec (K-otherwise t) (otherwise-at t) otherwise.Post (otherwise-enum-known-got t) (otherwise-enum-told t) (otherwise-returns t) (otherwise-sign-at-requires t) (otherwise-add-t14 t) (otherwise-pass-requires t) (otherwise-statements-requires t) (otherwise-close-requires t) (otherwise-emit-requires t) (otherwise-same-length t) (otherwise-same-length-2 t) (otherwise-same-length-3 t) (otherwise-returns-2 t) (otherwise-same-length-4 t) (otherwise-same-length-5 t) (otherwise-same-length-6 t) (otherwise-returns-3 t))
-    (λ t. statements-lts.spec (K-statements t) (statements-at t) statements.Post (statements-enum-known-got t) (statements-enum-told t) (statements-returns t) (statements-start-at-requires t) (statements-enum-known-n t) (statements-add-t16 t) (statements-set-to-requires t) (statements-statements-requires t) (statements-enum-told-2 t) (statements-add-t30 t) (statements-bracketed-requires t) (statements-statements-requires-2 t) (statements-enum-told-3 t) (statements-add-t44 t) (statements-branches-requires t) (statements-statements-requires-3 t) (statements-enum-told-4 t) (statements-same-length t) (statements-same-length-2 t) (statements-same-length-3 t) (statements-returns-2 t) (statements-same-length-4 t) (statements-same-length-5 t) (statements-same-length-6 t) (statements-returns-3 t) (statements-same-length-7 t) (statements-same-length-8 t) (statements-same-length-9 t) (statements-returns-4 t) (statements-returns-5 t))
+    (λ t. branches-lts.spec
+    (K-branches t) (branches-at t) branches.Post
+    (λ c κs. c .before .before .before .before .before .before .before .before .before .pre .1)
+    (λ c. search needs) (λ c. search needs) (λ c. search needs) (λ c. search needs) (λ c. search needs)
+    (λ c. let c₁ = c .before .before .before .before .before .before .before .before in
+    runs-seq (λ p. seq (R.statements p) (λ q. seq (R.close elseOp q) (R.otherwise R.statements))) (runs-to (c .enum-told .given .1) (c₁ .bracketed .ensures)) (gone refl refl refl))
+    (λ c κs. let c₁ = c .before .before .before .before in
+    let c₂ = c₁ .before .before .before .before .before .before .before .before in
+    let s = c₂ .before .before .before .before .before .before .before .before .before .before in
+    let T = toks (s .args .kinds .now) (s .args .words .now) (s .args .reals .now) in
+    let b = runs-to (c₁ .at .given .1) (c₂ .bracketed .ensures) in
+    let p₁ = past-first 1 (bracketed-took 17 7) (s .pre .1) (s .pre .0) b refl in
+    (p₁ .less, past-ready p₁))
+    (λ c κs. let c₁ = c .before .before .before .before .before .before .before .before .before in
+    let c₂ = c₁ .before .before .before .before .before in
+    let c₃ = c₂ .before .before .before .before .before .before .before .before in
+    let s = c₃ .before .before .before .before .before .before .before .before .before .before in
+    let T = toks (s .args .kinds .now) (s .args .words .now) (s .args .reals .now) in
+    let b = runs-to (c₂ .at .given .1) (c₃ .bracketed .ensures) in
+    let p₁ = past-first 1 (bracketed-took 17 7) (s .pre .1) (s .pre .0) b refl in
+    let p₂ = past-took 0 statements-took p₁ (c₁ .statements .ensures) in
+    past-ready p₂)
+    (λ c κs. let c₁ = c .before .before .before .before .before .before .before .before .before in
+    let c₂ = c₁ .before .before .before .before .before .before .before .before .before .before in
+    let c₃ = c₂ .before .before .before .before .before in
+    let c₄ = c₃ .before .before .before .before .before .before .before .before in
+    let s = c₄ .before .before .before .before .before .before .before .before .before .before in
+    let T = toks (s .args .kinds .now) (s .args .words .now) (s .args .reals .now) in
+    let b = runs-to (c₃ .at .given .1) (c₄ .bracketed .ensures) in
+    let p₁ = past-first 1 (bracketed-took 17 7) (s .pre .1) (s .pre .0) b refl in
+    let p₂ = past-took 0 statements-took p₁ (c₂ .statements .ensures) in
+    let p₃ = past-took 0 (sign-emit 18 (ins elseOp)) p₂ (c₁ .close .ensures) in
+    (p₃ .less, ready-less (omega arith) (p₃ .ready)))
+    (λ c. search (needs, c .before .before .before .before .before .before .otherwise .kept, c .before .before .before .before .before .before .before .before .before .before .before .before .before .before .before .before .close .kept, c .before .before .before .before .before .before .before .before .before .before .before .before .before .before .before .before .before .before .before .before .before .before .before .before .before .before .statements .kept, c .before .before .before .before .before .before .before .before .before .before .before .before .before .before .before .before .before .before .before .before .before .before .before .before .before .before .before .before .before .before .before .before .before .before .before .before .before .before .before .bracketed .kept))
+    (λ c. search (needs, c .before .before .before .before .before .before .otherwise .kept, c .before .before .before .before .before .before .before .before .before .before .before .before .before .before .before .before .close .kept, c .before .before .before .before .before .before .before .before .before .before .before .before .before .before .before .before .before .before .before .before .before .before .before .before .before .before .statements .kept, c .before .before .before .before .before .before .before .before .before .before .before .before .before .before .before .before .before .before .before .before .before .before .before .before .before .before .before .before .before .before .before .before .before .before .before .before .before .before .before .bracketed .kept))
+    (λ c. search (needs, c .before .before .before .before .before .before .otherwise .kept, c .before .before .before .before .before .before .before .before .before .before .before .before .before .before .before .before .close .kept, c .before .before .before .before .before .before .before .before .before .before .before .before .before .before .before .before .before .before .before .before .before .before .before .before .before .before .statements .kept, c .before .before .before .before .before .before .before .before .before .before .before .before .before .before .before .before .before .before .before .before .before .before .before .before .before .before .before .before .before .before .before .before .before .before .before .before .before .before .before .bracketed .kept))
+    (λ c. let c₁ = c .before .before .before .before .before .before in
+    let c₂ = c₁ .before .before .before .before .before .before .before .before .before .before in
+    let c₃ = c₂ .before .before .before .before .before .before .before .before .before .before in
+    let c₄ = c₃ .before .before .before .before .before in
+    let c₅ = c₄ .before .before .before .before .before .before .before .before in
+    let s = c₅ .before .before .before .before .before .before .before .before .before .before in
+    let T = toks (s .args .kinds .now) (s .args .words .now) (s .args .reals .now) in
+    let b = runs-to (c₄ .at .given .1) (c₅ .bracketed .ensures) in
+    runs-seq (λ p. seq (R.statements p) (λ q. seq (R.close elseOp q) (R.otherwise R.statements))) b
+    (runs-seq (λ q. seq (R.close elseOp q) (R.otherwise R.statements)) (c₃ .statements .ensures) (runs-seq (R.otherwise R.statements) (c₂ .close .ensures) (c₁ .otherwise .ensures)))))
+    (λ t. otherwise-lts.spec
+    (K-otherwise t) (otherwise-at t) otherwise.Post (λ c. search needs) (λ c. search needs) (λ c. gone (c .enum-told .given .1) refl refl)
+    (λ c κs. search needs)
+    (λ c. let c₁ = c .before in
+    let c₂ = c₁ .before .before in
+    let s = c₂ .before .before .before .before .before .before .before .before in
+    let T = toks (s .args .kinds .now) (s .args .words .now) (s .args .reals .now) in
+    let h = sign-in T (c₂ .got .given .0 .0) 8 (sym (c₁ .sign-at .ensures) ∙ c .if1 .taken) in
+    omega (arith, length-toks (s .args .kinds .now) (s .args .words .now) (s .args .reals .now), s .good .0 .0))
+    (λ c κs. search needs)
+    (λ c κs. let c₁ = c .before .before .before in
+    let c₂ = c₁ .before in
+    let c₃ = c₂ .before in
+    let c₄ = c₃ .before .before in
+    let s = c₄ .before .before .before .before .before .before .before .before in
+    let T = toks (s .args .kinds .now) (s .args .words .now) (s .args .reals .now) in
+    let h = sign-in T (c₄ .got .given .0 .0) 8 (sym (c₃ .sign-at .ensures) ∙ c₂ .if1 .taken) in
+    let p₀ = past-start (s .pre .1) (c₄ .got .given .1) (s .pre .0) h in
+    let p₁ = past-sign 17 p₀ (c₁ .pass .ensures) in
+    (p₁ .less, past-ready p₁))
+    (λ c κs. let c₁ = c .before .before .before .before .before .before .before .before .before in
+    let c₂ = c₁ .before .before .before .before in
+    let c₃ = c₂ .before in
+    let c₄ = c₃ .before in
+    let c₅ = c₄ .before .before in
+    let s = c₅ .before .before .before .before .before .before .before .before in
+    let T = toks (s .args .kinds .now) (s .args .words .now) (s .args .reals .now) in
+    let h = sign-in T (c₅ .got .given .0 .0) 8 (sym (c₄ .sign-at .ensures) ∙ c₃ .if1 .taken) in
+    let p₀ = past-start (s .pre .1) (c₅ .got .given .1) (s .pre .0) h in
+    let p₁ = past-sign 17 p₀ (c₂ .pass .ensures) in
+    let p₂ = past-took 0 statements-took p₁ (c₁ .statements .ensures) in
+    past-ready p₂)
+    (λ c κs. let c₁ = c .before .before .before .before .before .before in
+    let s = c₁ .before .before .before .before .before .before .before .before in
+    ready-place (ready-at (c₁ .got .given .1) (s .pre .1)))
+    (λ c. search needs) (λ c. search needs) (λ c. search needs)
+    (λ c. let c₁ = c .before .before .before .before .before .before in
+    let c₂ = c₁ .before .before .before .before .before .before .before .before .before .before in
+    let c₃ = c₂ .before .before .before .before in
+    let c₄ = c₃ .before in
+    let c₅ = c₄ .before in
+    let c₆ = c₅ .before .before in
+    let s = c₆ .before .before .before .before .before .before .before .before in
+    let T = toks (s .args .kinds .now) (s .args .words .now) (s .args .reals .now) in
+    else-on T (c₆ .got .given .0 .0) (c₆ .got .given .1) (c₅ .sign-at .ensures) (c₄ .if1 .taken)
+    (runs-seq (λ p. seq (R.statements p) (R.close endOp)) (runs-sign T 17 _ (c₃ .pass .ensures)) (runs-seq (R.close endOp) (c₂ .statements .ensures) (c₁ .close .ensures))))
+    (λ c. search needs) (λ c. search needs) (λ c. search needs)
+    (λ c. let c₁ = c .before .before .before .before .before .before in
+    let c₂ = c₁ .before .before .before .before in
+    let c₃ = c₂ .before in
+    let c₄ = c₃ .before .before in
+    let s = c₄ .before .before .before .before .before .before .before .before in
+    let T = toks (s .args .kinds .now) (s .args .words .now) (s .args .reals .now) in
+    else-off T (c₄ .got .given .0 .0) (c₄ .got .given .1) (c₃ .sign-at .ensures) (c₂ .if1 .left)
+    (runs-emit (ins endOp) (ready-at (c₄ .got .given .1) (s .pre .1)) (c₁ .emit .ensures .0) (c₁ .emit .ensures .1))))
+    (λ t. statements-lts.spec
+    (K-statements t) (statements-at t) statements.Post (λ c. search needs) (λ c. search needs) (λ c. gone (c .enum-told .given .1) refl refl)
+    (λ c κs. search needs) (λ c. search needs)
+    (λ c. let c₁ = c .before in
+    let c₂ = c₁ .before .before in
+    let c₃ = c₂ .before .before in
+    let s = c₃ .before .before .before .before .before .before .before .before in
+    let T = toks (s .args .kinds .now) (s .args .words .now) (s .args .reals .now) in
+    let h = start-in T (c₃ .got .given .0 .0) (c₂ .start-at .ensures) (c₁ .n .given .1) tt in
+    omega (arith, length-toks (s .args .kinds .now) (s .args .words .now) (s .args .reals .now), s .good .0 .0))
+    (λ c κs. let c₁ = c .before .before .before .before in
+    let c₂ = c₁ .before .before in
+    let c₃ = c₂ .before .before in
+    let s = c₃ .before .before .before .before .before .before .before .before in
+    let T = toks (s .args .kinds .now) (s .args .words .now) (s .args .reals .now) in
+    let p₀ = start-past T (c₃ .got .given .0 .0) (s .pre .1) (s .pre .0) (c₃ .got .given .1) (c₂ .start-at .ensures) (c₁ .n .given .1) tt in
+    past-ready p₀)
+    (λ c κs. let c₁ = c .before .before .before .before .before .before .before .before .before in
+    let c₂ = c₁ .before .before .before .before .before in
+    let c₃ = c₂ .before .before in
+    let c₄ = c₃ .before .before in
+    let s = c₄ .before .before .before .before .before .before .before .before in
+    let T = toks (s .args .kinds .now) (s .args .words .now) (s .args .reals .now) in
+    let p₀ = start-past T (c₄ .got .given .0 .0) (s .pre .1) (s .pre .0) (c₄ .got .given .1) (c₃ .start-at .ensures) (c₂ .n .given .1) tt in
+    let p₁ = past-took 1 (setTo-took (c₂ .n .given .0 .0)) p₀ (c₁ .set-to .ensures) in
+    (p₁ .less, past-ready p₁))
+    (λ c. search needs)
+    (λ c. let c₁ = c .before .before in
+    let c₂ = c₁ .before .before in
+    let s = c₂ .before .before .before .before .before .before .before .before in
+    let T = toks (s .args .kinds .now) (s .args .words .now) (s .args .reals .now) in
+    let h = start-in T (c₂ .got .given .0 .0) (c₁ .start-at .ensures) (c .enum-told2 .given .1) tt in
+    omega (arith, length-toks (s .args .kinds .now) (s .args .words .now) (s .args .reals .now), s .good .0 .0))
+    (λ c κs. let c₁ = c .before .before .before in
+    let c₂ = c₁ .before .before in
+    let c₃ = c₂ .before .before in
+    let s = c₃ .before .before .before .before .before .before .before .before in
+    let T = toks (s .args .kinds .now) (s .args .words .now) (s .args .reals .now) in
+    let p₀ = start-past T (c₃ .got .given .0 .0) (s .pre .1) (s .pre .0) (c₃ .got .given .1) (c₂ .start-at .ensures) (c₁ .enum-told2 .given .1) tt in
+    past-ready p₀)
+    (λ c κs. let c₁ = c .before .before .before .before .before .before .before .before .before in
+    let c₂ = c₁ .before .before .before .before in
+    let c₃ = c₂ .before .before in
+    let c₄ = c₃ .before .before in
+    let s = c₄ .before .before .before .before .before .before .before .before in
+    let T = toks (s .args .kinds .now) (s .args .words .now) (s .args .reals .now) in
+    let p₀ = start-past T (c₄ .got .given .0 .0) (s .pre .1) (s .pre .0) (c₄ .got .given .1) (c₃ .start-at .ensures) (c₂ .enum-told2 .given .1) tt in
+    let p₁ = past-took 2 (bracketed-took 20 6) p₀ (c₁ .bracketed .ensures) in
+    (p₁ .less, past-ready p₁))
+    (λ c. search needs)
+    (λ c. let c₁ = c .before .before in
+    let c₂ = c₁ .before .before in
+    let s = c₂ .before .before .before .before .before .before .before .before in
+    let T = toks (s .args .kinds .now) (s .args .words .now) (s .args .reals .now) in
+    let h = start-in T (c₂ .got .given .0 .0) (c₁ .start-at .ensures) (c .enum-told3 .given .1) tt in
+    omega (arith, length-toks (s .args .kinds .now) (s .args .words .now) (s .args .reals .now), s .good .0 .0))
+    (λ c κs. let c₁ = c .before .before .before in
+    let c₂ = c₁ .before .before in
+    let c₃ = c₂ .before .before in
+    let s = c₃ .before .before .before .before .before .before .before .before in
+    let T = toks (s .args .kinds .now) (s .args .words .now) (s .args .reals .now) in
+    let p₀ = start-past T (c₃ .got .given .0 .0) (s .pre .1) (s .pre .0) (c₃ .got .given .1) (c₂ .start-at .ensures) (c₁ .enum-told3 .given .1) tt in
+    (p₀ .less, past-ready p₀))
+    (λ c κs. let c₁ = c .before .before .before .before .before .before .before .before .before in
+    let c₂ = c₁ .before .before .before .before in
+    let c₃ = c₂ .before .before in
+    let c₄ = c₃ .before .before in
+    let s = c₄ .before .before .before .before .before .before .before .before in
+    let T = toks (s .args .kinds .now) (s .args .words .now) (s .args .reals .now) in
+    let p₀ = start-past T (c₄ .got .given .0 .0) (s .pre .1) (s .pre .0) (c₄ .got .given .1) (c₃ .start-at .ensures) (c₂ .enum-told3 .given .1) tt in
+    let p₁ = past-took 1 (branches-took R.statements statements-took) p₀ (c₁ .branches .ensures) in
+    (p₁ .less, past-ready p₁))
+    (λ c. search needs) (λ c. search needs) (λ c. search needs) (λ c. search needs)
+    (λ c. let c₁ = c .before .before .before .before .before .before in
+    let c₂ = c₁ .before .before .before .before .before .before .before .before .before .before in
+    let c₃ = c₂ .before .before .before .before .before in
+    let c₄ = c₃ .before .before in
+    let c₅ = c₄ .before .before in
+    let s = c₅ .before .before .before .before .before .before .before .before in
+    let T = toks (s .args .kinds .now) (s .args .words .now) (s .args .reals .now) in
+    statements-as T (c₅ .got .given .0 .0) (Name (c₃ .n .given .0 .0)) (λ z. seq (R.setTo (c₃ .n .given .0 .0) z) R.statements) (λ z. refl) (c₅ .got .given .1) (c₄ .start-at .ensures) (c₃ .n .given .1)
+    (runs-seq R.statements (c₂ .set-to .ensures) (c₁ .statements .ensures)))
+    (λ c. search needs) (λ c. search needs) (λ c. search needs)
+    (λ c. let c₁ = c .before .before .before .before .before .before in
+    let c₂ = c₁ .before .before .before .before .before .before .before .before .before .before in
+    let c₃ = c₂ .before .before .before .before in
+    let c₄ = c₃ .before .before in
+    let c₅ = c₄ .before .before in
+    let s = c₅ .before .before .before .before .before .before .before .before in
+    let T = toks (s .args .kinds .now) (s .args .words .now) (s .args .reals .now) in
+    statements-as T (c₅ .got .given .0 .0) Output (λ z. seq (R.bracketed 20 6 z) R.statements) (λ z. refl) (c₅ .got .given .1) (c₄ .start-at .ensures) (c₃ .enum-told2 .given .1)
+    (runs-seq R.statements (c₂ .bracketed .ensures) (c₁ .statements2 .ensures)))
+    (λ c. search needs) (λ c. search needs) (λ c. search needs)
+    (λ c. let c₁ = c .before .before .before .before .before .before in
+    let c₂ = c₁ .before .before .before .before .before .before .before .before .before .before in
+    let c₃ = c₂ .before .before .before .before in
+    let c₄ = c₃ .before .before in
+    let c₅ = c₄ .before .before in
+    let s = c₅ .before .before .before .before .before .before .before .before in
+    let T = toks (s .args .kinds .now) (s .args .words .now) (s .args .reals .now) in
+    statements-as T (c₅ .got .given .0 .0) If (λ z. seq (R.branches R.statements z) R.statements) (λ z. refl) (c₅ .got .given .1) (c₄ .start-at .ensures) (c₃ .enum-told3 .given .1)
+    (runs-seq R.statements (c₂ .branches .ensures) (c₁ .statements3 .ensures)))
+    (λ c. let c₁ = c .before .before in
+    let c₂ = c₁ .before .before in
+    let s = c₂ .before .before .before .before .before .before .before .before in
+    let T = toks (s .args .kinds .now) (s .args .words .now) (s .args .reals .now) in
+    statements-stop T (c₂ .got .given .0 .0) (s .pre .1) (c₂ .got .given .1) (c₁ .start-at .ensures) (c .enum-told4 .given .1)))

@@ -9,26 +9,17 @@ use Rattle.statement_reader.proofs.Ways.{ready-expr}
 use Rattle.statement_reader.proofs.bracketed.Statement.{statement}
 use Rattle.statement_reader.proofs.bracketed.Tie as tie
 
-pass-requires : tie.Need-pass-requires
-pass-requires c κs = search needs
-
-expr-requires : tie.Need-expr-requires
-expr-requires c κs =
-    let c₁ = c .before .before .before in
+pub bracketed-spec : {M : Type 1} → statement M
+bracketed-spec =
+    tie.close (tie.spec
+    (λ c κs. search needs)
+    (λ c κs. let c₁ = c .before .before .before in
     let s = c₁ .before .before .before .before .before .before .before in
     let T = toks (s .args .kinds .now) (s .args .words .now) (s .args .reals .now) in
     let r₁ = ready-sign 15 (s .pre) (c₁ .pass .ensures) in
-    ready-less (omega arith) r₁
-
-pass-requires-2 : tie.Need-pass-requires-2
-pass-requires-2 c κs = search needs
-
-pass-requires-3 : tie.Need-pass-requires-3
-pass-requires-3 c κs = search needs
-
-emit-requires : tie.Need-emit-requires
-emit-requires c κs =
-    let c₁ = c .before .before .before in
+    ready-less (omega arith) r₁)
+    (λ c κs. search needs) (λ c κs. search needs)
+    (λ c κs. let c₁ = c .before .before .before in
     let c₂ = c₁ .before in
     let c₃ = c₂ .before .before .before .before .before .before .before in
     let c₄ = c₃ .before .before .before .before in
@@ -38,20 +29,9 @@ emit-requires c κs =
     let r₂ = ready-expr 0 r₁ (c₃ .expr .ensures) in
     let r₃ = ready-sign 16 r₂ (c₂ .pass2 .ensures) in
     let r₄ = ready-sign (s .args .s) r₃ (c₁ .pass3 .ensures) in
-    ready-place r₄
-
-same-length : tie.Need-same-length
-same-length c = search needs
-
-same-length-2 : tie.Need-same-length-2
-same-length-2 c = search needs
-
-same-length-3 : tie.Need-same-length-3
-same-length-3 c = search needs
-
-returns : tie.Need-returns
-returns c =
-    let c₁ = c .before .before .before .before .before .before in
+    ready-place r₄)
+    (λ c. search needs) (λ c. search needs) (λ c. search needs)
+    (λ c. let c₁ = c .before .before .before .before .before .before in
     let c₂ = c₁ .before .before .before .before in
     let c₃ = c₂ .before in
     let c₄ = c₃ .before .before .before .before .before .before .before in
@@ -65,18 +45,4 @@ returns c =
     runs-seq (λ p. seq (reader .expr 0 p) (λ q. seq (sign 16 q) (λ r. seq (sign (s .args .s) r) (E.emit (ins (s .args .op)))))) (runs-sign T 15 (s .args .got) (c₅ .pass .ensures))
     (runs-seq (λ q. seq (sign 16 q) (λ r. seq (sign (s .args .s) r) (E.emit (ins (s .args .op))))) (c₄ .expr .ensures)
     (runs-seq (λ r. seq (sign (s .args .s) r) (E.emit (ins (s .args .op)))) (runs-sign T 16 _ (c₃ .pass2 .ensures))
-    (runs-seq (E.emit (ins (s .args .op))) (runs-sign T (s .args .s) _ (c₂ .pass3 .ensures)) (runs-emit (ins (s .args .op)) r₄ (c₁ .emit .ensures .0) (c₁ .emit .ensures .1)))))
-
-pub bracketed-spec : {M : Type 1} → statement M
-bracketed-spec =
-    tie.close
-    (tie.spec
-    pass-requires
-    expr-requires
-    pass-requires-2
-    pass-requires-3
-    emit-requires
-    same-length
-    same-length-2
-    same-length-3
-    returns)
+    (runs-seq (E.emit (ins (s .args .op))) (runs-sign T (s .args .s) _ (c₂ .pass3 .ensures)) (runs-emit (ins (s .args .op)) r₄ (c₁ .emit .ensures .0) (c₁ .emit .ensures .1)))))))

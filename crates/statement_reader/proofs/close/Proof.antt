@@ -6,36 +6,19 @@ use Rattle.expressions.proofs.Runs.{runs-seq, runs-sign, runs-emit, ready-sign,
 use Rattle.statement_reader.proofs.close.Statement.{statement}
 use Rattle.statement_reader.proofs.close.Tie as tie
 
-pass-requires : tie.Need-pass-requires
-pass-requires c κs = search needs
-
-emit-requires : tie.Need-emit-requires
-emit-requires c κs =
-    let c₁ = c .before .before .before in
+pub close-spec : {M : Type 1} → statement M
+close-spec =
+    tie.close (tie.spec
+    (λ c κs. search needs)
+    (λ c κs. let c₁ = c .before .before .before in
     let s = c₁ .before .before .before .before .before .before .before in
     let T = toks (s .args .kinds .now) (s .args .words .now) (s .args .reals .now) in
     let r₁ = ready-sign 18 (s .pre) (c₁ .pass .ensures) in
-    ready-place r₁
-
-same-length : tie.Need-same-length
-same-length c = search needs
-
-same-length-2 : tie.Need-same-length-2
-same-length-2 c = search needs
-
-same-length-3 : tie.Need-same-length-3
-same-length-3 c = search needs
-
-returns : tie.Need-returns
-returns c =
-    let c₁ = c .before .before .before .before .before .before in
+    ready-place r₁)
+    (λ c. search needs) (λ c. search needs) (λ c. search needs)
+    (λ c. let c₁ = c .before .before .before .before .before .before in
     let c₂ = c₁ .before .before .before .before in
     let s = c₂ .before .before .before .before .before .before .before in
     let T = toks (s .args .kinds .now) (s .args .words .now) (s .args .reals .now) in
     let r₁ = ready-sign 18 (s .pre) (c₂ .pass .ensures) in
-    runs-seq (E.emit (ins (s .args .op))) (runs-sign T 18 (s .args .got) (c₂ .pass .ensures)) (runs-emit (ins (s .args .op)) r₁ (c₁ .emit .ensures .0) (c₁ .emit .ensures .1))
-
-pub close-spec : {M : Type 1} → statement M
-close-spec =
-    tie.close
-    (tie.spec pass-requires emit-requires same-length same-length-2 same-length-3 returns)
+    runs-seq (E.emit (ins (s .args .op))) (runs-sign T 18 (s .args .got) (c₂ .pass .ensures)) (runs-emit (ins (s .args .op)) r₁ (c₁ .emit .ensures .0) (c₁ .emit .ensures .1))))

@@ -9,23 +9,17 @@ use Rattle.statement_reader.proofs.Ways.{ready-expr}
 use Rattle.statement_reader.proofs.set_to.Statement.{statement}
 use Rattle.statement_reader.proofs.set_to.Tie as tie
 
-pass-requires : tie.Need-pass-requires
-pass-requires c κs = search needs
-
-expr-requires : tie.Need-expr-requires
-expr-requires c κs =
-    let c₁ = c .before .before .before in
+pub set-to-spec : {M : Type 1} → statement M
+set-to-spec =
+    tie.close (tie.spec
+    (λ c κs. search needs)
+    (λ c κs. let c₁ = c .before .before .before in
     let s = c₁ .before .before .before .before .before .before .before in
     let T = toks (s .args .kinds .now) (s .args .words .now) (s .args .reals .now) in
     let r₁ = ready-sign 21 (s .pre) (c₁ .pass .ensures) in
-    ready-less (omega arith) r₁
-
-pass-requires-2 : tie.Need-pass-requires-2
-pass-requires-2 c κs = search needs
-
-emit-requires : tie.Need-emit-requires
-emit-requires c κs =
-    let c₁ = c .before .before .before in
+    ready-less (omega arith) r₁)
+    (λ c κs. search needs)
+    (λ c κs. let c₁ = c .before .before .before in
     let c₂ = c₁ .before .before .before .before .before .before .before in
     let c₃ = c₂ .before .before .before .before in
     let s = c₃ .before .before .before .before .before .before .before in
@@ -33,20 +27,9 @@ emit-requires c κs =
     let r₁ = ready-sign 21 (s .pre) (c₃ .pass .ensures) in
     let r₂ = ready-expr 0 r₁ (c₂ .expr .ensures) in
     let r₃ = ready-sign 20 r₂ (c₁ .pass2 .ensures) in
-    ready-place r₃
-
-same-length : tie.Need-same-length
-same-length c = search needs
-
-same-length-2 : tie.Need-same-length-2
-same-length-2 c = search needs
-
-same-length-3 : tie.Need-same-length-3
-same-length-3 c = search needs
-
-returns : tie.Need-returns
-returns c =
-    let c₁ = c .before .before .before .before .before .before in
+    ready-place r₃)
+    (λ c. search needs) (λ c. search needs) (λ c. search needs)
+    (λ c. let c₁ = c .before .before .before .before .before .before in
     let c₂ = c₁ .before .before .before .before in
     let c₃ = c₂ .before .before .before .before .before .before .before in
     let c₄ = c₃ .before .before .before .before in
@@ -56,17 +39,4 @@ returns c =
     let r₂ = ready-expr 0 r₁ (c₃ .expr .ensures) in
     let r₃ = ready-sign 20 r₂ (c₂ .pass2 .ensures) in
     runs-seq (λ p. seq (reader .expr 0 p) (λ q. seq (sign 20 q) (E.emit (insArg storeOp (s .args .n))))) (runs-sign T 21 (s .args .got) (c₄ .pass .ensures))
-    (runs-seq (λ q. seq (sign 20 q) (E.emit (insArg storeOp (s .args .n)))) (c₃ .expr .ensures) (runs-seq (E.emit (insArg storeOp (s .args .n))) (runs-sign T 20 _ (c₂ .pass2 .ensures)) (runs-emit (insArg storeOp (s .args .n)) r₃ (c₁ .emit .ensures .0) (c₁ .emit .ensures .1))))
-
-pub set-to-spec : {M : Type 1} → statement M
-set-to-spec =
-    tie.close
-    (tie.spec
-    pass-requires
-    expr-requires
-    pass-requires-2
-    emit-requires
-    same-length
-    same-length-2
-    same-length-3
-    returns)
+    (runs-seq (λ q. seq (sign 20 q) (E.emit (insArg storeOp (s .args .n)))) (c₃ .expr .ensures) (runs-seq (E.emit (insArg storeOp (s .args .n))) (runs-sign T 20 _ (c₂ .pass2 .ensures)) (runs-emit (insArg storeOp (s .args .n)) r₃ (c₁ .emit .ensures .0) (c₁ .emit .ensures .1))))))
