@@ -3,7 +3,7 @@ use Prim.Native.Nat.{ℕ}
 use mathlib.Core.Bool.{Bool}
 use lib.Dec.{eqb}
 use Rattle.answer.specs.declared.Answer.{Answer}
-use Rattle.answer.specs.declared.Answer.the-variants.{Taken, CutShort, NotCarried, OutOfRange, NoInstrument, TooManyValues, NoTime, Late, NoRoom, Ended, BlockLength, LeftOver, BadToken, BadGrammar, BadNames, BadRates, TooLarge}
+use Rattle.answer.specs.declared.Answer.the-variants.{Taken, CutShort, NotCarried, OutOfRange, NoInstrument, TooManyValues, NoTime, Late, NoRoom, Ended, BlockLength, LeftOver, BadToken, BadGrammar, BadNames, BadRates, TooLarge, BadText, NoText}
 
 -- the number of an answer, as the table gives it
 abbrev pub numberOf : Answer → ℕ
@@ -40,6 +40,10 @@ numberOf BadNames = 14
 numberOf BadRates = 15
 -- orchestra too large
 numberOf TooLarge = 16
+-- (M-100) text that is no score line, or a line too many
+numberOf BadText = 18
+-- (M-100) a line that text cannot say: no time, use-if-late set, or a number without text
+numberOf NoText = 19
 
 -- 0 is the only number that is no refusal
 abbrev pub isTaken : Answer → Bool

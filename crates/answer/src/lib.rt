@@ -20,6 +20,8 @@ pub enum Answer {
     BadNames,
     BadRates,
     TooLarge,
+    BadText,
+    NoText,
 }
 
 // The number of an answer in document 01's table.
@@ -44,6 +46,8 @@ pub fn number(a: Answer) -> u8
         Answer::BadNames => 14,
         Answer::BadRates => 15,
         Answer::TooLarge => 16,
+        Answer::BadText => 18,
+        Answer::NoText => 19,
     }
 }
 

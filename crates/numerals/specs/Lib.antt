@@ -1,0 +1,4 @@
+pub mod Numeral
+pub mod Nearest
+pub mod Shortest
+pub mod Reading
