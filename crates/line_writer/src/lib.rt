@@ -29,7 +29,7 @@ pub struct Fields {
 }
 
 // A float's bits. Every not-a-number counts as one.
-fn pattern(x: f32) -> u32
+pub fn pattern(x: f32) -> u32
     ensures { λ r. ⌜ r ≡ toBits binary32 x ⌝ }
 {
     if x == x {

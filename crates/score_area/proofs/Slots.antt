@@ -1,13 +1,13 @@
 -- Slots put into an area, one after the other. Assumes nothing.
 use Prim.Native.Nat.{ℕ, zero, suc, _+_, _*_, _/_, _<_, _≤_}
-use mathlib.Core.Path.{_≡_, refl, sym, ap, ap₂, _∙_, subst}
+use mathlib.Core.Path.{_≡_, refl, sym, ap, _∙_, subst}
 use mathlib.Core.Bool.{Bool, true, false, true≢false}
 use mathlib.Core.List.{List, [], _∷_, _++_, append-assoc, append-nil}
 use native.Mathlib.Numerals.{add-one}
 use native.Mathlib.Omega.{arith}
 use borrow.Author.Tests.{le-leb, lt-leb}
-use lib.ListN.{length, getD, take, drop, set, length-append, length-set}
-use lib.Seq.{paste, paste-zero, paste-suc, take-all, take-at, drop-drop, drop-append-add}
+use lib.ListN.{length, getD, take, drop, set, length-set}
+use lib.Seq.{paste, paste-zero, paste-suc, take-all}
 use Rattle.laws.proofs.Choice.{cond-true, cond-false}
 use Rattle.answer.specs.Numbers.{isTaken}
 use Rattle.answer.specs.declared.Answer.{Answer}
@@ -23,6 +23,7 @@ use Rattle.score.specs.declared.Step.{Step}
 use Rattle.score.proofs.Walk.{answered, ahead-first, ahead-left, walk-all}
 use Rattle.score_area.specs.declared.Decoded.{Decoded}
 use Rattle.score_area.specs.Area.{areaWords, laid, decodedOf, areaAfter, Left, carried, SlotPut}
+use Rattle.score_area.proofs.Filling.{passed, Filling, filling-start, filling-more, filling-end}
 
 -- ---- one slot, word by word
 
@@ -57,63 +58,26 @@ module _ (old : List ℕ) (at : ℕ) (slot : List ℕ) where
 
 -- ---- the lines of a score
 
--- the cursor after n steps
-abbrev pub after : List Bool → ℕ → Cursor → Cursor
-after bits zero c = c
-after bits (suc n) c = after bits n (nextOf bits c .rest)
-
-after-suc : (bits : List Bool) (n : ℕ) (c : Cursor) → after bits (suc n) c ≡ nextOf bits (after bits n c) .rest
-after-suc bits zero c = refl
-after-suc bits (suc n) c = after-suc bits n (nextOf bits c .rest)
-
-words-more : (bits : List Bool) (n : ℕ) (c : Cursor) → areaWords (walked bits (suc n) c) ≡ areaWords (walked bits n c) ++ lineSlot (nextOf bits (after bits n c) .line)
-unfolding areaWords walked
-words-more bits zero c = append-nil (lineSlot (nextOf bits c .line))
-words-more bits (suc n) c =
-    ap (λ (x : List ℕ). lineSlot (nextOf bits c .line) ++ x) (words-more bits n (nextOf bits c .rest))
-    ∙ sym (append-assoc (lineSlot (nextOf bits c .line)) (areaWords (walked bits n (nextOf bits c .rest))) (lineSlot (nextOf bits (after bits n (nextOf bits c .rest)) .line)))
-
--- a slot right behind the words that were laid
-laid-more : (words slot old : List ℕ) (n : ℕ) → length words ≡ n → length slot ≡ 18 → take n (laid words old) ++ (slot ++ drop (n + 18) (laid words old)) ≡ laid (words ++ slot) old
-unfolding laid
-laid-more words slot old n e l =
-    let d : drop (n + 18) (words ++ drop (length words) old) ≡ drop (length (words ++ slot)) old =
-    ap (λ (k : ℕ). drop (k + 18) (words ++ drop (length words) old)) (sym e) ∙ drop-append-add words (drop (length words) old) 18 ∙ drop-drop 18 (length words) old
-    ∙ ap (λ (k : ℕ). drop k old) (ap (λ (k : ℕ). length words + k) (sym l) ∙ sym (length-append words slot)) in
-    ap₂ (λ (x y : List ℕ). x ++ (slot ++ y)) (take-at words (drop (length words) old) n e) d ∙ sym (append-assoc words slot (drop (length (words ++ slot)) old))
+walked-passes : (bits : List Bool) (n : ℕ) (c : Cursor) → passed (λ x. nextOf bits x .line) (λ x. nextOf bits x .rest) n c ≡ walked bits n c
+unfolding walked
+walked-passes bits zero c = refl
+walked-passes bits (suc n) c = ap (λ (ls : List Line). nextOf bits c .line ∷ ls) (walked-passes bits n (nextOf bits c .rest))
 
 module _ (bits : List Bool) (n : ℕ) (start : Cursor) (old : List ℕ) where
-  -- i lines stand in the area, and the cursor is past them
-  pub record Filled (new : List ℕ) (c : Cursor) (i : ℕ) : Type 0 where
-    pub upto : i ≤ n
-    pub same : length new ≡ length old
-    pub cursor : c ≡ after bits i start
-    pub long : length (areaWords (walked bits i start)) ≡ 18 * i
-    pub stands : new ≡ laid (areaWords (walked bits i start)) old
+  abbrev pub Filled : List ℕ → Cursor → ℕ → Type 0
+  Filled new c i = Filling (λ x. nextOf bits x .line) (λ x. nextOf bits x .rest) n start old new c i
 
   pub fill-start : Filled old start 0
-  unfolding laid areaWords walked
-  fill-start = record { upto = omega arith; same = refl; cursor = refl; long = refl; stands = refl }
+  fill-start = filling-start (λ x. nextOf bits x .line) (λ x. nextOf bits x .rest) n start old
 
   pub fill-more : (new next slot : List ℕ) (c : Cursor) (i : ℕ) {s : Step} → Filled new c i → i < n → s ≡ nextOf bits c → slot ≡ lineSlot (s .line) → length next ≡ length new → SlotPut new (18 * i) slot next
       → Filled next (s .rest) (i + 1)
   fill-more new next slot c i f l e g k p =
-      let w = areaWords (walked bits i start) in
-      let cc-is : nextOf bits c ≡ nextOf bits (after bits i start) = ap (nextOf bits) (f .cursor) in
-      let slot-is : slot ≡ lineSlot (nextOf bits (after bits i start) .line) = g ∙ ap (λ (x : Step). lineSlot (x .line)) (e ∙ cc-is) in
-      let more : areaWords (walked bits (i + 1) start) ≡ w ++ slot = ap (λ (j : ℕ). areaWords (walked bits j start)) (add-one i) ∙ words-more bits i start ∙ ap (λ (x : List ℕ). w ++ x) (sym slot-is) in
-      record {
-        upto = omega arith;
-        same = k ∙ f .same;
-        cursor = ap (λ (x : Step). x .rest) (e ∙ cc-is) ∙ sym (ap (λ (j : ℕ). after bits j start) (add-one i) ∙ after-suc bits i start);
-        long = ap length more ∙ length-append w slot ∙ omega (arith, f .long, p .long);
-        stands =
-            p .stands ∙ ap (λ (x : List ℕ). take (18 * i) x ++ (slot ++ drop (18 * i + 18) x)) (f .stands) ∙ laid-more w slot old (18 * i) (f .long) (p .long)
-            ∙ ap (λ (x : List ℕ). laid x old) (sym more);
-      }
+      filling-more (λ x. nextOf bits x .line) (λ x. nextOf bits x .rest) n start old new next slot c i f l (ap (λ (x : Step). x .rest) e) (g ∙ ap (λ (x : Step). lineSlot (x .line)) e) k p
 
   pub fill-end : (new : List ℕ) (c : Cursor) (i : ℕ) → Filled new c i → n ≤ i → new ≡ laid (areaWords (walked bits n start)) old
-  fill-end new c i f l = let e : i ≡ n = omega (arith, f .upto) in f .stands ∙ ap (λ (j : ℕ). laid (areaWords (walked bits j start)) old) e
+  fill-end new c i f l =
+      filling-end (λ x. nextOf bits x .line) (λ x. nextOf bits x .rest) n start old new c i f l ∙ ap (λ (ls : List Line). laid (areaWords ls) old) (walked-passes bits n start)
 
 -- ---- the answers
 
@@ -158,6 +122,8 @@ taken-is answer.BadGrammar e = absurd (true≢false (sym e))
 taken-is answer.BadNames e = absurd (true≢false (sym e))
 taken-is answer.BadRates e = absurd (true≢false (sym e))
 taken-is answer.TooLarge e = absurd (true≢false (sym e))
+taken-is answer.BadText e = absurd (true≢false (sym e))
+taken-is answer.NoText e = absurd (true≢false (sym e))
 
 -- ---- a score
 

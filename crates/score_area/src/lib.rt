@@ -29,7 +29,7 @@ fn told(answer: Answer, line: usize, count: usize) -> Decoded
 }
 
 // Puts the 18 words of a line into the area at a position.
-fn put_slot(area: &mut [u32], at: usize, slot: [u32; 18])
+pub fn put_slot(area: &mut [u32], at: usize, slot: [u32; 18])
     requires { ⌜ at + 18 ≤ length (now area) ⌝ }
     ensures { λ _. ⌜ SlotPut (now (area .entry)) at slot (now (area .exit)) ⌝ }
 {

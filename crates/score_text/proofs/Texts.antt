@@ -1,0 +1,223 @@
+-- A whole text: the lines that spell it are judged, or it breaks at the first line that is none. Assumes nothing.
+use Prim.Native.Nat.{ℕ, zero, suc, _+_, _-_, _≤_, _<_, zero-le}
+use native.Mathlib.Nat.{add-zero, zero-add}
+use native.Mathlib.Omega.{arith}
+use mathlib.Core.Path.{_≡_, refl, sym, ap, _∙_, subst}
+use mathlib.Core.Bool.{Bool, true, false, cond}
+use mathlib.Core.List.{List, [], _∷_, _++_, map, append-assoc, append-nil}
+use borrow.Author.Tests.{le-leb, lt-leb, leb-true, leb-false}
+use lib.ListN.{length, length-append}
+use lib.Dec.{leb}
+use Rattle.laws.proofs.Choice.{cond-true, cond-false}
+use Rattle.numerals.specs.Reading.{Read, got, refused}
+use Rattle.numerals.proofs.Readings.{not-got}
+use Rattle.score_text.specs.Said.{Said}
+use Rattle.score_text.specs.Form.{newline, Written, starBytes, formBytes, lineBytes, textBytes, LawfulForm, LawfulLines, saidBy}
+use Rattle.score_text.specs.Reading.{lineFrom, mostLines, Text, lines, bad, before, thenLines, unlessNone, linesFrom, judged, textOf}
+use Rattle.score_text.specs.Claims.{Spells, NoLine, Breaks, TextRead, TextBroken, Either, spells, breaks, EveryText, NotBoth, OneBreak, Judged}
+use Rattle.score_text.proofs.Lines.{line-complete, line-sound}
+
+-- ---- one line, and the lines behind it
+
+line-got : (n i : ℕ) (bs : List ℕ) {s : Said} {r : List ℕ} → i < mostLines → lineFrom bs ≡ got s r → linesFrom (suc n) i bs ≡ before s (linesFrom n (suc i) r)
+unfolding linesFrom
+line-got n i [] h e = not-got e
+line-got n i (b ∷ bs) h e = cond-false _ _ (lt-leb mostLines i h) ∙ ap (λ z. thenLines z i (λ r. linesFrom n (suc i) r)) e
+
+line-refused : (n i b : ℕ) (bs : List ℕ) → lineFrom (b ∷ bs) ≡ refused → linesFrom n i (b ∷ bs) ≡ bad i
+unfolding linesFrom
+line-refused zero i b bs e = refl
+line-refused (suc n) i b bs e = ap (cond (leb mostLines i) (bad i)) (ap (λ z. thenLines z i (λ r. linesFrom n (suc i) r)) e) ∙ same (leb mostLines i)
+  where
+    same : (t : Bool) → cond t (bad i) (bad i) ≡ bad i
+    same true = refl
+    same false = refl
+
+one-too-many : (n i b : ℕ) (bs : List ℕ) → mostLines ≤ i → linesFrom n i (b ∷ bs) ≡ bad i
+unfolding linesFrom
+one-too-many zero i b bs h = refl
+one-too-many (suc n) i b bs h = cond-true _ _ (le-leb mostLines i h)
+
+no-more : (n i : ℕ) → linesFrom n i [] ≡ lines []
+unfolding linesFrom
+no-more zero i = refl
+no-more (suc n) i = refl
+
+-- ---- lines before a text
+
+unfoldable ahead : List Said → Text → Text
+ahead [] t = t
+ahead (s ∷ ss) t = before s (ahead ss t)
+
+ahead-lines : (ss : List Said) → ahead ss (lines []) ≡ lines ss
+unfolding ahead
+ahead-lines [] = refl
+ahead-lines (s ∷ ss) = ap (before s) (ahead-lines ss)
+
+ahead-bad : (ss : List Said) (i : ℕ) → ahead ss (bad i) ≡ bad i
+unfolding ahead
+ahead-bad [] i = refl
+ahead-bad (s ∷ ss) i = ap (before s) (ahead-bad ss i)
+
+lines-first : (n i : ℕ) (ws : List Written) (bs : List ℕ) → LawfulLines ws → i + length ws ≤ mostLines
+    → linesFrom (length ws + n) i (textBytes ws ++ bs) ≡ ahead (map saidBy ws) (linesFrom n (i + length ws) bs)
+unfolding textBytes LawfulLines ahead
+lines-first n i [] bs l h = λ k. linesFrom (zero-add n k) (sym (add-zero i) k) bs
+lines-first n i (w ∷ ws) bs l h =
+    let m : suc (length ws) + n ≡ suc (length ws + n) = omega arith in
+    let j : suc i + length ws ≡ i + suc (length ws) = omega arith in
+    let e : lineFrom ((lineBytes w ++ textBytes ws) ++ bs) ≡ got (saidBy w) (textBytes ws ++ bs) = ap lineFrom (append-assoc (lineBytes w) (textBytes ws) bs) ∙ line-complete w (textBytes ws ++ bs) (l .0) in
+    ap (λ (k : ℕ). linesFrom k i ((lineBytes w ++ textBytes ws) ++ bs)) m
+    ∙ line-got (length ws + n) i _ (omega arith) e
+    ∙ ap (before (saidBy w)) (lines-first n (suc i) ws bs (l .1) (omega arith) ∙ ap (λ (k : ℕ). ahead (map saidBy ws) (linesFrom n k bs)) j)
+
+-- every line has a byte
+line-room : (w : Written) (bs : List ℕ) → length bs < length (lineBytes w ++ bs)
+unfolding lineBytes
+line-room w bs =
+    let a = length-append (starBytes (w .priority) ++ (formBytes (w .form) ++ (newline ∷ []))) bs in
+    let b = length-append (starBytes (w .priority)) (formBytes (w .form) ++ (newline ∷ [])) in
+    let c = length-append (formBytes (w .form)) (newline ∷ []) in
+    omega arith
+
+lines-room : (ws : List Written) (bs : List ℕ) → length ws ≤ length (textBytes ws ++ bs)
+unfolding textBytes
+lines-room [] bs = zero-le
+lines-room (w ∷ ws) bs =
+    let a = lines-room ws bs in
+    let b = line-room w (textBytes ws ++ bs) in
+    let c = ap length (append-assoc (lineBytes w) (textBytes ws) bs) in
+    omega arith
+
+-- ---- the text
+
+-- a text that begins with lines, and goes on with other bytes
+text-first : (bytes : List ℕ) (ws : List Written) (bs : List ℕ) (t : Text) → textBytes ws ++ bs ≡ bytes → LawfulLines ws → length ws ≤ mostLines
+    → ((n : ℕ) → linesFrom n (length ws) bs ≡ t) → linesFrom (length bytes) 0 bytes ≡ ahead (map saidBy ws) t
+text-first bytes ws bs t e l h f =
+    let k = length bytes in
+    let r : length ws ≤ k = subst (λ (z : List ℕ). length ws ≤ length z) e (lines-room ws bs) in
+    let n = k - length ws in
+    let m : k ≡ length ws + n = omega arith in
+    (λ i. linesFrom (m i) 0 (sym e i)) ∙ lines-first n 0 ws bs l (subst (λ (z : ℕ). z ≤ mostLines) (sym (zero-add (length ws))) h)
+    ∙ ap (ahead (map saidBy ws)) (ap (λ (z : ℕ). linesFrom n z bs) (zero-add (length ws)) ∙ f n)
+
+pub text-lines : (bytes : List ℕ) (ws : List Written) → Spells bytes ws → linesFrom (length bytes) 0 bytes ≡ lines (map saidBy ws)
+text-lines bytes ws s =
+    text-first bytes ws [] (lines []) (append-nil (textBytes ws) ∙ s .spelled) (s .lawful) (s .few) (λ n. no-more n (length ws)) ∙ ahead-lines (map saidBy ws)
+
+pub text-read : TextRead
+unfolding textOf
+text-read bytes ws s = ap judged (text-lines bytes ws s)
+
+-- lines that are written are read as what they say
+pub lines-read : (ws : List Written) → LawfulLines ws → length ws ≤ mostLines → Judged (textBytes ws) ws
+lines-read ws l h = text-read (textBytes ws) ws (record { spelled = refl; lawful = l; few = h })
+
+-- where no line stands, none is read
+none-read : (bs : List ℕ) → NoLine bs → lineFrom bs ≡ refused
+none-read bs h = go (lineFrom bs) refl
+  where
+    go : (r : Read Said) → lineFrom bs ≡ r → r ≡ refused
+    go (got s r) e = let f = line-sound bs s r e in absurd (h (f .one) r (f .lawful) (sym (f .spells)))
+    go refused e = refl
+
+-- the number of lines is reached, or no line stands there
+breaks-here : (n number b : ℕ) (bs : List ℕ) → ((number ≡ mostLines → ⊥) → NoLine (b ∷ bs)) → linesFrom n number (b ∷ bs) ≡ bad number
+breaks-here n number b bs h = go (leb mostLines number) refl
+  where
+    go : (t : Bool) → leb mostLines number ≡ t → linesFrom n number (b ∷ bs) ≡ bad number
+    go true e = one-too-many n number b bs (leb-true mostLines number e)
+    go false e =
+        let l : number < mostLines = leb-false mostLines number e in
+        line-refused n number b bs (none-read (b ∷ bs) (h (λ (z : number ≡ mostLines). omega arith)))
+
+pub text-bad : (bytes : List ℕ) (number : ℕ) → Breaks bytes number → linesFrom (length bytes) 0 bytes ≡ bad number
+text-bad bytes number b =
+    text-first bytes (b .before) (b .first ∷ b .others) (bad number) (b .spelled) (b .lawful) (subst (λ (z : ℕ). z ≤ mostLines) (sym (b .counted)) (b .few))
+    (λ n. ap (λ (z : ℕ). linesFrom n z (b .first ∷ b .others)) (b .counted) ∙ breaks-here n number (b .first) (b .others) (b .none))
+    ∙ ahead-bad (map saidBy (b .before)) number
+
+pub text-broken : TextBroken
+unfolding textOf
+text-broken bytes number b = ap judged (text-bad bytes number b)
+
+pub not-both : NotBoth
+not-both bytes ws number s b =
+    let e = sym (text-lines bytes ws s) ∙ text-bad bytes number b in
+    let z : _≡_ {A = ℕ} 0 1 = cc in
+    omega arith
+
+pub one-break : OneBreak
+one-break bytes n m a b = let e = sym (text-bad bytes n a) ∙ text-bad bytes m b in cc
+
+-- ---- fuel
+
+line-shorter : (bs : List ℕ) (s : Said) (r : List ℕ) → lineFrom bs ≡ got s r → length r < length bs
+line-shorter bs s r e = let f = line-sound bs s r e in subst (λ (z : List ℕ). length r < length z) (sym (f .spells)) (line-room (f .one) r)
+
+then-same : (m : Read Said) (i : ℕ) (k l : List ℕ → Text) → ((s : Said) (r : List ℕ) → m ≡ got s r → k r ≡ l r) → thenLines m i k ≡ thenLines m i l
+then-same (got s r) i k l f = ap (before s) (f s r refl)
+then-same refused i k l f = refl
+
+-- as much as there are bytes is enough
+pub lines-fuel : (n m i : ℕ) (bs : List ℕ) → length bs ≤ n → length bs ≤ m → linesFrom n i bs ≡ linesFrom m i bs
+unfolding linesFrom
+lines-fuel zero m i [] h g = sym (no-more m i)
+lines-fuel zero m i (b ∷ bs) h g = absurd (let z : suc (length bs) ≤ 0 = h in omega arith)
+lines-fuel (suc n) zero i [] h g = no-more (suc n) i
+lines-fuel (suc n) zero i (b ∷ bs) h g = absurd (let z : suc (length bs) ≤ 0 = g in omega arith)
+lines-fuel (suc n) (suc m) i bs h g =
+    ap (λ z. unlessNone bs (cond (leb mostLines i) (bad i) z))
+    (then-same (lineFrom bs) i (λ r. linesFrom n (suc i) r) (λ r. linesFrom m (suc i) r) (λ s r e. let l = line-shorter bs s r e in lines-fuel n m (suc i) r (omega arith) (omega arith)))
+
+-- ---- every text
+
+-- behind i lines: lines to the end, or lines and bytes where there is none
+data From (i : ℕ) (bs : List ℕ) : Type 0 where
+  all : (ws : List Written) → textBytes ws ≡ bs → LawfulLines ws → i + length ws ≤ mostLines → From i bs
+  some : (ws : List Written) (b : ℕ) (cs : List ℕ) → textBytes ws ++ (b ∷ cs) ≡ bs → LawfulLines ws → i + length ws ≤ mostLines
+      → ((i + length ws ≡ mostLines → ⊥) → NoLine (b ∷ cs)) → From i bs
+
+one-line : (i : ℕ) (w : Written) (bs r : List ℕ) → bs ≡ lineBytes w ++ r → LawfulForm (w .form) → From (suc i) r → From i bs
+unfolding textBytes LawfulLines
+one-line i w bs r e l (all ws f k h) = all (w ∷ ws) (ap (λ (z : List ℕ). lineBytes w ++ z) f ∙ sym e) (l, k) (omega arith)
+one-line i w bs r e l (some ws b cs f k h g) =
+    let m : i + suc (length ws) ≡ suc i + length ws = omega arith in
+    some (w ∷ ws) b cs (append-assoc (lineBytes w) (textBytes ws) (b ∷ cs) ∙ ap (λ (z : List ℕ). lineBytes w ++ z) f ∙ sym e) (l, k) (omega arith) (λ n. g (λ z. n (m ∙ z)))
+
+no-line : (bs : List ℕ) → lineFrom bs ≡ refused → NoLine bs
+no-line bs e w r l q = not-got (sym e ∙ ap lineFrom (sym q) ∙ line-complete w r l)
+
+-- at bytes behind i lines, if shorter ones are known
+abbrev Shorter : ℕ → Type 0
+Shorter n = (i : ℕ) (bs : List ℕ) → length bs < n → i ≤ mostLines → From i bs
+
+at-line : (i : ℕ) (bs : List ℕ) (r : Read Said) → lineFrom bs ≡ r → i < mostLines → Shorter (length bs) → (NoLine bs → From i bs) → From i bs
+at-line i bs (got s r) e k rec none =
+    let f = line-sound bs s r e in
+    let room = line-room (f .one) r in
+    let long : length bs ≡ length (lineBytes (f .one) ++ r) = ap length (f .spells) in
+    one-line i (f .one) bs r (f .spells) (f .lawful) (rec (suc i) r (omega arith) k)
+at-line i bs refused e k rec none = none (no-line bs e)
+
+at-bytes : (i : ℕ) (bs : List ℕ) → i ≤ mostLines → Shorter (length bs) → From i bs
+unfolding textBytes LawfulLines
+at-bytes i [] l rec = all [] refl tt (omega arith)
+at-bytes i (b ∷ bs) l rec = go (leb mostLines i) refl
+  where
+    go : (t : Bool) → leb mostLines i ≡ t → From i (b ∷ bs)
+    go true e = let k : mostLines ≤ i = leb-true mostLines i e in some [] b bs refl tt (omega arith) (λ m. absurd (m (omega arith)))
+    go false e = at-line i (b ∷ bs) (lineFrom (b ∷ bs)) refl (leb-false mostLines i e) rec (λ none. some [] b bs refl tt (omega arith) (λ m. none))
+
+every-from : (n : ℕ) → Shorter n
+every-from zero i bs h l = absurd (let z : suc (length bs) ≤ 0 = h in omega arith)
+every-from (suc n) i bs h l = at-bytes i bs l (λ j cs k m. every-from n j cs (omega arith) m)
+
+pub every-text : EveryText
+every-text bytes = go (at-bytes 0 bytes zero-le (every-from (length bytes)))
+  where
+    go : From 0 bytes → Either bytes
+    go (all ws e l h) = spells ws (record { spelled = e; lawful = l; few = omega arith })
+    go (some ws b cs e l h k) =
+        breaks (length ws) (record { before = ws; first = b; others = cs; spelled = e; lawful = l; counted = refl; few = omega arith; none = λ m. k (λ z. m (sym (zero-add (length ws)) ∙ z)) })

@@ -1,0 +1,4 @@
+pub mod Parts
+pub mod Leaves
+pub mod Lists
+pub mod Ways
