@@ -104,7 +104,7 @@ module _ (area : List ℕ) (n : ℕ) where
 
 -- ---- the lines and their bits
 
-lines-snoc : (area : List ℕ) (n i : ℕ) → areaLines area (suc n) i ≡ areaLines area n i ++ (slotRead area (i + n) .line ∷ [])
+pub lines-snoc : (area : List ℕ) (n i : ℕ) → areaLines area (suc n) i ≡ areaLines area n i ++ (slotRead area (i + n) .line ∷ [])
 unfolding areaLines
 lines-snoc area zero i = ap (λ (j : ℕ). slotRead area j .line ∷ []) (sym (add-zero i))
 lines-snoc area (suc n) i =

@@ -90,13 +90,13 @@ module _ (b out : List ℕ) (h : length b ≤ length out) where
   left-yes : left b out ≡ b ++ drop (length b) out
   left-yes = cond-true _ _ (le-leb (length b) (length out) h)
 
-bytes-back : (b out new : List ℕ) (w : Written) → length b ≤ length out → w ≡ told b (length out) → new ≡ left b out → BytesBack b out new w
+pub bytes-back : (b out new : List ℕ) (w : Written) → length b ≤ length out → w ≡ told b (length out) → new ≡ left b out → BytesBack b out new w
 bytes-back b out new w h e f =
     let t = e ∙ told-yes b out h in
     record { number = ap (λ (x : Written). numberOf (x .answer)) t; line = ap (λ (x : Written). x .line) t; bytes = ap (λ (x : Written). x .bytes) t; are = f ∙ left-yes b out h }
 
 -- what was told as written stands at the start
-told-zero : (b out new : List ℕ) (w : Written) → w ≡ told b (length out) → new ≡ left b out → numberOf (w .answer) ≡ 0 → take (w .bytes) new ≡ b
+pub told-zero : (b out new : List ℕ) (w : Written) → w ≡ told b (length out) → new ≡ left b out → numberOf (w .answer) ≡ 0 → take (w .bytes) new ≡ b
 told-zero b out new w e f z = go (leb (length b) (length out)) refl
   where
     go : (t : Bool) → leb (length b) (length out) ≡ t → take (w .bytes) new ≡ b
@@ -134,11 +134,11 @@ can-write area n out new w s d f few e h =
 
 -- ---- lines that are decoded into an area
 
-record Decodes (ls : List Line) (old new : List ℕ) (r : Decoded) : Type 0 where
-  is : r ≡ record { answer = answer.Taken; line = 0; count = length ls }
-  words : new ≡ areaWords ls ++ drop (length (areaWords ls)) old
+pub record Decodes (ls : List Line) (old new : List ℕ) (r : Decoded) : Type 0 where
+  pub is : r ≡ record { answer = answer.Taken; line = 0; count = length ls }
+  pub words : new ≡ areaWords ls ++ drop (length (areaWords ls)) old
 
-decodes : (s : Score) (ls : List Line) (old new : List ℕ) (r : Decoded) → s .answer ≡ answer.Taken → s .lines ≡ ls → 18 * length ls ≤ length old → Left s old new r → Decodes ls old new r
+pub decodes : (s : Score) (ls : List Line) (old new : List ℕ) (r : Decoded) → s .answer ≡ answer.Taken → s .lines ≡ ls → 18 * length ls ≤ length old → Left s old new r → Decodes ls old new r
 unfolding decodedOf areaAfter laid
 decodes s ls old new r a e h d =
     let t : isTaken (s .answer) ≡ true = ap isTaken a in
@@ -149,7 +149,7 @@ decodes s ls old new r a e h d =
     }
 
 -- what was decoded was read, and had room
-decoded-zero : (s : Score) (old new : List ℕ) (r : Decoded) → Left s old new r → numberOf (r .answer) ≡ 0 → (s .answer ≡ answer.Taken) × (18 * length (s .lines) ≤ length old)
+pub decoded-zero : (s : Score) (old new : List ℕ) (r : Decoded) → Left s old new r → numberOf (r .answer) ≡ 0 → (s .answer ≡ answer.Taken) × (18 * length (s .lines) ≤ length old)
 unfolding decodedOf
 decoded-zero s old new r d z = go (isTaken (s .answer)) (leb (18 * length (s .lines)) (length old)) refl refl (d .told)
   where
@@ -161,7 +161,7 @@ decoded-zero s old new r d z = go (isTaken (s .answer)) (leb (18 * length (s .li
     go false b e f x = absurd (true≢false (sym (zero-taken (s .answer) (sym (ap (λ (y : Decoded). numberOf (y .answer)) x) ∙ z)) ∙ e))
 
 -- lines whose words are the first n slots of an area
-slots-decoded : (area : List ℕ) (n : ℕ) (ls : List Line) (into new : List ℕ) (d : Decoded) → length ls ≡ n → areaWords ls ≡ take (18 * n) area → length (take (18 * n) area) ≡ 18 * n
+pub slots-decoded : (area : List ℕ) (n : ℕ) (ls : List Line) (into new : List ℕ) (d : Decoded) → length ls ≡ n → areaWords ls ≡ take (18 * n) area → length (take (18 * n) area) ≡ 18 * n
     → Decodes ls into new d → SlotsBack area n into new d
 slots-decoded area n ls into new d c e m k =
     record {
@@ -171,7 +171,7 @@ slots-decoded area n ls into new d c e m k =
       words = k .words ∙ ap (λ (x : List ℕ). x ++ drop (length x) into) e ∙ ap (λ (j : ℕ). take (18 * n) area ++ drop j into) m;
     }
 
-words-long : (ls : List Line) → T (allLawful ls) → length (areaWords ls) ≡ 18 * length ls
+pub words-long : (ls : List Line) → T (allLawful ls) → length (areaWords ls) ≡ 18 * length ls
 unfolding areaWords allLawful
 words-long [] h = refl
 words-long (l ∷ ls) h =

@@ -268,7 +268,7 @@ slot-inside area i e = go (ltb i (length area / 18)) refl e
     go false f k = absurd (true≢false (sym k))
 
 -- the fault of the first slot, and of the others
-fault-back : (area : List ℕ) (n i : ℕ) → areaFault area (suc n) i .answer ≡ answer.Taken → (isTaken (slotRead area i .answer) ≡ true) × (areaFault area n (suc i) .answer ≡ answer.Taken)
+pub fault-back : (area : List ℕ) (n i : ℕ) → areaFault area (suc n) i .answer ≡ answer.Taken → (isTaken (slotRead area i .answer) ≡ true) × (areaFault area n (suc i) .answer ≡ answer.Taken)
 unfolding areaFault
 fault-back area n i e = go (isTaken (slotRead area i .answer)) refl e
   where

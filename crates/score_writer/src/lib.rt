@@ -28,7 +28,8 @@ pub struct Written {
     pub bytes: usize,
 }
 
-fn refused(answer: Answer, line: usize) -> Written
+// A refusal: no byte was written.
+pub fn refused(answer: Answer, line: usize) -> Written
     ensures { λ r. ⌜ r ≡ record { answer = answer; line = line; bytes = 0 } ⌝ }
 {
     Written {
@@ -69,7 +70,7 @@ fn read_slot(slot: &[u32]) -> LineRead
 }
 
 // The slot of number i; numbers are lacking where the area does not hold it whole.
-fn slot_at(area: &[u32], i: usize) -> LineRead
+pub fn slot_at(area: &[u32], i: usize) -> LineRead
     ensures { λ r. ⌜ r ≡ slotRead (now (area .entry)) i ⌝ }
 {
     if i < area.len() / SLOT {
@@ -81,7 +82,7 @@ fn slot_at(area: &[u32], i: usize) -> LineRead
 }
 
 // The first fault among the first n slots.
-fn first_fault(area: &[u32], n: usize) -> ScoreRead
+pub fn first_fault(area: &[u32], n: usize) -> ScoreRead
     ensures { λ r. ⌜ r ≡ areaFault (now (area .entry)) n 0 ⌝ }
 {
     let mut i: usize = 0;

@@ -1,0 +1,162 @@
+-- What was written reads back. Assumes nothing.
+use Prim.Native.Nat.{ℕ}
+use Prim.Native.Nat.{min as lesser}
+use mathlib.Core.Path.{_≡_, refl, sym, ap, ap₂, _∙_, subst}
+use mathlib.Core.Bool.{Bool, true, false, _&&_}
+use mathlib.Core.List.{List, [], _∷_, map, append-nil}
+use mathlib.Core.Option.{none, some, Option·map, Option·none-ne-some, Option·some-injective}
+use native.Mathlib.Nat.{zero-add}
+use native.Mathlib.Omega.{arith}
+use lib.Dec.{T, eqb, leb, eqb→eq, leb→le}
+use lib.ListN.{length, take}
+use lib.Ieee.{Float, binary32, fits}
+use lib.Ieee.Fits.{and-l, and-r}
+use Rattle.bitstream.specs.Bits.{digit}
+use Rattle.formats.specs.Fields.{fieldWords}
+use Rattle.formats.specs.Format.{all, timesFields}
+use Rattle.formats.specs.Format as F
+use Rattle.formats.specs.Description.{format, flag}
+use Rattle.formats.specs.Reading.{got}
+use Rattle.formats.specs.Source.{keypadSource}
+use Rattle.score_line.specs.LineFormat.{eventParts, kindOf, valuesOf, filled, float, number, timed, when, label, kind, labelled, body, counted, values, afterTime, parts, line, lawful}
+use Rattle.score_line.specs.declared.When.{When}
+use Rattle.score_line.specs.declared.When.the-variants.{Timed, Untimed}
+use Rattle.score_line.specs.declared.Label.the-variants.{Unlabelled, Labelled}
+use Rattle.score_line.specs.declared.Range.the-variants as range
+use Rattle.score_line.specs.declared.Event.{Event}
+use Rattle.score_line.specs.declared.Event.the-variants.{Instr, Control, End, Tempo}
+use Rattle.score_line.specs.declared.Line.{Line}
+use Rattle.score_line.specs.Reading.{lineFrom, lineInWords}
+use Rattle.line_writer.specs.Fields.{lineWords}
+use Rattle.line_writer.specs.Claims.{taken, isSymbol, storedWhen, storedEvent, stored}
+use Rattle.line_writer.proofs.Proved.{read-taken, words-here}
+use Rattle.numerals.specs.Numeral.{Numeral}
+use Rattle.score_text.specs.Said.{Said, bits, eventWords, wordsOf, lineSaid}
+use Rattle.score_text.specs.Said as said
+use Rattle.score_text.specs.Form.{Behind, Form, instr, control, tempo, end, Written, LawfulName, LawfulValues, LawfulForm, saidBy}
+use Rattle.score_text.specs.Form as form
+use Rattle.text_writer.specs.LineText.{timeSaid, eventSaid, saidOf, PlainValues, PlainForm, Says}
+
+-- ---- a line's keypad numbers are what it says
+
+pub flag-digit : (b : Bool) → said.flag b ≡ digit b
+flag-digit true = refl
+flag-digit false = refl
+
+float-words : (xs : List Float) → map bits xs ≡ fieldWords (timesFields (format (float range.Value)) xs [])
+unfolding fieldWords float
+float-words [] = refl
+float-words (x ∷ xs) = ap (λ (ws : List ℕ). bits x ∷ ws) (float-words xs)
+
+-- the number of values in use, in a lawful line
+few-values : (n : ℕ) (xs : List Float) → T (format counted .lawful (n, take n xs)) → length (take n xs) ≡ lesser n 255
+unfolding counted number
+few-values n xs h =
+    let f = format (float range.Value) .lawful in
+    let a = leb→le (lesser n 255) 8 (and-l (leb (lesser n 255) 8) (eqb (length (take n xs)) n && all f (take n xs)) h) in
+    let b = eqb→eq (length (take n xs)) n (and-l (eqb (length (take n xs)) n) (all f (take n xs)) (and-r (leb (lesser n 255) 8) (eqb (length (take n xs)) n && all f (take n xs)) h)) in
+    omega arith
+
+-- an instr line's number of values is that of its places in use
+abbrev pub Counts : Event → ℕ → List Float → Type 0
+Counts (Instr l i d) n xs = length (take n xs) ≡ lesser n 255
+Counts (Control l v x) n xs = Unit {0}
+Counts End n xs = Unit {0}
+Counts (Tempo x) n xs = Unit {0}
+
+counts : (e : Event) (n : ℕ) (xs : List Float) → T (format (values (kindOf e)) .lawful (valuesOf (kindOf e) n xs)) → Counts e n xs
+unfolding values
+counts (Instr l i d) n xs h = few-values n xs h
+counts (Control l v x) n xs h = tt
+counts End n xs h = tt
+counts (Tempo x) n xs h = tt
+
+-- from the type on
+event-words : (e : Event) (n : ℕ) (xs : List Float) → Counts e n xs
+    → eventWords (eventSaid e n xs) ≡ fieldWords (format kind .fields (kindOf e) (format (body (kindOf e)) .fields (eventParts e .1) (format (values (kindOf e)) .fields (valuesOf (kindOf e) n xs) [])))
+unfolding fieldWords kind body labelled values counted number float F.small label
+event-words (Instr Unlabelled i d) n xs h = ap₂ (λ (k : ℕ) (ws : List ℕ). 0 ∷ (0 ∷ (i ∷ (bits d ∷ (k ∷ ws))))) h (float-words (take n xs))
+event-words (Instr (Labelled l) i d) n xs h = ap₂ (λ (k : ℕ) (ws : List ℕ). 0 ∷ (1 ∷ (l ∷ (i ∷ (bits d ∷ (k ∷ ws)))))) h (float-words (take n xs))
+event-words (Control l v x) n xs h = refl
+event-words End n xs h = refl
+event-words (Tempo x) n xs h = refl
+
+pub timed-words : (p : Bool) (t : Float) (e : Event) (n : ℕ) (xs : List Float) → Counts e n xs
+    → wordsOf (record { priority = p; time = t; event = eventSaid e n xs }) ≡ lineWords (record { when = Timed false t; priority = p; event = e; count = n; values = xs })
+unfolding wordsOf lineWords fieldWords line parts afterTime when timed float F.small
+timed-words p t e n xs h = ap₂ (λ (d : ℕ) (ws : List ℕ). 1 ∷ (0 ∷ (bits t ∷ (d ∷ ws)))) (flag-digit p) (event-words e n xs h)
+
+values-lawful : (l : Line) → T (lawful l) → T (format (values (kindOf (l .event))) .lawful (valuesOf (kindOf (l .event)) (l .count) (l .values)))
+unfolding line parts afterTime kind
+values-lawful l h =
+    let k = kindOf (l .event) in
+    let b = format (body k) .lawful (eventParts (l .event) .1) in
+    let v = format (values k) .lawful (valuesOf k (l .count) (l .values)) in
+    let w = format when .lawful (l .when) in
+    let p = format flag .lawful (l .priority) in
+    and-r b v (and-r p (b && v) (and-r w (p && (b && v)) (and-r (filled l) (w && (p && (b && v))) h)))
+
+pub said-words : (l : Line) (s : Said) → T (lawful l) → saidOf l ≡ some s → wordsOf s ≡ lineWords l
+said-words l s h e = go (l .when) (l .priority) (l .event) (l .count) (l .values) (counts (l .event) (l .count) (l .values) (values-lawful l h)) e
+  where
+    go : (w : When) (p : Bool) (e : Event) (n : ℕ) (xs : List Float) → Counts e n xs
+        → saidOf (record { when = w; priority = p; event = e; count = n; values = xs }) ≡ some s → wordsOf s ≡ lineWords (record { when = w; priority = p; event = e; count = n; values = xs })
+    go Untimed p e n xs k f = absurd (Option·none-ne-some s f)
+    go (Timed true t) p e n xs k f = absurd (Option·none-ne-some s f)
+    go (Timed false t) p e n xs k f = ap wordsOf (sym (Option·some-injective (record { priority = p; time = t; event = eventSaid e n xs }) s f)) ∙ timed-words p t e n xs k
+
+-- so a lawful line is read from what it says
+pub said-line : (l : Line) (s : Said) → T (lawful l) → saidOf l ≡ some s → lineSaid s ≡ got l (length (lineWords l))
+unfolding lineSaid lineInWords
+said-line l s h e =
+    ap (λ (ws : List ℕ). lineFrom (keypadSource ws) 0) (said-words l s h e)
+    ∙ read-taken (lineFrom (keypadSource (lineWords l)) 0) l (length (lineWords l)) (words-here (lineWords l) 0 l [] h (sym (append-nil (lineWords l))) ∙ ap (taken l) (zero-add (length (lineWords l))))
+
+-- ---- its text is lawful
+
+unfoldable pub SmallNames : said.Event → Type 0
+SmallNames (said.instr none name d vs) = LawfulName name
+SmallNames (said.instr (some l) name d vs) = LawfulName l × LawfulName name
+SmallNames (said.control none name x) = LawfulName name
+SmallNames (said.control (some l) name x) = LawfulName l × LawfulName name
+SmallNames (said.tempo x) = Unit {0}
+SmallNames said.end = Unit {0}
+
+event-names : (e : Event) (n : ℕ) (xs : List Float) → T (storedEvent e) → SmallNames (eventSaid e n xs)
+unfolding SmallNames
+event-names (Instr Unlabelled i d) n xs h = leb→le i 65535 (and-l (isSymbol i) (fits binary32 d) h)
+event-names (Instr (Labelled l) i d) n xs h =
+    (leb→le l 65535 (and-l (isSymbol l) (isSymbol i && fits binary32 d) h), leb→le i 65535 (and-l (isSymbol i) (fits binary32 d) (and-r (isSymbol l) (isSymbol i && fits binary32 d) h)))
+event-names (Control l v x) n xs h =
+    (leb→le l 65535 (and-l (isSymbol l) (isSymbol v && fits binary32 x) h), leb→le v 65535 (and-l (isSymbol v) (fits binary32 x) (and-r (isSymbol l) (isSymbol v && fits binary32 x) h)))
+event-names End n xs h = tt
+event-names (Tempo x) n xs h = tt
+
+values-plain : (vs : List (Behind Numeral)) → PlainValues vs → LawfulValues vs
+unfolding PlainValues LawfulValues
+values-plain [] h = tt
+values-plain (x ∷ xs) h = (h .0 .1 .lawful, values-plain xs (h .1))
+
+form-lawful : (f : Form) → PlainForm f → SmallNames (form.eventSaid f) → LawfulForm f
+unfolding PlainForm LawfulForm SmallNames
+form-lawful (instr none t n d vs) h k = (tt, (h .1 .0 .lawful, (k, (h .1 .1 .1 .0 .1 .lawful, values-plain vs (h .1 .1 .1 .1)))))
+form-lawful (instr (some l) t n d vs) h k = (k .0, (h .1 .0 .lawful, (k .1, (h .1 .1 .1 .0 .1 .lawful, values-plain vs (h .1 .1 .1 .1)))))
+form-lawful (control t none more n x) h k = (h .0 .lawful, (tt, (k, h .1 .1 .1 .1 .1 .lawful)))
+form-lawful (control t (some l) more n x) h k = (h .0 .lawful, (k .0, (k .1, h .1 .1 .1 .1 .1 .lawful)))
+form-lawful (tempo t more x) h k = (h .0 .lawful, h .1 .1 .1 .lawful)
+form-lawful (end t more) h k = h .0 .lawful
+
+names-said : (l : Line) (s : Said) → T (storedEvent (l .event)) → saidOf l ≡ some s → SmallNames (s .event)
+names-said l s h e = go (l .when) e
+  where
+    go : (w : When) → Option·map (λ t. record { priority = l .priority; time = t; event = eventSaid (l .event) (l .count) (l .values) }) (timeSaid w) ≡ some s → SmallNames (s .event)
+    go Untimed f = absurd (Option·none-ne-some s f)
+    go (Timed true t) f = absurd (Option·none-ne-some s f)
+    go (Timed false t) f = subst (λ (z : Said). SmallNames (z .event)) (Option·some-injective _ s f) (event-names (l .event) (l .count) (l .values) h)
+
+pub text-lawful : (l : Line) (w : Written) → T (stored l) → Says l w → LawfulForm (w .form)
+unfolding saidBy
+text-lawful l w h s =
+    let e = storedEvent (l .event) in
+    let r = eqb (length (l .values)) 8 && all (fits binary32) (l .values) in
+    form-lawful (w .form) (s .is-plain) (names-said l (saidBy w) (and-l e r (and-r (storedWhen (l .when)) (e && r) h)) (s .is-said))

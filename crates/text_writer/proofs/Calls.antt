@@ -1,0 +1,367 @@
+-- Reading and writing text through the calls. Assumes nothing.
+use Prim.Native.Nat.{ℕ, suc, _+_, _*_, _≤_}
+use mathlib.Core.Path.{_≡_, refl, sym, ap, ap₂, _∙_, subst}
+use mathlib.Core.Bool.{Bool, true, false, cond, true≢false}
+use mathlib.Core.List.{List, [], _∷_, _++_, map}
+use mathlib.Core.Option.{Option, none, some}
+use native.Mathlib.Nat.{zero-add}
+use native.Mathlib.Omega.{arith}
+use borrow.Author.Tests.{le-leb, leb-true, eqb-true}
+use lib.Dec.{T, leb}
+use lib.ListN.{length, take, drop}
+use lib.Ieee.{binary32, fits}
+use lib.Ieee.Fits.{and-l, and-r, and-i}
+use Rattle.laws.proofs.Choice.{cond-true, cond-false}
+use Rattle.answer.specs.Numbers.{numberOf, isTaken}
+use Rattle.answer.specs.declared.Answer.the-variants as answer
+use Rattle.numerals.specs.Numeral.{Numeral, wholeOf, meaning}
+use Rattle.formats.specs.Format.{all as allOf}
+use Rattle.formats.specs.Reading.{Read, got, refused}
+use Rattle.formats.specs.declared.Fault.{Fault}
+use Rattle.formats.specs.declared.Fault.the-variants as fault
+use Rattle.score_line.specs.LineFormat.{lawful}
+use Rattle.score_line.specs.Reading.{answerOf}
+use Rattle.score_line.specs.declared.Line.{Line}
+use Rattle.line_writer.specs.Claims.{stored}
+use Rattle.score.specs.Score as score
+use Rattle.score.specs.Score.{Score, Lines, lineThen, taken}
+use Rattle.score_text.specs.Said.{Said, lineSaid}
+use Rattle.score_text.specs.Form.{Behind, Form, instr, control, tempo, end, Written, textBytes, LawfulForm, LawfulLines, saidBy}
+use Rattle.score_text.specs.Form as form
+use Rattle.score_text.specs.Reading.{judgedFrom, judgement, textOf}
+use Rattle.score_text.specs.Claims.{Spells, Either, spells, breaks}
+use Rattle.score_text.proofs.Texts.{text-read, text-broken, every-text}
+use Rattle.score_area.specs.Area.{areaWords}
+use Rattle.score_area.specs.declared.Decoded.{Decoded}
+use Rattle.score_writer.specs.Writing.{scoreBytes, mostLines, allLawful}
+use Rattle.score_writer.specs.Slots.{areaFault, areaLines}
+use Rattle.score_writer.specs.Written.{refusal, told, left, scoreWritten}
+use Rattle.score_writer.specs.Claims.{allStored}
+use Rattle.score_writer.specs.declared.Written as call
+use Rattle.score_writer.proofs.Area.{lines-count}
+use Rattle.score_writer.proofs.InSlots.{zero-taken, zero-is, held-from, slots-back}
+use Rattle.score_writer.proofs.Calls.{told-zero, words-long, decodes, decoded-zero, slots-decoded}
+use Rattle.text_writer.specs.LineText.{saidOf, eventNumbers, numbersOf, Says, Unsaid}
+use Rattle.text_writer.specs.Writing.{Text, all, lacking, before, textFrom, toldText, leftText, textWritten, textLeft, TextDone}
+use Rattle.text_writer.specs.Claims.{Told, AllSay, no-lines, one-more, TextIs, EveryTextTold, RoomNumber, written, too-short, TextNumber, room, no-text, LikeScore, TextLikeScore, TextReadBack, TextSlotsBack, NeverRefused18, ReadSaid, WrittenAgain, TextReadAgain}
+use Rattle.text_writer.specs.Claims as claims
+use Rattle.text_writer.proofs.Numbers.{float-fits}
+use Rattle.text_writer.proofs.Stored.{lawful-stored}
+use Rattle.text_writer.proofs.Back.{said-line, SmallNames, text-lawful}
+use Rattle.text_writer.proofs.Lines.{line-found, said-not, every-line-told}
+use Rattle.text_writer.proofs.Again.{said-back}
+use Rattle.text_writer.proofs.Passing.{all-same}
+
+-- ---- lines and their texts
+
+-- where the text is told: the lines that have one, and those that follow
+record FirstFrom (i : ℕ) (ls : List Line) (j : ℕ) : Type 0 where
+  before : List Line
+  texts : List Written
+  line : Line
+  after : List Line
+  are : before ++ (line ∷ after) ≡ ls
+  number : i + length before ≡ j
+  said : AllSay before texts
+  unsaid : Unsaid line
+
+data ToldFrom (i : ℕ) (ls : List Line) : Text → Type 0 where
+  whole : (ws : List Written) → AllSay ls ws → ToldFrom i ls (all ws)
+  broken : (j : ℕ) → FirstFrom i ls j → ToldFrom i ls (lacking j)
+
+told-from : (i : ℕ) (ls : List Line) → T (allStored ls) → ToldFrom i ls (textFrom i ls)
+unfolding textFrom
+told-from i [] h = whole [] no-lines
+told-from i (l ∷ ls) h = go (every-line-told l (and-l (stored l) (allStored ls) h)) (told-from (suc i) ls (and-r (stored l) (allStored ls) h))
+  where
+    go : {o : Option Written} {t : Text} → Told l o → ToldFrom (suc i) ls t → ToldFrom i (l ∷ ls) (before o i t)
+    go (claims.said w s u n) (whole ws k) = whole (w ∷ ws) (one-more s k)
+    go (claims.said w s u n) (broken j f) =
+        broken j (record {
+          before = l ∷ f .before;
+          texts = w ∷ f .texts;
+          line = f .line;
+          after = f .after;
+          are = ap (λ (x : List Line). l ∷ x) (f .are);
+          number = omega (arith, f .number);
+          said = one-more s (f .said);
+          unsaid = f .unsaid;
+        })
+    go (claims.unsaid u n) k = broken i (record { before = []; texts = []; line = l; after = ls; are = refl; number = omega arith; said = no-lines; unsaid = u })
+
+pub every-text-told : EveryTextTold
+every-text-told ls h = go (told-from 0 ls h)
+  where
+    go : {t : Text} → ToldFrom 0 ls t → TextIs ls t
+    go (whole ws k) = claims.whole ws k
+    go (broken j f) =
+        claims.broken j (record { before = f .before; texts = f .texts; line = f .line; after = f .after; are = f .are; number = sym (zero-add (length (f .before))) ∙ f .number; said = f .said; unsaid = f .unsaid })
+
+all-stored : (ls : List Line) → T (allLawful ls) → T (allStored ls)
+unfolding allLawful
+all-stored [] h = tt
+all-stored (l ∷ ls) h = and-i (stored l) (allStored ls) (lawful-stored l (and-l (lawful l) (allLawful ls) h)) (all-stored ls (and-r (lawful l) (allLawful ls) h))
+
+text-says : (ls : List Line) (ws : List Written) → T (allLawful ls) → textFrom 0 ls ≡ all ws → AllSay ls ws
+text-says ls ws h e = go (told-from 0 ls (all-stored ls h)) e
+  where
+    go : {t : Text} → ToldFrom 0 ls t → t ≡ all ws → AllSay ls ws
+    go (whole vs k) f = subst (AllSay ls) (all-same f) k
+    go (broken j k) f = absurd (let z : _≡_ {A = ℕ} 0 1 = cc in omega arith)
+
+says-text : (i : ℕ) {ls : List Line} {ws : List Written} → AllSay ls ws → textFrom i ls ≡ all ws
+unfolding textFrom
+says-text i no-lines = refl
+says-text i (one-more {l} {ls} {w} {ws} s k) = ap₂ (λ (o : Option Written) (t : Text). before o i t) (line-found l w s) (says-text (suc i) k)
+
+-- lawful lines are read from their texts
+record Reads (i : ℕ) (ls : List Line) (ws : List Written) : Type 0 where
+  lawful-lines : LawfulLines ws
+  judged : judgedFrom i (map saidBy ws) ≡ score.all ls 0
+  count : length ws ≡ length ls
+
+lines-read : (i : ℕ) {ls : List Line} {ws : List Written} → T (allLawful ls) → AllSay ls ws → Reads i ls ws
+unfolding allLawful LawfulLines judgedFrom
+lines-read i h no-lines = record { lawful-lines = tt; judged = refl; count = refl }
+lines-read i h (one-more {l} {ls} {w} {ws} s k) =
+    let g = and-l (lawful l) (allLawful ls) h in
+    let r = lines-read (suc i) (and-r (lawful l) (allLawful ls) h) k in
+    record {
+      lawful-lines = (text-lawful l w (lawful-stored l g) s, r .lawful-lines);
+      judged = ap (λ (x : Read Line). lineThen x i (λ p. judgedFrom (suc i) (map saidBy ws))) (said-line l (saidBy w) g (s .is-said)) ∙ ap (score.before l) (r .judged);
+      count = ap suc (r .count);
+    }
+
+text-reads : (ls : List Line) (ws : List Written) → T (allLawful ls) → length ls ≤ mostLines → AllSay ls ws → textOf (textBytes ws) ≡ taken ls
+text-reads ls ws h few k =
+    let r = lines-read 0 h k in
+    text-read (textBytes ws) ws (record { spelled = refl; lawful = r .lawful-lines; few = omega (arith, r .count) }) ∙ ap judgement (r .judged)
+
+-- ---- a text that was written
+
+record WroteText (area : List ℕ) (n : ℕ) (new : List ℕ) (w : call.Written) : Type 0 where
+  fault : areaFault area n 0 .answer ≡ answer.Taken
+  few : n ≤ mostLines
+  lines : List Written
+  are : textFrom 0 (areaLines area n 0) ≡ all lines
+  bytes : take (w .bytes) new ≡ textBytes lines
+
+wrote-text : (area : List ℕ) (n : ℕ) (out new : List ℕ) (w : call.Written) → TextDone area n out new w → numberOf (w .answer) ≡ 0 → WroteText area n new w
+unfolding textWritten textLeft
+wrote-text area n out new w d z = go (isTaken (areaFault area n 0 .answer)) (leb n mostLines) (textFrom 0 (areaLines area n 0)) refl refl refl (d .answers) (d .leaves)
+  where
+    not-zero : {x : call.Written} → w ≡ x → (numberOf (x .answer) ≡ 0 → ⊥) → ⊥
+    not-zero e f = f (sym (ap (λ (r : call.Written). numberOf (r .answer)) e) ∙ z)
+
+    go : (a b : Bool) (t : Text) → isTaken (areaFault area n 0 .answer) ≡ a → leb n mostLines ≡ b → textFrom 0 (areaLines area n 0) ≡ t
+        → w ≡ cond a (cond b (toldText t (length out)) (refusal answer.OutOfRange 0)) (refusal (areaFault area n 0 .answer) (areaFault area n 0 .line))
+        → new ≡ cond a (cond b (leftText t out) out) out → WroteText area n new w
+    go true true (all ws) e f g x y =
+        record { fault = zero-is (areaFault area n 0 .answer) (eqb-true (numberOf (areaFault area n 0 .answer)) 0 e); few = leb-true n mostLines f; lines = ws; are = g; bytes = told-zero (textBytes ws) out new w x y z }
+    go true true (lacking i) e f g x y = absurd (not-zero x (λ k. omega arith))
+    go true false t e f g x y = absurd (not-zero x (λ k. omega arith))
+    go false b t e f g x y = absurd (not-zero x (λ k. true≢false (sym (zero-taken (areaFault area n 0 .answer) k) ∙ e)))
+
+-- ---- refusals
+
+pub text-like-score : TextLikeScore
+unfolding scoreWritten textWritten
+text-like-score area to bytes out new n v w s t = go (isTaken (areaFault area n 0 .answer)) (leb n mostLines) (textFrom 0 (areaLines area n 0)) (s .answers) (t .answers)
+  where
+    same : {x : call.Written} → v ≡ x → w ≡ x → LikeScore v w
+    same e f = record { refuses = λ k. f ∙ sym e; otherwise = λ k. subst (λ (y : call.Written). TextNumber (numberOf (y .answer))) (e ∙ sym f) (room k) }
+
+    fits : (b : List ℕ) (r : ℕ) → RoomNumber (numberOf (told b r .answer))
+    fits b r = by (leb (length b) r)
+      where
+        by : (t : Bool) → RoomNumber (numberOf (cond t (record { answer = answer.Taken; line = 0; bytes = length b }) (refusal answer.NoRoom 0) .answer))
+        by true = written
+        by false = too-short
+
+    later : (b : List ℕ) {x : call.Written} → v ≡ told b (length to) → w ≡ x → TextNumber (numberOf (x .answer)) → LikeScore v w
+    later b e f k =
+        record {
+          refuses = λ never. absurd (never (subst (λ (y : call.Written). RoomNumber (numberOf (y .answer))) (sym e) (fits b (length to))));
+          otherwise = λ z. subst (λ (y : call.Written). TextNumber (numberOf (y .answer))) (sym f) k;
+        }
+
+    go : (a b : Bool) (x : Text)
+        → v ≡ cond a (cond b (told (scoreBytes (areaLines area n 0)) (length to)) (refusal answer.OutOfRange 0)) (refusal (areaFault area n 0 .answer) (areaFault area n 0 .line))
+        → w ≡ cond a (cond b (toldText x (length out)) (refusal answer.OutOfRange 0)) (refusal (areaFault area n 0 .answer) (areaFault area n 0 .line)) → LikeScore v w
+    go true true (all ws) e f = later (scoreBytes (areaLines area n 0)) e f (room (fits (textBytes ws) (length out)))
+    go true true (lacking i) e f = later (scoreBytes (areaLines area n 0)) e f no-text
+    go true false x e f = same e f
+    go false b x e f = same e f
+
+-- ---- what was written reads back
+
+pub text-read-back : TextReadBack
+text-read-back area out bytes n w h done z =
+    let k = wrote-text area n out bytes w done z in
+    let ls = areaLines area n 0 in
+    let g = slots-back area n 0 h (k .fault) .0 in
+    ap textOf (k .bytes) ∙ text-reads ls (k .lines) g (omega (arith, lines-count area n 0, k .few)) (text-says ls (k .lines) g (k .are))
+
+pub text-slots-back : TextSlotsBack
+text-slots-back area out bytes into new n w d h done z dec fit =
+    let ls = areaLines area n 0 in
+    let k = wrote-text area n out bytes w done z in
+    let b = slots-back area n 0 h (k .fault) in
+    let c : length ls ≡ n = lines-count area n 0 in
+    let s : textOf (take (w .bytes) bytes) ≡ taken ls = text-read-back area out bytes n w h done z in
+    slots-decoded area n ls into new d c (b .1) (sym (ap length (b .1)) ∙ words-long ls (b .0) ∙ ap (λ (j : ℕ). 18 * j) c)
+    (decodes (textOf (take (w .bytes) bytes)) ls into new d (ap (λ (x : Score). x .answer) s) (ap (λ (x : Score). x .lines) s) (omega arith) dec)
+
+pub never-refused-18 : NeverRefused18
+never-refused-18 area out bytes n w h done z e =
+    let k : numberOf answer.Taken ≡ 18 = sym (ap (λ (x : Score). numberOf (x .answer)) (text-read-back area out bytes n w h done z)) ∙ e in omega arith
+
+-- ---- a text that was read
+
+-- a number in text means a float that is held
+meaning-fits : (t : Numeral) → T (fits binary32 (meaning t))
+unfolding meaning
+meaning-fits t = float-fits (t .minus) (wholeOf t) (length (t .decimals))
+
+values-fit : (vs : List (Behind Numeral)) → T (allOf (fits binary32) (map (λ (x : Behind Numeral). meaning (x .element)) vs))
+values-fit [] = tt
+values-fit (x ∷ xs) = and-i (fits binary32 (meaning (x .element))) (allOf (fits binary32) (map (λ (y : Behind Numeral). meaning (y .element)) xs)) (meaning-fits (x .element)) (values-fit xs)
+
+event-fit : (f : Form) → T (allOf (fits binary32) (eventNumbers (form.eventSaid f)))
+event-fit (instr l t n d vs) = and-i (fits binary32 (meaning (d .element))) (allOf (fits binary32) (map (λ (x : Behind Numeral). meaning (x .element)) vs)) (meaning-fits (d .element)) (values-fit vs)
+event-fit (control t l more n x) = and-i (fits binary32 (meaning (x .element))) true (meaning-fits (x .element)) tt
+event-fit (tempo t more x) = and-i (fits binary32 (meaning (x .element))) true (meaning-fits (x .element)) tt
+event-fit (end t more) = tt
+
+said-fit : (w : Written) → T (allOf (fits binary32) (numbersOf (saidBy w)))
+unfolding saidBy
+said-fit w = and-i (fits binary32 (meaning (form.timeSaid (w .form)))) (allOf (fits binary32) (eventNumbers (form.eventSaid (w .form)))) (meaning-fits (form.timeSaid (w .form))) (event-fit (w .form))
+
+form-names : (f : Form) → LawfulForm f → SmallNames (form.eventSaid f)
+unfolding LawfulForm SmallNames
+form-names (instr none t n d vs) h = h .1 .1 .0
+form-names (instr (some l) t n d vs) h = (h .0, h .1 .1 .0)
+form-names (control t none more n x) h = h .1 .1 .0
+form-names (control t (some l) more n x) h = (h .1 .0, h .1 .1 .0)
+form-names (tempo t more x) h = tt
+form-names (end t more) h = tt
+
+-- a line that was read from text is lawful and has a text
+record HasText (l : Line) : Type 0 where
+  is-lawful : T (lawful l)
+  text : Written
+  says : Says l text
+
+line-has : (w : Written) (l : Line) (q : ℕ) → LawfulForm (w .form) → lineSaid (saidBy w) ≡ got l q → HasText l
+unfolding saidBy
+line-has w l q h e =
+    let b = said-back (saidBy w) l q (said-fit w) (form-names (w .form) h) e in
+    go (b .0) (b .1) (every-line-told l (lawful-stored l (b .0)))
+  where
+    go : T (lawful l) → saidOf l ≡ some (saidBy w) → {o : Option Written} → Told l o → HasText l
+    go a s (claims.said v k u n) = record { is-lawful = a; text = v; says = k }
+    go a s (claims.unsaid u n) = absurd (said-not l w h s u)
+
+record Judged (i : ℕ) (s : Said) (ss : List Said) (ls : List Line) : Type 0 where
+  line : Line
+  past : ℕ
+  others : List Line
+  end : ℕ
+  line-there : lineSaid s ≡ got line past
+  others-there : judgedFrom (suc i) ss ≡ score.all others end
+  are : ls ≡ line ∷ others
+
+judged-back : (i : ℕ) (s : Said) (ss : List Said) (ls : List Line) (p : ℕ) → judgedFrom i (s ∷ ss) ≡ score.all ls p → Judged i s ss ls
+unfolding judgedFrom
+judged-back i s ss ls p e = go (lineSaid s) refl (judgedFrom (suc i) ss) refl e
+  where
+    go : (x : Read Line) → lineSaid s ≡ x → (y : Lines) → judgedFrom (suc i) ss ≡ y → lineThen x i (λ q. y) ≡ score.all ls p → Judged i s ss ls
+    go (got l q) f (score.all ms r) g k = record { line = l; past = q; others = ms; end = r; line-there = f; others-there = g; are = let z : l ∷ ms ≡ ls = cc in sym z }
+    go (got l q) f (score.faulty z j) g k = absurd (let n : _≡_ {A = ℕ} 0 1 = cc in omega arith)
+    go (refused z) f y g k = absurd (let n : _≡_ {A = ℕ} 0 1 = cc in omega arith)
+
+record AllHave (ls : List Line) (n : ℕ) : Type 0 where
+  are-lawful : T (allLawful ls)
+  texts : List Written
+  said : AllSay ls texts
+  count : length ls ≡ n
+
+lines-have : (i : ℕ) (ws : List Written) (ls : List Line) (p : ℕ) → LawfulLines ws → judgedFrom i (map saidBy ws) ≡ score.all ls p → AllHave ls (length ws)
+unfolding LawfulLines allLawful
+lines-have i [] ls p h e = subst (λ (x : List Line). AllHave x 0) (let z : [] ≡ ls = unfold judgedFrom in cc in z) (record { are-lawful = tt; texts = []; said = no-lines; count = refl })
+lines-have i (w ∷ ws) ls p h e = go (judged-back i (saidBy w) (map saidBy ws) ls p e) (λ ms q f. lines-have (suc i) ws ms q (h .1) f)
+  where
+    go : Judged i (saidBy w) (map saidBy ws) ls → ((ms : List Line) (q : ℕ) → judgedFrom (suc i) (map saidBy ws) ≡ score.all ms q → AllHave ms (length ws)) → AllHave ls (suc (length ws))
+    go j f =
+        let a = line-has w (j .line) (j .past) (h .0) (j .line-there) in
+        let b = f (j .others) (j .end) (j .others-there) in
+        subst (λ (x : List Line). AllHave x (suc (length ws))) (sym (j .are))
+        (record { are-lawful = and-i (lawful (j .line)) (allLawful (j .others)) (a .is-lawful) (b .are-lawful); texts = a .text ∷ b .texts; said = one-more (a .says) (b .said); count = ap suc (b .count) })
+
+no-fault : (f : Fault) → answerOf f ≡ answer.Taken → ⊥
+unfolding answerOf
+no-fault fault.CutShort e = let z : _≡_ {A = ℕ} 0 1 = cc in omega arith
+no-fault fault.NotCarried e = let z : _≡_ {A = ℕ} 0 1 = cc in omega arith
+no-fault fault.OutOfRange e = let z : _≡_ {A = ℕ} 0 1 = cc in omega arith
+no-fault fault.TooManyValues e = let z : _≡_ {A = ℕ} 0 1 = cc in omega arith
+
+-- so a text that is taken is of such lines
+record TextTaken (s : List ℕ) : Type 0 where
+  lines : List Line
+  is : textOf s ≡ taken lines
+  few : length lines ≤ mostLines
+  have : AllHave lines (length lines)
+
+text-taken : (s : List ℕ) → textOf s .answer ≡ answer.Taken → TextTaken s
+text-taken s e = go (every-text s)
+  where
+    by-lines : (ws : List Written) (x : Lines) → judgedFrom 0 (map saidBy ws) ≡ x → Spells s ws → textOf s ≡ judgement x → TextTaken s
+    by-lines ws (score.all ls p) f k g =
+        let h = lines-have 0 ws ls p (k .lawful) f in
+        record { lines = ls; is = g; few = omega (arith, h .count, k .few); have = record { are-lawful = h .are-lawful; texts = h .texts; said = h .said; count = refl } }
+    by-lines ws (score.faulty z i) f k g = absurd (no-fault z (sym (ap (λ (x : Score). x .answer) g) ∙ e))
+
+    go : Either s → TextTaken s
+    go (spells ws k) = by-lines ws (judgedFrom 0 (map saidBy ws)) refl k (text-read s ws k)
+    go (breaks i b) = absurd (let z : answer.Taken ≡ answer.BadText = sym e ∙ ap (λ (x : Score). x .answer) (text-broken s i b) in let n : _≡_ {A = ℕ} 0 1 = cc in omega arith)
+
+pub read-said : ReadSaid
+read-said s z =
+    let t = text-taken s (zero-is (textOf s .answer) z) in
+    (t .have .texts, subst (λ (ls : List Line). AllSay ls (t .have .texts)) (sym (ap (λ (x : Score). x .lines) (t .is))) (t .have .said))
+
+-- where every line has a text, only the room can lack
+record Tells (out new : List ℕ) (w : call.Written) (bytes : List ℕ) : Type 0 where
+  answers : w ≡ told bytes (length out)
+  leaves : new ≡ left bytes out
+
+told-text : (area : List ℕ) (n : ℕ) (out new : List ℕ) (w : call.Written) (ws : List Written) → areaFault area n 0 .answer ≡ answer.Taken → n ≤ mostLines → textFrom 0 (areaLines area n 0) ≡ all ws
+    → TextDone area n out new w → Tells out new w (textBytes ws)
+unfolding textWritten textLeft
+told-text area n out new w ws f few e d =
+    let a : isTaken (areaFault area n 0 .answer) ≡ true = ap isTaken f in
+    let b = le-leb n mostLines few in
+    record {
+      answers = d .answers ∙ cond-true _ _ a ∙ cond-true _ _ b ∙ ap (λ (t : Text). toldText t (length out)) e;
+      leaves = d .leaves ∙ cond-true _ _ a ∙ cond-true _ _ b ∙ ap (λ (t : Text). leftText t out) e;
+    }
+
+written-again : (s out new : List ℕ) (w : call.Written) (ws : List Written) → textOf (textBytes ws) ≡ textOf s → Tells out new w (textBytes ws) → WrittenAgain s new w
+written-again s out new w ws e t =
+    record { number = go (leb (length (textBytes ws)) (length out)) refl; again = λ z. ap textOf (told-zero (textBytes ws) out new w (t .answers) (t .leaves) z) ∙ e }
+  where
+    go : (b : Bool) → leb (length (textBytes ws)) (length out) ≡ b → RoomNumber (numberOf (w .answer))
+    go true k = subst (λ (x : call.Written). RoomNumber (numberOf (x .answer))) (sym (t .answers ∙ cond-true _ _ k)) written
+    go false k = subst (λ (x : call.Written). RoomNumber (numberOf (x .answer))) (sym (t .answers ∙ cond-false _ _ k)) too-short
+
+pub text-read-again : TextReadAgain
+text-read-again s area words out new d w dec z done =
+    let a = decoded-zero (textOf s) area words d dec z in
+    let t = text-taken s (a .0) in
+    let ls = t .lines in
+    let fit : 18 * length ls ≤ length area = subst (λ (x : List Line). 18 * length x ≤ length area) (ap (λ (x : Score). x .lines) (t .is)) (a .1) in
+    let k = decodes (textOf s) ls area words d (a .0) (ap (λ (x : Score). x .lines) (t .is)) fit dec in
+    let f = held-from ls words (drop (length (areaWords ls)) area) 0 (t .have .are-lawful) (k .words) in
+    let ws = t .have .texts in
+    written-again s out new w ws (text-reads ls ws (t .have .are-lawful) (t .few) (t .have .said) ∙ sym (t .is))
+    (told-text words (length ls) out new w ws (f .0) (t .few) (ap (textFrom 0) (f .1) ∙ says-text 0 (t .have .said)) (subst (λ (n : ℕ). TextDone words n out new w) (ap (λ (x : Decoded). x .count) (k .is)) done))

@@ -1,0 +1,237 @@
+-- A line has one text, or a reason why it has none. Assumes nothing.
+use Prim.Native.Nat.{ℕ, zero, suc}
+use mathlib.Core.Path.{_≡_, refl, sym, ap, ap₂, _∙_, subst}
+use mathlib.Core.Bool.{Bool, true, false, _&&_}
+use mathlib.Core.List.{List, [], _∷_, map}
+use mathlib.Core.Option.{Option, none, some, Option·map, Option·none-ne-some, Option·some-injective}
+use native.Mathlib.Omega.{arith}
+use lib.Dec.{T, eqb}
+use lib.ListN.{length, take}
+use lib.Ieee.{Float, binary32, fits}
+use lib.Ieee.Fits.{and-l, and-r, and-i}
+use Rattle.numerals.specs.Numeral.{Numeral, Lawful, wholeOf, floatOf, meaning}
+use Rattle.numerals.specs.Shortest.{NoText}
+use Rattle.formats.specs.Format.{all}
+use Rattle.score_line.specs.declared.When.{When}
+use Rattle.score_line.specs.declared.When.the-variants.{Timed, Untimed}
+use Rattle.score_line.specs.declared.Event.{Event}
+use Rattle.score_line.specs.declared.Event.the-variants.{Instr, Control, End, Tempo}
+use Rattle.score_line.specs.declared.Line.{Line}
+use Rattle.line_writer.specs.Claims.{isSymbol, storedWhen, storedLabel, storedEvent, stored}
+use Rattle.score_text.specs.Said.{Said}
+use Rattle.score_text.specs.Said as said
+use Rattle.score_text.specs.Form.{Behind, Label, Form, instr, control, tempo, end, Written, LawfulValues, LawfulForm, labelSaid, targetSaid, saidBy}
+use Rattle.score_text.specs.Form as form
+use Rattle.text_writer.specs.NumberText.{numberText}
+use Rattle.text_writer.specs.LineText.{ifThere, timeSaid, eventSaid, saidOf, Single, PlainLabel, PlainTarget, PlainValues, PlainForm, Says, eventNumbers, numbersOf, SomeNoText, here, later, Unsaid, no-time, use-if-late, no-number, single, labelForm, valuesText, eventText, saidText, lineText}
+use Rattle.text_writer.specs.Claims.{Told, EveryLineTold}
+use Rattle.text_writer.specs.Claims as claims
+use Rattle.text_writer.proofs.Numbers.{sign-back, NumberTold, plain, none-of, number-told, number-plain}
+use Rattle.text_writer.proofs.Back.{text-lawful}
+
+-- ---- where there is something
+
+there-is : {A B : Type 0} {o : Option A} {a : A} (k : A → Option B) → o ≡ some a → ifThere o k ≡ k a
+there-is k e = ap (λ o. ifThere o k) e
+
+map-is : {A B : Type 0} {o : Option A} {a : A} (f : A → B) → o ≡ some a → Option·map f o ≡ some (f a)
+map-is f e = ap (Option·map f) e
+
+-- ---- a plain line is found
+
+single-is : {A : Type 0} (x : Behind A) → Single x → single (x .element) ≡ x
+single-is x e i = record { more = sym e i; element = x .element }
+
+abbrev elements : List (Behind Numeral) → List Numeral
+elements [] = []
+elements (x ∷ xs) = x .element ∷ elements xs
+
+values-plain : (vs : List (Behind Numeral)) → PlainValues vs → (valuesText (map (λ (x : Behind Numeral). meaning (x .element)) vs) ≡ some (elements vs)) × (map single (elements vs) ≡ vs)
+unfolding PlainValues valuesText
+values-plain [] h = (refl, refl)
+values-plain (x ∷ xs) h =
+    let k = values-plain xs (h .1) in
+    (there-is _ (number-plain (x .element) (h .0 .1)) ∙ map-is _ (k .0), ap₂ (λ (y : Behind Numeral) (ys : List (Behind Numeral)). y ∷ ys) (single-is x (h .0 .0)) (k .1))
+
+label-plain : (l : Option Label) → PlainLabel l → Option·map labelForm (labelSaid l) ≡ l
+label-plain none h = refl
+label-plain (some l) h = λ i. some (record { name = l .name; before = sym (h .0) i; after = sym (h .1) i })
+
+target-plain : (l : Option (Behind ℕ)) → PlainTarget l → Option·map single (targetSaid l) ≡ l
+target-plain none h = refl
+target-plain (some l) h = ap {B = Option (Behind ℕ)} some (single-is l h)
+
+form-plain : (f : Form) → PlainForm f → ifThere (numberText (meaning (form.timeSaid f))) (eventText (form.eventSaid f)) ≡ some f
+unfolding PlainForm eventText
+form-plain (instr l t n d vs) h =
+    let k = values-plain vs (h .1 .1 .1 .1) in
+    there-is _ (number-plain t (h .1 .0)) ∙ there-is _ (number-plain (d .element) (h .1 .1 .1 .0 .1)) ∙ map-is _ (k .0)
+    ∙ (λ i. some (instr (label-plain l (h .0) i) t (single-is n (h .1 .1 .0) i) (single-is d (h .1 .1 .1 .0 .0) i) (k .1 i)))
+form-plain (control t l more n x) h =
+    there-is _ (number-plain t (h .0)) ∙ map-is _ (number-plain (x .element) (h .1 .1 .1 .1 .1))
+    ∙ (λ i. some (control t (target-plain l (h .1 .0) i) (sym (h .1 .1 .0) i) (single-is n (h .1 .1 .1 .0) i) (single-is x (h .1 .1 .1 .1 .0) i)))
+form-plain (tempo t more x) h =
+    there-is _ (number-plain t (h .0)) ∙ map-is _ (number-plain (x .element) (h .1 .1 .1)) ∙ (λ i. some (tempo t (sym (h .1 .0) i) (single-is x (h .1 .1 .0) i)))
+form-plain (end t more) h = there-is _ (number-plain t (h .0)) ∙ (λ i. some (end t (sym (h .1) i)))
+
+pub line-found : (l : Line) (w : Written) → Says l w → lineText l ≡ some w
+unfolding lineText saidText saidBy
+line-found l w h = there-is saidText (h .is-said) ∙ map-is _ (form-plain (w .form) (h .is-plain))
+
+-- ---- what is found is plain
+
+data ValuesTold (xs : List Float) : Option (List Numeral) → Type 0 where
+  has : (ts : List Numeral) → PlainValues (map single ts) → map (λ (x : Behind Numeral). meaning (x .element)) (map single ts) ≡ xs → ValuesTold xs (some ts)
+  lacks : SomeNoText xs → ValuesTold xs none
+
+values-told : (xs : List Float) → T (all (fits binary32) xs) → ValuesTold xs (valuesText xs)
+unfolding PlainValues valuesText
+values-told [] h = has [] tt refl
+values-told (x ∷ xs) h =
+    go (number-told x (and-l (fits binary32 x) (all (fits binary32) xs) h)) (values-told xs (and-r (fits binary32 x) (all (fits binary32) xs) h))
+  where
+    go : {o : Option Numeral} {r : Option (List Numeral)} → NumberTold x o → ValuesTold xs r → ValuesTold (x ∷ xs) (ifThere o (λ t. Option·map (λ ts. t ∷ ts) r))
+    go (plain t p e) (has ts q f) = has (t ∷ ts) ((refl, p), q) (ap₂ (λ (y : Float) (ys : List Float). y ∷ ys) e f)
+    go (plain t p e) (lacks f) = lacks (later f)
+    go (none-of n) r = lacks (here n)
+
+data FormTold (time : Float) (e : said.Event) : Option Form → Type 0 where
+  has : (f : Form) → PlainForm f → meaning (form.timeSaid f) ≡ time → form.eventSaid f ≡ e → FormTold time e (some f)
+  lacks : SomeNoText (time ∷ eventNumbers e) → FormTold time e none
+
+some-back : (l : Option ℕ) → labelSaid (Option·map labelForm l) ≡ l
+some-back none = refl
+some-back (some n) = refl
+
+target-back : (l : Option ℕ) → targetSaid (Option·map single l) ≡ l
+target-back none = refl
+target-back (some n) = refl
+
+plain-label : (l : Option ℕ) → PlainLabel (Option·map labelForm l)
+plain-label none = tt
+plain-label (some n) = (refl, refl)
+
+plain-target : (l : Option ℕ) → PlainTarget (Option·map single l)
+plain-target none = tt
+plain-target (some n) = refl
+
+form-told : (time : Float) (e : said.Event) → T (all (fits binary32) (time ∷ eventNumbers e)) → FormTold time e (ifThere (numberText time) (eventText e))
+unfolding PlainForm eventText
+form-told time (said.instr l name d vs) h =
+    let ns = all (fits binary32) vs in
+    let k = and-r (fits binary32 time) (fits binary32 d && ns) h in
+    go (number-told time (and-l (fits binary32 time) (fits binary32 d && ns) h)) (number-told d (and-l (fits binary32 d) ns k)) (values-told vs (and-r (fits binary32 d) ns k))
+  where
+    go : {o r : Option Numeral} {q : Option (List Numeral)} → NumberTold time o → NumberTold d r → ValuesTold vs q
+        → FormTold time (said.instr l name d vs) (ifThere o (λ t. ifThere r (λ x. Option·map (λ xs. instr (Option·map labelForm l) t (single name) (single x) (map single xs)) q)))
+    go (plain t p e) (plain x u f) (has xs w g) =
+        has (instr (Option·map labelForm l) t (single name) (single x) (map single xs)) (plain-label l, (p, (refl, ((refl, u), w)))) e (λ i. said.instr (some-back l i) name (f i) (g i))
+    go (plain t p e) (plain x u f) (lacks n) = lacks (later (later n))
+    go (plain t p e) (none-of n) q = lacks (later (here n))
+    go (none-of n) r q = lacks (here n)
+form-told time (said.control l name d) h =
+    let k = and-r (fits binary32 time) (fits binary32 d && true) h in
+    go (number-told time (and-l (fits binary32 time) (fits binary32 d && true) h)) (number-told d (and-l (fits binary32 d) true k))
+  where
+    go : {o r : Option Numeral} → NumberTold time o → NumberTold d r
+        → FormTold time (said.control l name d) (ifThere o (λ t. Option·map (λ y. control t (Option·map single l) 0 (single name) (single y)) r))
+    go (plain t p e) (plain x u f) = has (control t (Option·map single l) 0 (single name) (single x)) (p, (plain-target l, (refl, (refl, (refl, u))))) e (λ i. said.control (target-back l i) name (f i))
+    go (plain t p e) (none-of n) = lacks (later (here n))
+    go (none-of n) r = lacks (here n)
+form-told time (said.tempo d) h =
+    let k = and-r (fits binary32 time) (fits binary32 d && true) h in
+    go (number-told time (and-l (fits binary32 time) (fits binary32 d && true) h)) (number-told d (and-l (fits binary32 d) true k))
+  where
+    go : {o r : Option Numeral} → NumberTold time o → NumberTold d r → FormTold time (said.tempo d) (ifThere o (λ t. Option·map (λ y. tempo t 0 (single y)) r))
+    go (plain t p e) (plain x u f) = has (tempo t 0 (single x)) (p, (refl, (refl, u))) e (λ i. said.tempo (f i))
+    go (plain t p e) (none-of n) = lacks (later (here n))
+    go (none-of n) r = lacks (here n)
+form-told time said.end h = go (number-told time (and-l (fits binary32 time) true h))
+  where
+    go : {o : Option Numeral} → NumberTold time o → FormTold time said.end (ifThere o (λ t. some (end t 0)))
+    go (plain t p e) = has (end t 0) (p, refl) e refl
+    go (none-of n) = lacks (here n)
+
+-- ---- a lawful text lacks no number
+
+lawful-has : (t : Numeral) → Lawful t → NoText (meaning t) → ⊥
+unfolding meaning
+lawful-has t h n = n (wholeOf t) (length (t .decimals)) (h .below) (h .few) (ap (λ (s : Bool). floatOf s (wholeOf t) (length (t .decimals))) (sign-back t h))
+
+none-lacks : SomeNoText [] → ⊥
+none-lacks n = go n refl
+  where
+    go : {xs : List Float} → SomeNoText xs → xs ≡ [] → ⊥
+    go (here n) e = let z : _≡_ {A = ℕ} 0 1 = cc in omega arith
+    go (later n) e = let z : _≡_ {A = ℕ} 0 1 = cc in omega arith
+
+neither : {x : Float} {xs : List Float} → (NoText x → ⊥) → (SomeNoText xs → ⊥) → SomeNoText (x ∷ xs) → ⊥
+neither f g (here n) = f n
+neither f g (later n) = g n
+
+values-have : (vs : List (Behind Numeral)) → LawfulValues vs → SomeNoText (map (λ (x : Behind Numeral). meaning (x .element)) vs) → ⊥
+unfolding LawfulValues
+values-have [] h = none-lacks
+values-have (x ∷ xs) h = neither (lawful-has (x .element) (h .0)) (values-have xs (h .1))
+
+form-has : (f : Form) → LawfulForm f → SomeNoText (meaning (form.timeSaid f) ∷ eventNumbers (form.eventSaid f)) → ⊥
+unfolding LawfulForm
+form-has (instr l t n d vs) h = neither (lawful-has t (h .1 .0)) (neither (lawful-has (d .element) (h .1 .1 .1 .0)) (values-have vs (h .1 .1 .1 .1)))
+form-has (control t l more n x) h = neither (lawful-has t (h .0)) (neither (lawful-has (x .element) (h .1 .1 .1)) none-lacks)
+form-has (tempo t more x) h = neither (lawful-has t (h .0)) (neither (lawful-has (x .element) (h .1)) none-lacks)
+form-has (end t more) h = neither (lawful-has t h) none-lacks
+
+-- ---- a line, part by part
+
+all-take : (n : ℕ) (xs : List Float) → T (all (fits binary32) xs) → T (all (fits binary32) (take n xs))
+all-take zero xs h = tt
+all-take (suc n) [] h = tt
+all-take (suc n) (x ∷ xs) h =
+    and-i (fits binary32 x) (all (fits binary32) (take n xs)) (and-l (fits binary32 x) (all (fits binary32) xs) h) (all-take n xs (and-r (fits binary32 x) (all (fits binary32) xs) h))
+
+event-fits : (e : Event) (n : ℕ) (xs : List Float) → T (storedEvent e) → T (all (fits binary32) xs) → T (all (fits binary32) (eventNumbers (eventSaid e n xs)))
+event-fits (Instr l i d) n xs k m =
+    and-i (fits binary32 d) (all (fits binary32) (take n xs)) (and-r (isSymbol i) (fits binary32 d) (and-r (storedLabel l) (isSymbol i && fits binary32 d) k)) (all-take n xs m)
+event-fits (Control l v x) n xs k m = and-i (fits binary32 x) true (and-r (isSymbol v) (fits binary32 x) (and-r (isSymbol l) (isSymbol v && fits binary32 x) k)) tt
+event-fits End n xs k m = tt
+event-fits (Tempo x) n xs k m = and-i (fits binary32 x) true k tt
+
+abbrev saidWhen : Line → When → Option Said
+saidWhen l w = Option·map (λ t. record { priority = l .priority; time = t; event = eventSaid (l .event) (l .count) (l .values) }) (timeSaid w)
+
+-- a text and a reason against it exclude each other
+pub said-not : (l : Line) (w : Written) → LawfulForm (w .form) → saidOf l ≡ some (saidBy w) → Unsaid l → ⊥
+unfolding saidBy
+said-not l w h k (no-time e) = Option·none-ne-some (saidBy w) (sym (ap (λ (x : When). saidWhen l x) e) ∙ k)
+said-not l w h k (use-if-late t e) = Option·none-ne-some (saidBy w) (sym (ap (λ (x : When). saidWhen l x) e) ∙ k)
+said-not l w h k (no-number s e n) = form-has (w .form) h (subst (λ (z : Said). SomeNoText (numbersOf z)) (Option·some-injective s (saidBy w) (sym e ∙ k)) n)
+
+found-said : (l : Line) (w : Written) → T (stored l) → lineText l ≡ some w → Says l w → Told l (lineText l)
+found-said l w g e h =
+    subst (Told l) (sym e) (claims.said w h (λ v s. Option·some-injective v w (sym (line-found l v s) ∙ e)) (said-not l w (text-lawful l w g h) (h .is-said)))
+
+found-none : (l : Line) → T (stored l) → lineText l ≡ none → Unsaid l → Told l (lineText l)
+found-none l g e u = subst (Told l) (sym e) (claims.unsaid u (λ v s. said-not l v (text-lawful l v g s) (s .is-said) u))
+
+module _ (p : Bool) (e : Event) (n : ℕ) (xs : List Float) where
+  abbrev at : When → Line
+  at w = record { when = w; priority = p; event = e; count = n; values = xs }
+
+  told-parts : (w : When) → T (stored (at w)) → T (storedWhen w) → T (storedEvent e) → T (all (fits binary32) xs) → Told (at w) (lineText (at w))
+  told-parts Untimed g h k m = found-none (at Untimed) g (unfold lineText in refl) (no-time refl)
+  told-parts (Timed true t) g h k m = found-none (at (Timed true t)) g (unfold lineText in refl) (use-if-late t refl)
+  told-parts (Timed false t) g h k m = go (form-told t (eventSaid e n xs) (and-i (fits binary32 t) (all (fits binary32) (eventNumbers (eventSaid e n xs))) h (event-fits e n xs k m))) (unfold lineText saidText in refl)
+    where
+      go : {o : Option Form} → FormTold t (eventSaid e n xs) o → lineText (at (Timed false t)) ≡ Option·map (λ f. record { priority = p; form = f }) o → Told (at (Timed false t)) (lineText (at (Timed false t)))
+      go (has f z a b) q =
+          found-said (at (Timed false t)) (record { priority = p; form = f }) g q (unfold saidBy in record { is-said = λ i. some (record { priority = p; time = sym a i; event = sym b i }); is-plain = z })
+      go (lacks z) q = found-none (at (Timed false t)) g q (no-number (record { priority = p; time = t; event = eventSaid e n xs }) refl z)
+
+pub every-line-told : EveryLineTold
+every-line-told l h =
+    let w = storedWhen (l .when) in
+    let e = storedEvent (l .event) in
+    let b = eqb (length (l .values)) 8 in
+    let v = all (fits binary32) (l .values) in
+    let k = and-r w (e && (b && v)) h in
+    told-parts (l .priority) (l .event) (l .count) (l .values) (l .when) h (and-l w (e && (b && v)) h) (and-l e (b && v) k) (and-r b v (and-r e (b && v) k))

@@ -1,0 +1,253 @@
+-- The two passes over the lines of an area. Assumes nothing.
+use Prim.Native.Nat.{ℕ, suc, _+_, _-_, _*_, _≤_, _<_}
+use mathlib.Core.Path.{_≡_, refl, sym, ap, ap₂, _∙_, subst}
+use mathlib.Core.Bool.{true, false, true≢false}
+use mathlib.Core.List.{List, [], _∷_, _++_, append-assoc, append-nil}
+use mathlib.Core.Option.{Option, none, some, Option·map}
+use native.Mathlib.Nat.{add-assoc, add-zero, zero-add}
+use native.Mathlib.Numerals.{add-one}
+use native.Mathlib.Omega.{arith}
+use borrow.Author.Tests.{le-leb}
+use lib.ListN.{length, getD, set, take, drop, length-append, length-drop}
+use lib.Seq.{paste, paste-zero, paste-suc, length-paste, take-at, drop-at, drop-drop}
+use Rattle.laws.proofs.Choice.{cond-true}
+use Rattle.number_writer.specs.Push.{lineRoom, emptyText, pushAll, contentOf}
+use Rattle.number_writer.specs.declared.LineText.{LineText}
+use Rattle.number_writer.proofs.Pushing.{push-appends}
+use Rattle.score_line.specs.declared.Line.{Line}
+use Rattle.score_line.specs.declared.LineRead.{LineRead}
+use Rattle.score_text.specs.Form as form
+use Rattle.score_text.specs.Form.{lineBytes, textBytes}
+use Rattle.score_writer.specs.Slots.{slotRead, areaLines}
+use Rattle.text_writer.specs.LineText.{lineText}
+use Rattle.text_writer.specs.Drafts.{Holds}
+use Rattle.text_writer.specs.Writing.{Text, all, lacking, before, textFrom, leftText}
+use Rattle.text_writer.specs.Passes.{measuredPast, Measurable, Layable, Fits, Put}
+use Rattle.text_writer.specs.declared.Draft.{Draft}
+
+-- ---- a draft and its line
+
+-- its bytes stand in the code's line of text
+record Whole (t : LineText) (bytes : List ℕ) : Type 0 where
+  content : contentOf t ≡ bytes
+  len : t .len ≡ length bytes
+  room : length (t .bytes) ≡ lineRoom
+
+whole : (t : LineText) (bytes : List ℕ) → t ≡ pushAll emptyText bytes → length bytes ≤ lineRoom → Whole t bytes
+whole t bytes e h =
+    let k : 0 + length bytes ≡ length bytes = zero-add (length bytes) in
+    let a = push-appends emptyText bytes refl (subst (λ (j : ℕ). j ≤ lineRoom) (sym k) h) in
+    record { content = ap contentOf e ∙ a .content; len = ap (λ (u : LineText). u .len) e ∙ a .len ∙ k; room = ap (λ (u : LineText). length (u .bytes)) e ∙ a .room }
+
+record There (l : Line) (d : Draft) : Type 0 where
+  written : form.Written
+  found : lineText l ≡ some written
+  text : d .text ≡ pushAll emptyText (lineBytes written)
+
+there : (l : Line) (d : Draft) → Holds d (Option·map lineBytes (lineText l)) → d .there ≡ true → There l d
+there l d h e = go (lineText l) refl h
+  where
+    go : (o : Option form.Written) → lineText l ≡ o → Holds d (Option·map lineBytes o) → There l d
+    go none f k = absurd (true≢false (sym e ∙ k))
+    go (some w) f k = record { written = w; found = f; text = k .1 }
+
+lacks : (l : Line) (d : Draft) → Holds d (Option·map lineBytes (lineText l)) → d .there ≡ false → lineText l ≡ none
+lacks l d h e = go (lineText l) refl h
+  where
+    go : (o : Option form.Written) → lineText l ≡ o → Holds d (Option·map lineBytes o) → lineText l ≡ none
+    go none f k = f
+    go (some w) f k = absurd (true≢false (sym (k .0) ∙ e))
+
+-- ---- the lines that are left
+
+lines-left : (area : List ℕ) (n i : ℕ) → i < n → areaLines area (n - i) i ≡ slotRead area i .line ∷ areaLines area (n - (i + 1)) (i + 1)
+unfolding areaLines
+lines-left area n i h =
+    let k : n - i ≡ suc (n - (i + 1)) = omega arith in
+    ap (λ (j : ℕ). areaLines area j i) k ∙ ap (λ (j : ℕ). slotRead area i .line ∷ areaLines area (n - (i + 1)) j) (sym (add-one i))
+
+text-left : (area : List ℕ) (n i : ℕ) → i < n → textFrom i (areaLines area (n - i) i) ≡ before (lineText (slotRead area i .line)) i (textFrom (i + 1) (areaLines area (n - (i + 1)) (i + 1)))
+unfolding textFrom
+text-left area n i h =
+    ap (textFrom i) (lines-left area n i h) ∙ ap (λ (j : ℕ). before (lineText (slotRead area i .line)) i (textFrom j (areaLines area (n - (i + 1)) (i + 1)))) (sym (add-one i))
+
+text-end : (area : List ℕ) (n i : ℕ) → n ≤ i → textFrom i (areaLines area (n - i) i) ≡ all []
+unfolding textFrom areaLines
+text-end area n i h = let k : n - i ≡ 0 = omega arith in ap (λ (j : ℕ). textFrom i (areaLines area j i)) k
+
+text-start : (area : List ℕ) (n : ℕ) → textFrom 0 (areaLines area (n - 0) 0) ≡ textFrom 0 (areaLines area n 0)
+text-start area n = let k : n - 0 ≡ n = omega arith in ap (λ (j : ℕ). textFrom 0 (areaLines area j 0)) k
+
+-- ---- measuring
+
+one-more : (total i : ℕ) (w : form.Written) (t : Text) → measuredPast (total + length (lineBytes w)) t ≡ measuredPast total (before (some w) i t)
+unfolding textBytes
+one-more total i w (all ws) =
+    ap (λ (k : ℕ). record { there = true; line = 0; bytes = k }) (add-assoc total (length (lineBytes w)) (length (textBytes ws)) ∙ ap (λ (k : ℕ). total + k) (sym (length-append (lineBytes w) (textBytes ws))))
+one-more total i w (lacking j) = refl
+
+module _ (area : List ℕ) (n : ℕ) where
+  pub record Counted (total i : ℕ) : Type 0 where
+    pub upto : i ≤ n
+    pub bound : total ≤ lineRoom * i
+    pub same : measuredPast total (textFrom i (areaLines area (n - i) i)) ≡ measuredPast 0 (textFrom 0 (areaLines area n 0))
+
+  pub count-start : Counted 0 0
+  count-start = record { upto = omega arith; bound = omega arith; same = ap (measuredPast 0) (text-start area n) }
+
+  pub count-more : (total i : ℕ) {r : LineRead} (d : Draft) → Measurable area n → Counted total i → i < n → r ≡ slotRead area i → Holds d (Option·map lineBytes (lineText (r .line))) → d .there ≡ true
+      → Counted (total + d .text .len) (i + 1)
+  count-more total i {r} d m c h e k f =
+      let x = slotRead area i .line in
+      let t = there x d (subst (λ (y : LineRead). Holds d (Option·map lineBytes (lineText (y .line)))) e k) f in
+      let w = t .written in
+      let s : length (lineBytes w) ≤ lineRoom = m .short i h w (t .found) in
+      let p = whole (d .text) (lineBytes w) (t .text) s in
+      record {
+        upto = omega arith;
+        bound = omega (arith, c .bound, p .len);
+        same =
+            ap (λ (j : ℕ). measuredPast (total + j) (textFrom (i + 1) (areaLines area (n - (i + 1)) (i + 1)))) (p .len)
+            ∙ one-more total i w (textFrom (i + 1) (areaLines area (n - (i + 1)) (i + 1)))
+            ∙ ap (λ (o : Option form.Written). measuredPast total (before o i (textFrom (i + 1) (areaLines area (n - (i + 1)) (i + 1))))) (sym (t .found))
+            ∙ ap (measuredPast total) (sym (text-left area n i h)) ∙ c .same;
+      }
+
+  -- the sum has a number
+  pub count-room : (total i : ℕ) {r : LineRead} (d : Draft) → Measurable area n → Counted total i → i < n → r ≡ slotRead area i → Holds d (Option·map lineBytes (lineText (r .line))) → d .there ≡ true
+      → total + d .text .len < 18446744073709551616
+  count-room total i d m c h e k f = omega (arith, count-more total i d m c h e k f .bound, m .few)
+
+  pub count-stop : (total i : ℕ) {r : LineRead} (d : Draft) → Counted total i → i < n → r ≡ slotRead area i → Holds d (Option·map lineBytes (lineText (r .line))) → d .there ≡ false
+      → record { there = false; line = i; bytes = 0 } ≡ measuredPast 0 (textFrom 0 (areaLines area n 0))
+  count-stop total i {r} d c h e k f =
+      let z = lacks (slotRead area i .line) d (subst (λ (y : LineRead). Holds d (Option·map lineBytes (lineText (y .line)))) e k) f in
+      sym (ap (λ (o : Option form.Written). measuredPast total (before o i (textFrom (i + 1) (areaLines area (n - (i + 1)) (i + 1))))) z) ∙ ap (measuredPast total) (sym (text-left area n i h)) ∙ c .same
+
+  pub count-end : (total i : ℕ) → Counted total i → n ≤ i → record { there = true; line = 0; bytes = total } ≡ measuredPast 0 (textFrom 0 (areaLines area n 0))
+  unfolding textBytes
+  count-end total i c h = ap (λ (k : ℕ). record { there = true; line = 0; bytes = k }) (sym (add-zero total)) ∙ ap (measuredPast total) (sym (text-end area n i h)) ∙ c .same
+
+-- ---- one line put at a position
+
+pub record Copied (old : List ℕ) (at len : ℕ) (bytes new : List ℕ) (i : ℕ) : Type 0 where
+  pub upto : i ≤ len
+  pub is : new ≡ paste old at bytes i
+
+module _ (old : List ℕ) (at : ℕ) (t : LineText) where
+  pub copy-start : Copied old at (t .len) (t .bytes) old 0
+  copy-start = record { upto = omega arith; is = paste-zero old at (t .bytes) }
+
+  pub copy-length : {new : List ℕ} {i : ℕ} → Fits (length old) at t → Copied old at (t .len) (t .bytes) new i → length new ≡ length old
+  copy-length {new} {i} f c = ap length (c .is) ∙ length-paste old at (t .bytes) i (omega (arith, f .within, c .upto)) (omega (arith, f .whole, f .long, c .upto))
+
+  pub copy-room : {new : List ℕ} (i : ℕ) → Fits (length old) at t → Copied old at (t .len) (t .bytes) new i → i < t .len → at + i < length new
+  copy-room i f c h = omega (arith, f .within, copy-length f c)
+
+  pub copy-more : {new : List ℕ} (i z : ℕ) → Fits (length old) at t → Copied old at (t .len) (t .bytes) new i → i < t .len
+      → Copied old at (t .len) (t .bytes) (set new (at + i) (getD (t .bytes) i z)) (i + 1)
+  copy-more i z f c h =
+      record {
+        upto = omega arith;
+        is = ap (λ (l : List ℕ). set l (at + i) (getD (t .bytes) i z)) (c .is) ∙ paste-suc old at (t .bytes) i z (omega (arith, f .within)) (omega (arith, f .whole, f .long))
+            ∙ ap (paste old at (t .bytes)) (sym (add-one i));
+      }
+
+  pub copy-end : {new : List ℕ} (i : ℕ) → Copied old at (t .len) (t .bytes) new i → t .len ≤ i → Put old at t new (at + t .len)
+  copy-end i c h = let k : i ≡ t .len = omega (arith, c .upto) in record { past = refl; stands = c .is ∙ ap (paste old at (t .bytes)) k ∙ append-assoc (take at old) (contentOf t) (drop (at + t .len) old) }
+
+-- ---- the lines put one behind the other
+
+bytes-append : (us vs : List form.Written) → textBytes (us ++ vs) ≡ textBytes us ++ textBytes vs
+unfolding textBytes
+bytes-append [] vs = refl
+bytes-append (u ∷ us) vs = ap (λ (b : List ℕ). lineBytes u ++ b) (bytes-append us vs) ∙ sym (append-assoc (lineBytes u) (textBytes us) (textBytes vs))
+
+bytes-snoc : (us : List form.Written) (w : form.Written) → textBytes (us ++ (w ∷ [])) ≡ textBytes us ++ lineBytes w
+unfolding textBytes
+bytes-snoc us w = bytes-append us (w ∷ []) ∙ ap (λ (b : List ℕ). textBytes us ++ b) (append-nil (lineBytes w))
+
+pub all-same : {us vs : List form.Written} → all us ≡ all vs → us ≡ vs
+all-same e = cc
+
+-- a text is whole only where its first line has one
+record First (o : Option form.Written) (t : Text) (ws : List form.Written) : Type 0 where
+  one : form.Written
+  others : List form.Written
+  found : o ≡ some one
+  rest : t ≡ all others
+  are : ws ≡ one ∷ others
+
+first-of : (o : Option form.Written) (i : ℕ) (t : Text) (ws : List form.Written) → before o i t ≡ all ws → First o t ws
+first-of none i t ws e = absurd (let z : _≡_ {A = ℕ} 0 1 = cc in omega arith)
+first-of (some w) i (all vs) ws e = record { one = w; others = vs; found = refl; rest = refl; are = sym (all-same e) }
+first-of (some w) i (lacking j) ws e = absurd (let z : _≡_ {A = ℕ} 0 1 = cc in omega arith)
+
+module _ (area : List ℕ) (n : ℕ) (first : List ℕ) where
+  pub record Laying (s : List ℕ) (p i : ℕ) : Type 0 where
+    pub upto : i ≤ n
+    pub done : List form.Written
+    pub rest : List form.Written
+    pub are : textFrom 0 (areaLines area n 0) ≡ all (done ++ rest)
+    pub left : textFrom i (areaLines area (n - i) i) ≡ all rest
+    pub past : p ≡ length (textBytes done)
+    pub stands : s ≡ textBytes done ++ drop p first
+
+  pub lay-start : Layable area n (length first) → Laying first 0 0
+  unfolding textBytes
+  lay-start h = record { upto = omega arith; done = []; rest = h .lines; are = h .are; left = text-start area n ∙ h .are; past = refl; stands = refl }
+
+  module _ {s : List ℕ} {p i : ℕ} (h : Layable area n (length first)) (c : Laying s p i) where
+    room : length (textBytes (c .done)) + length (textBytes (c .rest)) ≤ length first
+    room =
+        let e : h .lines ≡ c .done ++ c .rest = all-same (sym (h .are) ∙ c .are) in
+        subst (λ (k : ℕ). k ≤ length first) (ap (λ (ws : List form.Written). length (textBytes ws)) e ∙ ap length (bytes-append (c .done) (c .rest)) ∙ length-append (textBytes (c .done)) (textBytes (c .rest))) (h .within)
+
+    pub lay-length : length s ≡ length first
+    lay-length = ap length (c .stands) ∙ length-append (textBytes (c .done)) (drop p first) ∙ ap (λ (k : ℕ). length (textBytes (c .done)) + k) (length-drop p first) ∙ omega (arith, room, c .past)
+
+    module _ (below : i < n) {r : LineRead} (d : Draft) (read : r ≡ slotRead area i) (holds : Holds d (Option·map lineBytes (lineText (r .line)))) where
+      next : First (lineText (slotRead area i .line)) (textFrom (i + 1) (areaLines area (n - (i + 1)) (i + 1))) (c .rest)
+      next = first-of (lineText (slotRead area i .line)) i (textFrom (i + 1) (areaLines area (n - (i + 1)) (i + 1))) (c .rest) (sym (text-left area n i below) ∙ c .left)
+
+      line : Whole (d .text) (lineBytes (next .one))
+      line =
+          let w = next .one in
+          let k : Holds d (Option·map lineBytes (some w)) = subst (λ (o : Option form.Written). Holds d (Option·map lineBytes o)) (ap (λ (x : LineRead). lineText (x .line)) read ∙ next .found) holds in
+          whole (d .text) (lineBytes w) (k .1) (h .measurable .short i below w (next .found))
+
+      bytes-left : length (textBytes (c .rest)) ≡ length (lineBytes (next .one)) + length (textBytes (next .others))
+      unfolding textBytes
+      bytes-left = ap (λ (ws : List form.Written). length (textBytes ws)) (next .are) ∙ length-append (lineBytes (next .one)) (textBytes (next .others))
+
+      pub lay-fits : Fits (length s) p (d .text)
+      lay-fits =
+          record { whole = subst (λ (k : ℕ). k ≤ lineRoom) (sym (line .len)) (h .measurable .short i below (next .one) (next .found)); long = line .room; within = omega (arith, line .len, bytes-left, room, lay-length, c .past) }
+
+      pub lay-more : {t : List ℕ} {q : ℕ} → Put s p (d .text) t q → Laying t q (i + 1)
+      lay-more {t} {q} k =
+          let w = next .one in
+          let b = textBytes (c .done) in
+          let len = d .text .len in
+          let e : textBytes (c .done ++ (w ∷ [])) ≡ b ++ lineBytes w = bytes-snoc (c .done) w in
+          let f : take p s ≡ b = ap (take p) (c .stands) ∙ take-at b (drop p first) p (sym (c .past)) in
+          let g : drop (p + len) s ≡ drop (p + len) first =
+          sym (drop-drop len p s) ∙ ap (λ (x : List ℕ). drop len (drop p x)) (c .stands) ∙ ap (drop len) (drop-at b (drop p first) p (sym (c .past))) ∙ drop-drop len p first in
+          record {
+            upto = omega arith;
+            done = c .done ++ (w ∷ []);
+            rest = next .others;
+            are = c .are ∙ ap all (ap (λ (ws : List form.Written). c .done ++ ws) (next .are) ∙ sym (append-assoc (c .done) (w ∷ []) (next .others)));
+            left = next .rest;
+            past = k .past ∙ ap₂ (λ (x y : ℕ). x + y) (c .past) (line .len) ∙ sym (ap length e ∙ length-append b (lineBytes w));
+            stands =
+                k .stands ∙ ap₂ (λ (x y : List ℕ). x ++ (contentOf (d .text) ++ y)) f g ∙ ap (λ (x : List ℕ). b ++ (x ++ drop (p + len) first)) (line .content)
+                ∙ sym (append-assoc b (lineBytes w) (drop (p + len) first)) ∙ ap₂ (λ (x : List ℕ) (j : ℕ). x ++ drop j first) (sym e) (sym (k .past));
+          }
+
+    pub lay-end : n ≤ i → s ≡ leftText (textFrom 0 (areaLines area n 0)) first
+    lay-end m =
+        let z : c .rest ≡ [] = all-same (sym (c .left) ∙ text-end area n i m) in
+        let e : textFrom 0 (areaLines area n 0) ≡ all (c .done) = c .are ∙ ap all (ap (λ (ws : List form.Written). c .done ++ ws) z ∙ append-nil (c .done)) in
+        let b = textBytes (c .done) in
+        c .stands ∙ ap (λ (k : ℕ). b ++ drop k first) (c .past) ∙ sym (cond-true _ _ (le-leb (length b) (length first) (omega (arith, room)))) ∙ sym (ap (λ (t : Text). leftText t first) e)

@@ -1,0 +1,99 @@
+-- A lawful line is one that the code can hold. Assumes nothing.
+use Prim.Native.Nat.{ℕ, zero, suc}
+use mathlib.Core.Bool.{_&&_}
+use mathlib.Core.List.{List, [], _∷_}
+use lib.Dec.{T, eqb}
+use lib.ListN.{length, take, drop}
+use lib.Ieee.{Float, binary32, fits, toBits}
+use lib.Ieee.Fits.{and-l, and-r, and-i}
+use Rattle.formats.specs.Format.{all}
+use Rattle.formats.specs.Format as F
+use Rattle.formats.specs.Description.{format, flag}
+use Rattle.score_line.specs.LineFormat.{eventParts, kindOf, valuesOf, countOf, used, filled, inRange, float, number, timed, when, label, kind, labelled, body, counted, values, afterTime, parts, isZero, line, lawful}
+use Rattle.score_line.specs.declared.When.{When}
+use Rattle.score_line.specs.declared.When.the-variants.{Timed, Untimed}
+use Rattle.score_line.specs.declared.Label.{Label}
+use Rattle.score_line.specs.declared.Label.the-variants.{Unlabelled, Labelled}
+use Rattle.score_line.specs.declared.Range.{Range}
+use Rattle.score_line.specs.declared.Range.the-variants as range
+use Rattle.score_line.specs.declared.Event.{Event}
+use Rattle.score_line.specs.declared.Event.the-variants.{Instr, Control, End, Tempo}
+use Rattle.score_line.specs.declared.Line.{Line}
+use Rattle.line_writer.specs.Claims.{isSymbol, storedWhen, storedLabel, storedEvent, stored}
+
+-- a float in its range
+float-stored : (r : Range) (x : Float) → T (format (float r) .lawful x) → T (fits binary32 x)
+unfolding float
+float-stored r x h = and-l (fits binary32 x) (inRange r (toBits binary32 x)) h
+
+when-stored : (w : When) → T (format when .lawful w) → T (storedWhen w)
+unfolding when timed
+when-stored Untimed h = tt
+when-stored (Timed late t) h = float-stored range.Time t (and-r (format flag .lawful late) (format (float range.Time) .lawful t) h)
+
+label-stored : (l : Label) → T (format label .lawful l) → T (storedLabel l)
+unfolding label F.small
+label-stored Unlabelled h = tt
+label-stored (Labelled n) h = h
+
+event-stored : (e : Event) → T (format (body (kindOf e)) .lawful (eventParts e .1)) → T (storedEvent e)
+unfolding body labelled F.small
+event-stored (Instr l i d) h =
+    let f = format (float range.Duration) .lawful d in
+    let k = and-r (format label .lawful l) (isSymbol i && f) h in
+    and-i (storedLabel l) (isSymbol i && fits binary32 d) (label-stored l (and-l (format label .lawful l) (isSymbol i && f) h))
+    (and-i (isSymbol i) (fits binary32 d) (and-l (isSymbol i) f k) (float-stored range.Duration d (and-r (isSymbol i) f k)))
+event-stored (Control l v x) h =
+    let f = format (float range.Value) .lawful x in
+    let k = and-r (isSymbol l) (isSymbol v && f) h in
+    and-i (isSymbol l) (isSymbol v && fits binary32 x) (and-l (isSymbol l) (isSymbol v && f) h)
+    (and-i (isSymbol v) (fits binary32 x) (and-l (isSymbol v) f k) (float-stored range.Value x (and-r (isSymbol v) f k)))
+event-stored End h = tt
+event-stored (Tempo x) h = float-stored range.Tempo x h
+
+-- zeros behind the values in use
+zeros-stored : (xs : List Float) → T (all isZero xs) → T (all (fits binary32) xs)
+unfolding isZero
+zeros-stored [] h = tt
+zeros-stored (x ∷ xs) h =
+    and-i (fits binary32 x) (all (fits binary32) xs) (and-l (fits binary32 x) (eqb (toBits binary32 x) 0) (and-l (isZero x) (all isZero xs) h)) (zeros-stored xs (and-r (isZero x) (all isZero xs) h))
+
+floats-stored : (xs : List Float) → T (all (format (float range.Value) .lawful) xs) → T (all (fits binary32) xs)
+floats-stored [] h = tt
+floats-stored (x ∷ xs) h =
+    let f = format (float range.Value) .lawful in
+    and-i (fits binary32 x) (all (fits binary32) xs) (float-stored range.Value x (and-l (f x) (all f xs) h)) (floats-stored xs (and-r (f x) (all f xs) h))
+
+both-parts : (n : ℕ) (xs : List Float) → T (all (fits binary32) (take n xs)) → T (all (fits binary32) (drop n xs)) → T (all (fits binary32) xs)
+both-parts zero xs h k = k
+both-parts (suc n) [] h k = tt
+both-parts (suc n) (x ∷ xs) h k =
+    and-i (fits binary32 x) (all (fits binary32) xs) (and-l (fits binary32 x) (all (fits binary32) (take n xs)) h) (both-parts n xs (and-r (fits binary32 x) (all (fits binary32) (take n xs)) h) k)
+
+values-stored : (e : Event) (n : ℕ) (xs : List Float) → T (format (values (kindOf e)) .lawful (valuesOf (kindOf e) n xs)) → T (all isZero (drop (countOf (kindOf e) (valuesOf (kindOf e) n xs)) xs)) → T (all (fits binary32) xs)
+unfolding values counted
+values-stored (Instr l i d) n xs h k =
+    let f = format (float range.Value) .lawful in
+    let m = and-r (format number .lawful n) (eqb (length (take n xs)) n && all f (take n xs)) h in
+    both-parts n xs (floats-stored (take n xs) (and-r (eqb (length (take n xs)) n) (all f (take n xs)) m)) (zeros-stored (drop n xs) k)
+values-stored (Control l v x) n xs h k = zeros-stored xs k
+values-stored End n xs h k = zeros-stored xs k
+values-stored (Tempo x) n xs h k = zeros-stored xs k
+
+pub lawful-stored : (l : Line) → T (lawful l) → T (stored l)
+unfolding line parts afterTime kind
+lawful-stored l h =
+    let k = kindOf (l .event) in
+    let b = format (body k) .lawful (eventParts (l .event) .1) in
+    let v = format (values k) .lawful (valuesOf k (l .count) (l .values)) in
+    let w = format when .lawful (l .when) in
+    let p = format flag .lawful (l .priority) in
+    let z = all isZero (drop (used l) (l .values)) in
+    let long = eqb (length (l .values)) 8 in
+    let f = and-l (filled l) (w && (p && (b && v))) h in
+    let g = and-r (filled l) (w && (p && (b && v))) h in
+    let m = and-r p (b && v) (and-r w (p && (b && v)) g) in
+    let q = and-r (eqb (l .count) (used l)) z (and-r long (eqb (l .count) (used l) && z) f) in
+    and-i (storedWhen (l .when)) (storedEvent (l .event) && (long && all (fits binary32) (l .values))) (when-stored (l .when) (and-l w (p && (b && v)) g))
+    (and-i (storedEvent (l .event)) (long && all (fits binary32) (l .values)) (event-stored (l .event) (and-l b v m))
+    (and-i long (all (fits binary32) (l .values)) (and-l long (eqb (l .count) (used l) && z) f) (values-stored (l .event) (l .count) (l .values) (and-r b v m) q)))
