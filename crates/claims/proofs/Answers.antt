@@ -28,13 +28,14 @@ use Rattle.score_line.specs.declared.Event.the-variants.{Instr, Control, End, T
 use Rattle.score_line.specs.declared.Line.{Line}
 use Rattle.score_line.specs.declared.LineRead.{LineRead}
 use Rattle.score.specs.Score.{Score, Lines, all, faulty as faulty-lines, linesFrom, counted, ended as ended-score, scoreOf, unitOf, opened, wholeLine}
+use Rattle.score_text.specs.Reading.{Text, lines, bad, linesFrom as text-from, judgedFrom, judgement, judged as judged-text, textOf}
 use Rattle.syntax.specs.Tree.{Instrument}
 use Rattle.syntax.specs.Names.{has, titleOf}
 use Rattle.voices.specs.Tree.{instrumentOf, fieldsOf}
 use Rattle.voices.proofs.Lines.{fields-tree}
 use Rattle.sounding.specs.Voices.{Held, fieldsIn}
 use Rattle.players.specs.Holds.{dueOf, endsBy}
-use Rattle.players.specs.Calls.{Door, stick, unit, keypad, mustBeTimed, hasTime, reads, Call, bring, cycle, Answer, one, After, numbered}
+use Rattle.players.specs.Calls.{Door, stick, unit, keypad, text, mustBeTimed, hasTime, reads, Call, bring, cycle, Answer, one, After, numbered}
 use Rattle.players.specs.History.{Reached, nowhere, at, History}
 use Rattle.players.proofs.Lists.{cond-true, cond-false}
 use Rattle.waiting.specs.Waiting.{isLate}
@@ -52,7 +53,7 @@ use Rattle.panel.specs.declared.Panel.{Panel}
 use Rattle.panel.specs.declared.Brought.{Brought}
 use Rattle.loader.specs.declared.Program.{Program}
 use Rattle.loader_claims.specs.Claims.{StandsFor}
-use Rattle.claims.specs.Verdict.{HasFields, here, there, Playable, tooLate, mostLines, Fits, AllFit, Faulty, untimed, unplayable, late, full, Verdict, AtDoor, AtCycle, over, cut, notCarried, outOfRange, tooManyValues, leftOver, faulty, taken, otherLength, overBefore, findsEnd, plays}
+use Rattle.claims.specs.Verdict.{HasFields, here, there, Playable, tooLate, mostLines, Fits, AllFit, Faulty, untimed, unplayable, late, full, Verdict, AtDoor, AtCycle, over, badText, cut, notCarried, outOfRange, tooManyValues, leftOver, faulty, taken, otherLength, overBefore, findsEnd, plays}
 use Rattle.claims.specs.Claims.{afterOf, past, panelAfter, CallVerdict}
 use Rattle.claims.proofs.Doors.{differ, differ′}
 use Rattle.claims.proofs.Cycles.{Cycles, off, over-before, ends, plays as goes-on, cycles}
@@ -286,6 +287,8 @@ Readable answer.BadGrammar = ⊥
 Readable answer.BadNames = ⊥
 Readable answer.BadRates = ⊥
 Readable answer.TooLarge = ⊥
+Readable answer.BadText = Unit {0}
+Readable answer.NoText = ⊥
 
 fault-readable : (x : Fault) → Readable (answerOf x)
 unfolding Readable answerOf
@@ -321,6 +324,19 @@ score-so bits = by-count (readAt bits 0 20)
     by-count (Value n p) = by-lines (linesFrom bits n 0 p)
     by-count Short = record { readable = tt; from-0 = λ e. refl }
 
+-- a text's answers are 18 and those of its lines; no 11
+text-so : (bytes : List ℕ) → ReadSo (textOf bytes)
+unfolding textOf Readable
+text-so bytes = go (text-from (length bytes) 0 bytes)
+  where
+    by-lines : (x : Lines) → ReadSo (judgement x)
+    by-lines (all ls p) = record { readable = tt; from-0 = λ e. refl }
+    by-lines (faulty-lines f i) = record { readable = fault-readable f; from-0 = λ e. absurd (not-left f e) }
+
+    go : (t : Text) → ReadSo (judged-text t)
+    go (lines ss) = by-lines (judgedFrom 0 ss)
+    go (bad i) = record { readable = tt; from-0 = λ e. absurd (let z = ap numberOf e in omega (arith, z)) }
+
 line-readable : (x : Read Line) → Readable (lineRead x .answer)
 unfolding lineRead refusedLine Readable
 line-readable (got l p) = tt
@@ -353,6 +369,7 @@ reads-so keypad b =
       readable = left-or (isTaken (lineInWords b 0 .answer)) (eqb (lineInWords b 0 .next) (length b)) (lineInWords b 0) (line-readable (lineFrom (keypadSource b) 0));
       from-0 = λ e. refl;
     }
+reads-so text b = text-so b
 
 -- ---- each verdict is given
 
@@ -402,6 +419,7 @@ module _ (is : List Instrument) (p : Panel) (r : StandsFor is (p .program)) (lon
 
   at-door-given : (d : Door) (b : List ℕ) (n l : ℕ) → AtDoor is (own p) d b n l → afterOf p (bring d b) .answers ≡ one n l
   at-door-given d b n l (over e) = when-over d b e
+  at-door-given d b n l (badText e q) = when-unread d b answer.BadText e q refl
   at-door-given d b n l (cut e q) = when-unread d b answer.CutShort e q refl
   at-door-given d b n l (notCarried e q) = when-unread d b answer.NotCarried e q refl
   at-door-given d b n l (outOfRange e q) = when-unread d b answer.OutOfRange e q refl
@@ -507,6 +525,8 @@ module _ {S : Type 0} (is : List Instrument) (h : History S) where
         by-reading e answer.BadNames q r = absurd r
         by-reading e answer.BadRates q r = absurd r
         by-reading e answer.TooLarge q r = absurd r
+        by-reading e answer.BadText q r = record { number = 18; line = reads d handed .line; verdict = badText e q }
+        by-reading e answer.NoText q r = absurd r
 
         by-end : (b : Bool) → h .holds .plays .ended ≡ b → Decided (bring d handed)
         by-end true e = record { number = 9; line = 0; verdict = over e }

@@ -9,7 +9,9 @@ use lib.ListN.{length}
 use lib.Dec.{leb, eqb}
 use borrow.Author.Tests.{leb-true, le-leb}
 use Rattle.answer.specs.Numbers.{numberOf, isTaken}
+use Rattle.answer.specs.declared.Answer.{Answer}
 use Rattle.answer.specs.declared.Answer.the-variants.{Taken, OutOfRange, Ended, BlockLength}
+use Rattle.answer.specs.declared.Answer.the-variants as answer
 use Rattle.tokens.specs.declared.Token.{Token}
 use Rattle.tokens.specs.Spelling.{Bytes}
 use Rattle.tokens.proofs.Laws.{one-spelling}
@@ -32,7 +34,6 @@ use Rattle.panel.specs.Calls.{freshOf, noPanel, broughtOf, bringOf, cycleOf, bl
 use Rattle.panel.specs.declared.Panel.{Panel}
 use Rattle.panel.specs.declared.Fresh.{Fresh}
 use Rattle.panel.specs.declared.Cycled.{Cycled}
-use Rattle.entrances.proofs.Pushing.{taken-is}
 use Rattle.players.specs.Holds.{settingsOf}
 use Rattle.players.specs.Plain.{plainStart}
 use Rattle.players.specs.Calls.{Call, bring, cycle, one, After, Last, none as none-yet, traceFrom}
@@ -40,6 +41,28 @@ use Rattle.players.specs.History.{nowhere}
 use Rattle.claims.specs.Fresh.{Check, First, fails, holds, all, Tokens, Tree, checks}
 use Rattle.claims.specs.Claims.{afterOf, panel, reachedOf, Begun, endedAfter, AsEnded, FreshVerdict}
 use Rattle.claims.proofs.Doors.{differ, differ′}
+
+-- only `Taken` is taken
+taken-is : (a : Answer) → isTaken a ≡ true → a ≡ answer.Taken
+taken-is answer.Taken h = refl
+taken-is answer.CutShort h = absurd (differ′ h)
+taken-is answer.NotCarried h = absurd (differ′ h)
+taken-is answer.OutOfRange h = absurd (differ′ h)
+taken-is answer.NoInstrument h = absurd (differ′ h)
+taken-is answer.TooManyValues h = absurd (differ′ h)
+taken-is answer.NoTime h = absurd (differ′ h)
+taken-is answer.Late h = absurd (differ′ h)
+taken-is answer.NoRoom h = absurd (differ′ h)
+taken-is answer.Ended h = absurd (differ′ h)
+taken-is answer.BlockLength h = absurd (differ′ h)
+taken-is answer.LeftOver h = absurd (differ′ h)
+taken-is answer.BadToken h = absurd (differ′ h)
+taken-is answer.BadGrammar h = absurd (differ′ h)
+taken-is answer.BadNames h = absurd (differ′ h)
+taken-is answer.BadRates h = absurd (differ′ h)
+taken-is answer.TooLarge h = absurd (differ′ h)
+taken-is answer.BadText h = absurd (differ′ h)
+taken-is answer.NoText h = absurd (differ′ h)
 
 first-one : {cs : List Check} {n m : ℕ} → First cs n → First cs m → n ≡ m
 first-one (fails f) (fails g) = refl

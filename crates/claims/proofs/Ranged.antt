@@ -33,9 +33,12 @@ use Rattle.score_line.specs.declared.Event.the-variants.{Instr, Control, End, T
 use Rattle.score_line.specs.declared.Line.{Line}
 use Rattle.score_line.specs.declared.LineRead.{LineRead}
 use Rattle.score.specs.Score.{Lines, all, faulty, before, lineThen, linesFrom, Score, taken, refusedScore, ended, counted, scoreOf, wholeLine, opened, unitOf}
+use Rattle.score_text.specs.Said.{Said, wordsOf, lineSaid}
+use Rattle.score_text.specs.Reading.{Text, lines, bad, judgedFrom, judgement, judged, textOf}
+use Rattle.score_text.specs.Reading as text-form
 use Rattle.voices.specs.Tree.{noSymbol}
 use Rattle.players.specs.Lists.{All}
-use Rattle.players.specs.Calls.{Door, stick, unit, keypad, reads, single}
+use Rattle.players.specs.Calls.{Door, stick, unit, keypad, text, reads, single}
 use Rattle.players.proofs.Count.{steady}
 
 abbrev pub ranged : Event → Type 0
@@ -228,6 +231,24 @@ score-ranged bits = go (readAt bits 0 20)
     go (gives.Value n p) = ended-ranged bits (linesFrom bits n 0 p) (lines-ranged bits n 0 p)
     go gives.Short = tt
 
+judged-ranged : (i : ℕ) (ss : List Said) → LinesHold (judgedFrom i ss)
+unfolding judgedFrom lineSaid LinesHold
+judged-ranged i [] = tt
+judged-ranged i (s ∷ ss) =
+    then-ranged (lineFrom (keypadSource (wordsOf s)) 0) i (λ p. judgedFrom (suc i) ss) (line-ranged (keypadSource (wordsOf s)) 0) (λ p. judged-ranged (suc i) ss)
+
+text-ranged : (bytes : List ℕ) → AllRanged (textOf bytes .lines)
+unfolding textOf LinesHold
+text-ranged bytes = go (text-form.linesFrom (length bytes) 0 bytes)
+  where
+    by-lines : (r : Lines) → LinesHold r → AllRanged (judgement r .lines)
+    by-lines (all ls p) h = h
+    by-lines (faulty f i) h = tt
+
+    go : (t : Text) → AllRanged (judged t .lines)
+    go (lines ss) = by-lines (judgedFrom 0 ss) (judged-ranged 0 ss)
+    go (bad i) = tt
+
 -- ---- at each door
 
 single-ranged : (r : LineRead) → ranged (r .line .event) → AllRanged (single r .lines)
@@ -241,3 +262,4 @@ pub reads-ranged : (d : Door) (handed : List ℕ) → AllRanged (reads d handed 
 reads-ranged stick b = score-ranged (bitsOf b)
 reads-ranged unit b = single-ranged (unitOf (bitsOf b)) (unit-ranged (bitsOf b))
 reads-ranged keypad b = single-ranged (keypadLine b) (keypad-ranged b)
+reads-ranged text b = text-ranged b

@@ -26,7 +26,7 @@ use Rattle.players.proofs.Lists.{cond-true, all-append, all-map}
 use Rattle.loader.specs.Loading.{loadOf}
 use Rattle.loader_claims.specs.Claims.{StandsFor}
 use Rattle.panel.specs.declared.Panel.{Panel}
-use Rattle.claims.specs.Verdict.{HasFields, here, there, Playable, Fits, AllFit, Faulty, untimed, unplayable, late, full, AtDoor, over, cut, notCarried, outOfRange, tooManyValues, leftOver, faulty, taken}
+use Rattle.claims.specs.Verdict.{HasFields, here, there, Playable, Fits, AllFit, Faulty, untimed, unplayable, late, full, AtDoor, over, badText, cut, notCarried, outOfRange, tooManyValues, leftOver, faulty, taken}
 use Rattle.claims.specs.Claims.{afterOf, panel, Given, fresh, settings, LinesFit, CycleByTree, Condition3}
 use Rattle.claims.proofs.Ranged.{ranged, AllRanged, reads-ranged}
 use Rattle.claims.proofs.Past.{Kept, own, kept-all, stands, fresh-kept, past-is, block-by-place, by-place}
@@ -70,6 +70,7 @@ module _ (is : List Instrument) where
   door-fits : (p : Panel) (d : Door) (handed : List ℕ) (number line : ℕ) → AtDoor is (own p) d handed number line
       → AllTakable (takenOf (linesOf (bring d handed)) (one number line))
   door-fits p d handed number line (over e) = tt
+  door-fits p d handed number line (badText e q) = tt
   door-fits p d handed number line (cut e q) = tt
   door-fits p d handed number line (notCarried e q) = tt
   door-fits p d handed number line (outOfRange e q) = tt

@@ -86,6 +86,8 @@ module _ {S : Type 0} (is : List Instrument) (h : History S) where
     pub data AtDoor : ℕ → ℕ → Type 0 where
       -- 9: a cycle call has found the end
       over : ended ≡ true → AtDoor 9 0
+      -- 18: a text of which a line is none, or is one too many
+      badText : ended ≡ false → reads d handed .answer ≡ answer.BadText → AtDoor 18 fault
       -- 1, 2, 3, 5: the first fault met in reading order, at its line; then 11
       cut : ended ≡ false → reads d handed .answer ≡ answer.CutShort → AtDoor 1 fault
       notCarried : ended ≡ false → reads d handed .answer ≡ answer.NotCarried → AtDoor 2 fault

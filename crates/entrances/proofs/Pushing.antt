@@ -1,174 +1,30 @@
--- What is handed over, gathered line by line, and pushed line by line.
-use mathlib.Core.Path.{_≡_, refl, sym, ap, _∙_, subst, subst⁻¹}
+-- What is handed over, pushed line by line.
+use mathlib.Core.Path.{_≡_, refl, sym, ap, _∙_}
 use mathlib.Core.Bool.{Bool, true, false, not, _&&_, cond}
-use mathlib.Core.List.{List, [], _∷_, _++_}
-use Prim.Native.Nat.{ℕ, zero, suc, _+_, _-_, _≤_, _<_, min}
+use mathlib.Core.List.{List, [], _∷_}
+use Prim.Native.Nat.{ℕ, zero, suc, _+_, _≤_, _<_, min}
 use native.Mathlib.Omega.{arith}
-use lib.Dec.{ltb}
-use lib.ListN.{length, take, drop, getD, set, replicate, length-take, length-drop, length-replicate}
-use lib.Seq.{drop-cons, drop-nil, getD-take, take-append-seam, take-suc}
-use borrow.Author.Tests.{ltb-true}
+use lib.ListN.{length, take, drop, getD, length-take}
+use lib.Seq.{drop-cons, drop-nil, getD-take, take-append-seam}
 use Rattle.answer.specs.Numbers.{isTaken}
-use Rattle.answer.specs.declared.Answer.{Answer}
 use Rattle.answer.specs.declared.Answer.the-variants as answer
 use Rattle.score_line.specs.declared.Line.{Line}
-use Rattle.score_line.specs.declared.LineRead.{LineRead}
-use Rattle.bitstream.specs.Reads.{readAt}
-use Rattle.bitstream.specs.Filling.{filled}
-use Rattle.bitstream.specs.declared.Got.{Got}
-use Rattle.bitstream.specs.declared.Got.the-variants.{Value, Short}
-use Rattle.score.specs.Score.{Score, Lines, all, faulty, linesFrom, taken, refusedScore, counted, ended, scoreOf, heard, firstOf, nextOf, Ahead}
-use Rattle.score.specs.declared.Cursor.{Cursor}
-use Rattle.score.specs.declared.Step.{Step}
-use Rattle.score.specs.declared.ScoreRead.{ScoreRead}
-use Rattle.score.proofs.Walk.{answered, ahead-first, ahead-left, ahead-next}
+use Rattle.score.specs.Score.{Score}
 use Rattle.players.specs.Lists.{over}
-use Rattle.players.specs.Calls.{hasTime, single}
+use Rattle.players.specs.Calls.{hasTime}
 use Rattle.players.proofs.Lists.{cond-true, cond-false}
-use Rattle.players.proofs.Loops.{take-min, over-set}
-use Rattle.waiting.specs.Admission.{admission, admitted, pushed}
+use Rattle.players.proofs.Loops.{take-min}
+use Rattle.waiting.specs.Admission.{admitted, pushed}
 use Rattle.waiting.specs.declared.Fields.{Fields}
 use Rattle.waiting.specs.declared.Queue.{Queue}
 use Rattle.waiting.specs.declared.Admitted.{Admitted}
 use Rattle.waiting.proofs.Admission.{taken-pushed, taken-room}
 use Rattle.sounding.specs.Voices.{fieldsIn}
 use Rattle.sounding.specs.declared.Instrument.{Instrument}
-use Rattle.entrances.specs.Entrances.{mostHanded, emptyLine, handedOf, scoreIn, lineIn, pushedAll, broughtIn}
+use Rattle.entrances.specs.Entrances.{mostHanded, handedOf, scoreIn, lineIn, pushedAll, broughtIn}
 use Rattle.entrances.specs.declared.Handed.{Handed}
 use Rattle.entrances.specs.declared.Pushed.{Pushed}
-
--- only `Taken` is taken
-pub taken-is : (a : Answer) → isTaken a ≡ true → a ≡ answer.Taken
-taken-is answer.Taken h = refl
-taken-is answer.CutShort h = absurd (let z : _≡_ {A = ℕ} 0 1 = cc in omega arith)
-taken-is answer.NotCarried h = absurd (let z : _≡_ {A = ℕ} 0 1 = cc in omega arith)
-taken-is answer.OutOfRange h = absurd (let z : _≡_ {A = ℕ} 0 1 = cc in omega arith)
-taken-is answer.NoInstrument h = absurd (let z : _≡_ {A = ℕ} 0 1 = cc in omega arith)
-taken-is answer.TooManyValues h = absurd (let z : _≡_ {A = ℕ} 0 1 = cc in omega arith)
-taken-is answer.NoTime h = absurd (let z : _≡_ {A = ℕ} 0 1 = cc in omega arith)
-taken-is answer.Late h = absurd (let z : _≡_ {A = ℕ} 0 1 = cc in omega arith)
-taken-is answer.NoRoom h = absurd (let z : _≡_ {A = ℕ} 0 1 = cc in omega arith)
-taken-is answer.Ended h = absurd (let z : _≡_ {A = ℕ} 0 1 = cc in omega arith)
-taken-is answer.BlockLength h = absurd (let z : _≡_ {A = ℕ} 0 1 = cc in omega arith)
-taken-is answer.LeftOver h = absurd (let z : _≡_ {A = ℕ} 0 1 = cc in omega arith)
-taken-is answer.BadToken h = absurd (let z : _≡_ {A = ℕ} 0 1 = cc in omega arith)
-taken-is answer.BadGrammar h = absurd (let z : _≡_ {A = ℕ} 0 1 = cc in omega arith)
-taken-is answer.BadNames h = absurd (let z : _≡_ {A = ℕ} 0 1 = cc in omega arith)
-taken-is answer.BadRates h = absurd (let z : _≡_ {A = ℕ} 0 1 = cc in omega arith)
-taken-is answer.TooLarge h = absurd (let z : _≡_ {A = ℕ} 0 1 = cc in omega arith)
-
--- ---- gathering
-
--- the places before any line
-abbrev pub blank : List Line
-blank = replicate mostHanded emptyLine
-
-module _ (bits : List Bool) (ls : List Line) where
-  -- the first i lines are gathered, and the others lie ahead of the cursor
-  pub record Gathered (a : List Line) (c : Cursor) (i : ℕ) : Type 0 where
-    pub here : a ≡ over (take i ls) blank
-    pub ahead : Ahead bits c (drop i ls)
-
-  gather-none : Ahead bits (firstOf bits) ls → (c : Cursor) → c ≡ firstOf bits → (l : Line) → l ≡ emptyLine → Gathered (replicate mostHanded l) c 0
-  gather-none h c e l q = record { here = ap (replicate mostHanded) q; ahead = subst⁻¹ (λ (x : Cursor). Ahead bits x ls) e h }
-
-  pub gather-next : (a : List Line) (c : Cursor) (i : ℕ) → i < length ls → i < mostHanded → Gathered a c i
-      → (st : Step) → st ≡ nextOf bits c → Gathered (set a i (st .line)) (st .rest) (i + 1)
-  gather-next a c i h k g st e =
-      let d = drop-cons ls i emptyLine h in
-      let n = ahead-next bits c (getD ls i emptyLine) (drop (suc i) ls) (subst (Ahead bits c) d (g .ahead)) in
-      let line : st .line ≡ getD ls i emptyLine = ap (λ (x : Step). x .line) e ∙ n .line in
-      let size : length (take i ls) ≡ i = length-take i ls ∙ omega (arith, h) in
-      let wide : length blank ≡ mostHanded = length-replicate mostHanded emptyLine in
-      let one : suc i ≡ i + 1 = omega arith in
-      record {
-        here =
-            (λ j. set (g .here j) (sym size j) (line j))
-            ∙ over-set (take i ls) blank (getD ls i emptyLine) (omega (arith, size, wide, k))
-            ∙ ap (λ (x : List Line). over x blank) (sym (take-suc ls i emptyLine h) ∙ ap (λ (x : ℕ). take x ls) one);
-        ahead = subst⁻¹ (λ (x : Step). Ahead bits (x .rest) (drop (i + 1) ls)) e (subst (λ (x : ℕ). Ahead bits (nextOf bits c .rest) (drop x ls)) one (n .ahead));
-      }
-
--- before the first line of a score that was read whole
-module _ (bits : List Bool) (t : isTaken (scoreOf bits .answer) ≡ true) (c : Cursor) (e : c ≡ firstOf bits) where
-  lies-ahead : Ahead bits (firstOf bits) (scoreOf bits .lines)
-  lies-ahead = ahead-first bits (scoreOf bits .lines) (answered bits (taken-is (scoreOf bits .answer) t))
-
-  pub gather-left : length (scoreOf bits .lines) ≡ c .left
-  gather-left = ahead-left bits (firstOf bits) (scoreOf bits .lines) lies-ahead ∙ ap (λ (x : Cursor). x .left) (sym e)
-
-  pub gather-start : (l : Line) → l ≡ emptyLine → Gathered bits (scoreOf bits .lines) (replicate mostHanded l) c 0
-  gather-start l q = gather-none bits (scoreOf bits .lines) lies-ahead c e l q
-
--- where the loop ends: at most 65 lines
-fewer : (ls : List Line) → take (min (length ls) mostHanded) ls ≡ take mostHanded ls
-fewer ls = let e : min (length ls) mostHanded ≡ min mostHanded (length ls) = omega arith in
-    ap (λ (x : ℕ). take x ls) e ∙ take-min ls mostHanded (length ls) refl
-
-pub gather-end : (bits : List Bool) (s : Score) → s ≡ taken (s .lines) → (a : List Line) (c : Cursor) (i : ℕ) → i ≡ min (length (s .lines)) mostHanded
-    → Gathered bits (s .lines) a c i → record { timed = true; answer = answer.Taken; line = 0; lines = a; count = i } ≡ handedOf true s
-unfolding handedOf
-gather-end bits s t a c i e g =
-    let first : take i (s .lines) ≡ take mostHanded (s .lines) = ap (λ (x : ℕ). take x (s .lines)) e ∙ fewer (s .lines) in
-    let size : i ≡ length (take mostHanded (s .lines)) = e ∙ sym (length-take mostHanded (s .lines) ∙ omega arith) in
-    λ j. record {
-      timed = true;
-      answer = sym t j .answer;
-      line = sym t j .line;
-      lines = (g .here ∙ ap (λ (x : List Line). over x blank) first) j;
-      count = size j;
-    }
-
--- a refused score has no lines
-pub no-lines : (bits : List Bool) → isTaken (scoreOf bits .answer) ≡ false → scoreOf bits .lines ≡ []
-unfolding scoreOf counted ended
-no-lines bits = go (readAt bits 0 20)
-  where
-    by-fill : (b : Bool) (ls : List Line) → isTaken (cond {A = Score} b (taken ls) (refusedScore answer.LeftOver 0) .answer) ≡ false
-        → cond {A = Score} b (taken ls) (refusedScore answer.LeftOver 0) .lines ≡ []
-    by-fill true ls t = absurd (let z : _≡_ {A = ℕ} 0 1 = cc in omega arith)
-    by-fill false ls t = refl
-
-    by-lines : (x : Lines) → isTaken (ended bits x .answer) ≡ false → ended bits x .lines ≡ []
-    by-lines (all ls p) t = by-fill (filled bits p) ls t
-    by-lines (faulty f i) t = refl
-
-    go : (g : Got) → isTaken (counted bits g .answer) ≡ false → counted bits g .lines ≡ []
-    go (Value n p) t = by-lines (linesFrom bits n 0 p) t
-    go Short t = refl
-
--- a fault brings no line
-pub refused-handed : (timed : Bool) (s : Score) → s .lines ≡ [] → (a : Answer) → a ≡ s .answer → (n : ℕ) → n ≡ s .line → (l : Line) → l ≡ emptyLine
-    → record { timed = timed; answer = a; line = n; lines = replicate mostHanded l; count = 0 } ≡ handedOf timed s
-unfolding handedOf
-refused-handed timed s e a ea n en l q =
-    λ j. record {
-      timed = timed;
-      answer = ea j;
-      line = en j;
-      lines = (ap (replicate mostHanded) q ∙ ap (λ (ls : List Line). over (take mostHanded ls) blank) (sym e)) j;
-      count = length (take mostHanded (sym e j));
-    }
-
--- one line that was read on its own, or none
-module _ (r : LineRead) (l : Line) (q : l ≡ emptyLine) where
-  pub alone-read : isTaken (r .answer) ≡ true
-      → record { timed = false; answer = r .answer; line = 0; lines = set (replicate mostHanded l) 0 (r .line); count = 1 } ≡ handedOf false (single r)
-  unfolding handedOf
-  alone-read e =
-      λ j. record {
-        timed = false;
-        answer = r .answer;
-        line = 0;
-        lines =
-            (ap (λ (x : Line). set (replicate mostHanded x) 0 (r .line)) q
-            ∙ ap (λ (b : Bool). over (take mostHanded (cond b (r .line ∷ []) [])) blank) (sym e)) j;
-        count = length (take mostHanded (cond (sym e j) (r .line ∷ []) []));
-      }
-
-  pub alone-refused : isTaken (r .answer) ≡ false
-      → record { timed = false; answer = r .answer; line = 0; lines = replicate mostHanded l; count = 0 } ≡ handedOf false (single r)
-  alone-refused e = refused-handed false (single r) (cond-false _ _ e) _ refl _ refl l q
+use Rattle.entrances.proofs.Gathering.{blank}
 
 -- ---- one line
 

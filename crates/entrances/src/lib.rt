@@ -1,6 +1,7 @@
 // What the doors bring into the waiting lines: what was handed in is read whole, then all its lines go in or none (document 01, "Order at
 // an entrance").
 use answer::Answer;
+use score::ScoreRead;
 use score_line::Event;
 use score_line::Line;
 use score_line::LineRead;
@@ -11,10 +12,11 @@ use waiting::Queue;
 ghost use mathlib.Core.Path.{_≡_};
 ghost use mathlib.Core.Bool.{true, false, not, _&&_};
 ghost use Prim.Native.Nat.{min};
-ghost use lib.ListN.{take};
+ghost use lib.ListN.{length, take};
 ghost use Rattle.answer.specs.Numbers.{isTaken};
 ghost use Rattle.bitstream.specs.Bits.{bitsOf};
-ghost use Rattle.score.specs.Score.{scoreOf};
+ghost use Rattle.score.specs.Score.{scoreOf, refusedScore};
+ghost use Rattle.score_text.specs.Reading.{textOf};
 ghost use Rattle.players.specs.Calls.{mustBeTimed, hasTime, single, reads};
 ghost use Rattle.players.specs.Calls as door;
 ghost use Rattle.entrances.specs.Entrances.{emptyLine, handedOf, scoreIn, lineIn, pushedAll, broughtIn};
@@ -81,6 +83,21 @@ fn gather(s: &[u8]) -> Handed
     }
 }
 
+// A score that is refused: its first fault, and no line.
+fn unread(read: ScoreRead) -> Handed
+    ensures { λ r. ⌜ r ≡ handedOf true (refusedScore (read .answer) (read .line)) ⌝ }
+{
+    let answer = read.answer;
+    let none = empty_line();
+    Handed {
+        timed: true,
+        answer: answer,
+        line: read.line,
+        lines: [none; 65],
+        count: 0,
+    }
+}
+
 // A stick: a whole score, whose lines must be timed.
 pub fn stick(s: &[u8]) -> Handed
     ensures { λ r. ⌜ r ≡ handedOf (mustBeTimed door.stick) (reads door.stick (now (s .entry))) ⌝ }
@@ -90,14 +107,50 @@ pub fn stick(s: &[u8]) -> Handed
     if answer::is_taken(answer) {
         return gather(s);
     }
+    unread(read)
+}
+
+// The lines of a text that is known to be whole, of which there are so many.
+fn gather_text(s: &[u8], count: usize) -> Handed
+    requires { ⌜ isTaken (textOf (now s) .answer) ≡ true ⌝ }
+    requires { ⌜ count ≡ length (textOf (now s) .lines) ⌝ }
+    ensures { λ r. ⌜ r ≡ handedOf true (textOf (now (s .entry))) ⌝ }
+{
     let none = empty_line();
+    let mut lines = [none; 65];
+    let m = within(count, 65);
+    let mut at: usize = 0;
+    let mut i: usize = 0;
+    while i < m {
+        let step = text_line::line_at(s, at);
+        let read = step.read;
+        let l = read.line;
+        lines[i] = l;
+        at = step.next;
+        i += 1;
+    }
     Handed {
         timed: true,
-        answer: answer,
-        line: read.line,
-        lines: [none; 65],
-        count: 0,
+        answer: Answer::Taken,
+        line: 0,
+        lines: lines,
+        count: i,
     }
+}
+
+// A text: a whole score, judged as a stick is once it is read.
+pub fn text(s: &[u8]) -> Handed
+    ensures { λ r. ⌜ r ≡ handedOf (mustBeTimed door.text) (reads door.text (now (s .entry))) ⌝ }
+{
+    let read = text_reader::read_text(s);
+    let told = read.answer;
+    if answer::is_taken(told) {
+        return gather_text(s, read.count);
+    }
+    unread(ScoreRead {
+        answer: told,
+        line: read.line,
+    })
 }
 
 // A line that was read on its own.

@@ -1,4 +1,4 @@
-// The panel: its state by value, the fresh start, the three entrances and the cycle (document 01).
+// The panel: its state by value, the fresh start, the four entrances and the cycle (document 01; M-100 for text).
 use answer::Answer;
 use entrances::Handed;
 use loader::Program;
@@ -12,7 +12,7 @@ ghost use mathlib.Core.List.{[]};
 ghost use lib.ListN.{length};
 ghost use Rattle.panel.specs.State.{startOf};
 ghost use Rattle.loader.specs.Loading.{loadOf as loadedFrom};
-ghost use Rattle.players.specs.Calls.{stick, unit, keypad};
+ghost use Rattle.players.specs.Calls.{stick, unit, keypad, text};
 ghost use Rattle.entrances.specs.Entrances.{scoreIn};
 ghost use Rattle.panel.specs.Calls.{noPanel, freshOf, broughtOf, bringOf, cycleOf, blockAfter};
 
@@ -168,6 +168,13 @@ impl Panel {
         ensures { λ r. ⌜ r ≡ bringOf self keypad (now (words .entry)) ⌝ }
     {
         bring(self, entrances::keypad(words))
+    }
+
+    // A score as text: the whole of it, or nothing, as a stick.
+    pub fn load_text(self, s: &[u8]) -> Brought
+        ensures { λ r. ⌜ r ≡ bringOf self text (now (s .entry)) ⌝ }
+    {
+        bring(self, entrances::text(s))
     }
 
     // A cycle of sound into a block of 320 samples.

@@ -13,6 +13,7 @@ use Rattle.score_line.specs.declared.When.the-variants.{Timed, Untimed}
 use Rattle.score_line.specs.declared.Line.{Line}
 use Rattle.score_line.specs.declared.LineRead.{LineRead}
 use Rattle.score.specs.Score.{Score, scoreOf, unitOf}
+use Rattle.score_text.specs.Reading.{textOf}
 use Rattle.players.specs.Cycle.{samples}
 use Rattle.players.specs.Holds.{Counts}
 
@@ -22,12 +23,15 @@ pub data Door : Type 0 where
   stick : Door
   unit : Door
   keypad : Door
+  -- (M-100) a score as text
+  text : Door
 
 -- whether a line that comes by this door must have a time (6)
 abbrev pub mustBeTimed : Door → Bool
 mustBeTimed stick = true
 mustBeTimed unit = false
 mustBeTimed keypad = false
+mustBeTimed text = true
 
 abbrev pub hasTime : When → Bool
 hasTime (Timed late t) = true
@@ -42,6 +46,7 @@ abbrev pub reads : Door → List ℕ → Score
 reads stick bytes = scoreOf (bitsOf bytes)
 reads unit bytes = single (unitOf (bitsOf bytes))
 reads keypad numbers = single (keypadLine numbers)
+reads text bytes = textOf bytes
 
 -- ---- calls
 

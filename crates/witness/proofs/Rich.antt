@@ -5,7 +5,7 @@ use lib.IntN.{ℤ, pos}
 use lib.ListN.{replicate}
 use mathlib.Core.List.{List, [], _∷_}
 use native.Mathlib.Omega.{arith}
-use lib.Ieee.{binary32, ofBits, fits, size, add, mul, round, lt, le, eq, ne}
+use lib.Ieee.{binary32, ofBits, toBits, fits, size, add, mul, round, lt, le, eq, ne}
 use Rattle.bitstream.specs.Bits as bitstream-bits
 use Rattle.bitstream.specs.Fields as bitstream-fields
 use Rattle.bitstream.specs.Filling as bitstream-filling
@@ -16,6 +16,10 @@ use Rattle.formats.specs.Format as formats-format
 use Rattle.score_line.specs.LineFormat as score-line-format
 use Rattle.score_line.specs.Reading as score-line-reading
 use Rattle.score.specs.Score as score-score
+use Rattle.numerals.specs.Numeral as numerals
+use Rattle.numerals.specs.Reading as read-numbers
+use Rattle.score_text.specs.Said as said
+use Rattle.score_text.specs.Reading as text-reading
 use Rattle.timebase.specs.Range as timebase-range
 use Rattle.timebase.specs.Time as timebase-time
 use Rattle.tokens.specs.declared.Token.{Token}
@@ -35,7 +39,7 @@ use Rattle.players.proofs.Lists.{all-append}
 use Rattle.players.specs.Cycle.{Voices, isDue, insert, ordered, anyEnd, lastTempo, limited, joinedBy, goesOn, born, started, controlledBy, controlled, runFrom, runAll}
 use Rattle.players.specs.Holds.{sixty, dueAt, laterThan, endsBy, answerOf, startedOf, bandOf, blockOf, played, cycled}
 use Rattle.players.specs.Plain.{plainStart, plainAt, answerAt, blockAt}
-use Rattle.players.specs.Calls.{stick, unit, keypad}
+use Rattle.players.specs.Calls.{stick, unit, keypad, text}
 use Rattle.float32.specs.Limit.{held, sampleOf}
 use Rattle.float32.specs.Builtins.{truth}
 use Rattle.float32.specs.Operators.{binaryOf}
@@ -46,7 +50,7 @@ use Rattle.written_voices.specs.Voices.{writtenVoices, Fits, PlaysAsWritten}
 use Rattle.written_voices.proofs.Written.{every-piece}
 use Rattle.claims.specs.Claims.{settings}
 use Rattle.witness.specs.Growing.{ceiling}
-use Rattle.witness.specs.Rich.{bytes, tree, rest, onStick, inUnit, onKeypad, before, control, end, lines, IsRead, Later, Gives, Rich}
+use Rattle.witness.specs.Rich.{bytes, tree, rest, onStick, asText, inUnit, onKeypad, before, control, end, lines, IsRead, Later, Gives, Rich}
 
 abbrev tokens : List Token
 tokens =
@@ -75,10 +79,14 @@ accepted : Accepted bytes tree
 unfolding named namedBy has apart knownIn known eachKept rateOf rate ratesKept rateRules
 accepted = record { tokens = tokens; sized = sized; derived = derived; named = refl; rated = refl }
 
--- what the three doors read
+-- what the doors read
 all-read : IsRead stick onStick before × IsRead unit inUnit (control ∷ []) × IsRead keypad onKeypad (end ∷ [])
 unfolding bitstream-bits.bit bitstream-bits.field bitstream-bits.bitsOf bitstream-bits.valueOf bitstream-fields.roomFor bitstream-fields.written bitstream-filling.filled bitstream-filling.filledUp bitstream-filling.bytesFrom bitstream-filling.bytesOf bitstream-reads.readAt formats-reading.numberFrom formats-format.small score-line-format.inRange score-line-format.float score-line-format.number score-line-format.timed score-line-format.when score-line-format.label score-line-format.kind score-line-format.labelled score-line-format.body score-line-format.counted score-line-format.values score-line-format.afterTime score-line-format.parts score-line-format.padded score-line-format.line score-line-reading.lineOf score-line-reading.answerOf score-line-reading.refusedLine score-line-reading.lineRead score-line-reading.lineAt score-line-reading.lineInWords score-line-reading.wholeRun score-line-reading.keypadLine formats-source.bitSource formats-source.keypadSource score-score.linesFrom score-score.ended score-score.counted score-score.scoreOf score-score.firstOf score-score.nextOf score-score.walked score-score.wholeLine score-score.opened score-score.unitOf timebase-range.checked timebase-time.finiteBits timebase-time.timeBits timebase-time.durationBits timebase-time.tempoBits timebase-time.ticksIn timebase-time.cycleOf timebase-time.cycleIn ofBits le
 all-read = ((refl, refl), (refl, refl), (refl, refl))
+
+as-text : IsRead text asText before
+unfolding numerals.floatOf read-numbers.startsWith read-numbers.rest read-numbers.isDigit read-numbers.digitsFrom read-numbers.withoutPoint read-numbers.decimalsFrom read-numbers.unsignedFrom read-numbers.numberFrom read-numbers.symbolFrom read-numbers.nameFrom text-reading.pastSpaces text-reading.gapFrom text-reading.colonFrom text-reading.nextName text-reading.nextNumber text-reading.valuesFrom text-reading.instrFrom text-reading.namedFrom text-reading.eventFrom text-reading.labelledFrom text-reading.timedFrom text-reading.bodyFrom text-reading.lineFrom text-reading.linesFrom text-reading.judgedFrom text-reading.textOf said.wordsOf said.lineSaid formats-reading.numberFrom formats-format.small score-line-format.inRange score-line-format.float score-line-format.number score-line-format.timed score-line-format.when score-line-format.label score-line-format.kind score-line-format.labelled score-line-format.body score-line-format.counted score-line-format.values score-line-format.afterTime score-line-format.parts score-line-format.padded score-line-format.line score-line-reading.lineOf score-line-reading.answerOf formats-source.keypadSource timebase-range.checked timebase-time.finiteBits timebase-time.timeBits timebase-time.durationBits ofBits toBits round le
+as-text = (refl, refl)
 
 in-time : {S : Type 0} (v : Voices S) → Later v control × Later v end
 unfolding plainAt plainStart ticksIn ofBits le lt eq
@@ -96,6 +104,7 @@ by-place =
     record {
       accepted = accepted;
       stick = all-read .0;
+      text = as-text;
       unit = all-read .1;
       keypad = all-read .2;
       inTime = in-time (treeVoices tree);
@@ -139,6 +148,7 @@ rich =
     record {
       accepted = accepted;
       stick = all-read .0;
+      text = as-text;
       unit = all-read .1;
       keypad = all-read .2;
       inTime = in-time (writtenVoices tree);

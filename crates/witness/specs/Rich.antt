@@ -3,7 +3,7 @@
 use mathlib.Core.Path.{_≡_}
 use mathlib.Core.Bool.{false}
 use mathlib.Core.List.{List, [], _∷_, _++_}
-use Prim.Native.Nat.{ℕ}
+use Prim.Native.Nat.{ℕ, zero as none, suc}
 use lib.IntN.{ℤ, pos}
 use lib.ListN.{replicate}
 use lib.Ieee.{Float, binary32, ofBits}
@@ -19,7 +19,7 @@ use Rattle.score_line.specs.declared.Line.{Line}
 use Rattle.players.specs.Cycle.{Voices, samples}
 use Rattle.players.specs.Lists.{All, each}
 use Rattle.players.specs.Plain.{plainAt, answerAt, blockAt}
-use Rattle.players.specs.Calls.{stick, unit, keypad, Door, reads, Call, bring, cycle, Answer, one, Moment, trace, allTaken}
+use Rattle.players.specs.Calls.{stick, unit, keypad, text, Door, reads, Call, bring, cycle, Answer, one, Moment, trace, allTaken}
 use Rattle.players.specs.Condition3.{above, InTime}
 use Rattle.written_voices.specs.Voices.{writtenVoices}
 use Rattle.panel.specs.State.{holdsOf}
@@ -93,6 +93,16 @@ onStick =
     ∷ 0 ∷ 48 ∷ 0 ∷ 0 ∷ 0 ∷ 0 ∷ 4 ∷ 0 ∷ 0 ∷ 0 ∷ 0 ∷ 0 ∷ 0 ∷ 96 ∷ 0 ∷ 0 ∷ 0 ∷ 0 ∷ 8 ∷ 0 ∷ 0 ∷ 0 ∷ 0 ∷ 0 ∷ 0 ∷ 192 ∷ 0 ∷ 0 ∷ 0 ∷ 0
     ∷ 0 ∷ []
 
+abbrev pub repeated : ℕ → List ℕ → List ℕ
+repeated none bs = []
+repeated (suc n) bs = bs ++ repeated n bs
+
+-- the same lines as text: "s7: 0 s1 -1 0.125", and sixteen times "0 s6 0"
+abbrev pub asText : List ℕ
+asText =
+    115 ∷ 55 ∷ 58 ∷ 32 ∷ 48 ∷ 32 ∷ 115 ∷ 49 ∷ 32 ∷ 45 ∷ 49 ∷ 32 ∷ 48 ∷ 46 ∷ 49 ∷ 50 ∷ 53 ∷ 10
+    ∷ repeated 16 (48 ∷ 32 ∷ 115 ∷ 54 ∷ 32 ∷ 48 ∷ 10 ∷ [])
+
 -- the unit's bytes, and the keypad's numbers
 abbrev pub inUnit : List ℕ
 inUnit = 35 ∷ 192 ∷ 0 ∷ 0 ∷ 1 ∷ 128 ∷ 3 ∷ 128 ∷ 2 ∷ 159 ∷ 64 ∷ 0 ∷ 0 ∷ 0 ∷ []
@@ -122,6 +132,7 @@ Gives v k x = (answerAt v (settings ceiling) lines k ≡ 0) × (blockAt v (setti
 pub record Rich {S : Type 0} (v : Voices S) : Type 0 where
   pub accepted : Accepted bytes tree
   pub stick : IsRead stick onStick before
+  pub text : IsRead text asText before
   pub unit : IsRead unit inUnit (control ∷ [])
   pub keypad : IsRead keypad onKeypad (end ∷ [])
   -- the lines behind cycle 0 are in time

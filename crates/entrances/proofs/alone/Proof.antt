@@ -1,6 +1,6 @@
 use mathlib.Core.Path.{sym, _∙_}
 use borrow.Author.Needs.{needs}
-use Rattle.entrances.proofs.Pushing.{alone-read, alone-refused}
+use Rattle.entrances.proofs.Gathering.{alone-read, alone-refused}
 use Rattle.entrances.proofs.alone.Statement.{statement}
 use Rattle.entrances.proofs.alone.Tie as tie
 
