@@ -1,11 +1,13 @@
 #!/usr/bin/env python3
-"""Turns a written orchestra and score into the panel's two byte files.
+"""Turns a written orchestra, and a score that uses its names, into the panel's byte files.
 
-    assemble.py ORCHESTRA SCORE        writes ORCHESTRA.bin and SCORE.bin beside them
+    assemble.py ORCHESTRA              writes ORCHESTRA.bin beside it and tells the symbol of each name
+    assemble.py ORCHESTRA SCORE        writes ORCHESTRA.bin and SCORE.bin
 
 The orchestra is SAOL text within document 01's grammar. A word that is no keyword is a name; names get symbols
 from 0 in the order in which they first appear. A number with a point or an exponent becomes a 32-bit float, one
-without a whole number. The score has one line to a line, times and durations in beats:
+without a whole number. A score that the panel reads as text (a .sasl file) names them by symbol, as s0 or s12, and
+needs no assembling. A score here has one line to a line, times and durations in beats:
 
     [*][label:] time instrument duration value ..
     [*]time label control name value
@@ -551,7 +553,7 @@ def score_of(path, instruments, symbols, report):
 
 # ---- the files
 
-def write_both(files):
+def write_all(files):
     """Writes all files aside first, then puts each in its place."""
     aside = []
     try:
@@ -570,17 +572,26 @@ def write_both(files):
         raise Fault(f"cannot write: {fault}") from None
 
 
+def assembled(orchestra, score, report):
+    """Writes the files, and says what they are."""
+    symbols = Symbols()
+    tokens, instruments = orchestra_of(orchestra, symbols, report)
+    made = f"{orchestra}.bin: {len(tokens)} bytes"
+    if score is None:
+        write_all([(orchestra + ".bin", tokens)])
+        return made + "".join(f"\ns{symbol} {name}" for name, symbol in symbols.of.items())
+    lines, count = score_of(score, instruments, symbols, report)
+    write_all([(orchestra + ".bin", tokens), (score + ".bin", lines)])
+    return made + f"; {score}.bin: {len(lines)} bytes, {count} lines"
+
+
 def main(arguments):
-    if len(arguments) != 2:
+    if len(arguments) not in (1, 2):
         print(__doc__.strip(), file=sys.stderr)
         return 2
-    orchestra, score = arguments
     report, fault = Report(), None
     try:
-        symbols = Symbols()
-        tokens, instruments = orchestra_of(orchestra, symbols, report)
-        lines, count = score_of(score, instruments, symbols, report)
-        write_both([(orchestra + ".bin", tokens), (score + ".bin", lines)])
+        made = assembled(arguments[0], arguments[1] if len(arguments) == 2 else None, report)
     except Fault as told:
         fault = told
     for warning in report.warnings:
@@ -588,7 +599,7 @@ def main(arguments):
     if fault:
         print(fault, file=sys.stderr)
         return 1
-    print(f"{orchestra}.bin: {len(tokens)} bytes; {score}.bin: {len(lines)} bytes, {count} lines")
+    print(made)
     return 0
 
 

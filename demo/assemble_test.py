@@ -85,17 +85,22 @@ def wrong_pieces():
 
 
 def demo_differs():
+    """Whether the demo's kept files are not the ones that are made, or not those that the player's own run has."""
     with tempfile.TemporaryDirectory() as folder:
-        names = [shutil.copy(os.path.join(HERE, name), folder) for name in ("tune.orc", "tune.sco")]
+        orchestra = shutil.copy(os.path.join(HERE, "tune.orc"), folder)
         with contextlib.redirect_stdout(io.StringIO()):
-            assemble.main(names)
-        for name in names:
-            made = open(name + ".bin", "rb").read()
-            base = os.path.basename(name) + ".bin"
-            for kept in (os.path.join(HERE, base), os.path.join(HERE, "..", "crates", "play", "data", base)):
-                if open(kept, "rb").read() != made:
-                    print(f"{os.path.relpath(kept)} is not what assemble.py makes of {os.path.basename(name)}")
-                    return 1
+            assemble.main([orchestra])
+        with open(orchestra + ".bin", "rb") as file:
+            made = file.read()
+    played = os.path.join(HERE, "..", "crates", "play", "data")
+    with open(os.path.join(HERE, "tune.sasl"), "rb") as file:
+        score = file.read()
+    for kept, expected in ((os.path.join(HERE, "tune.orc.bin"), made), (os.path.join(played, "tune.orc.bin"), made),
+                           (os.path.join(played, "tune.sasl"), score)):
+        with open(kept, "rb") as file:
+            if file.read() != expected:
+                print(f"{os.path.relpath(kept)} is not the demo's")
+                return 1
     return 0
 
 

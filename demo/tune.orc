@@ -1,4 +1,4 @@
-// Three instruments for "tune.sco". 32,000 samples and 100 control cycles a second.
+// Three instruments for "tune.sasl". 32,000 samples and 100 control cycles a second.
 
 // A plucked lead. held: how many cycles the string is held before it is damped.
 // bright: 0 gives a soft tone, anything else the hollow tone of a clipped triangle.

@@ -4,20 +4,38 @@ mod names;
 mod tape;
 mod words;
 
+use answer::Answer;
+use panel::Brought;
 use panel::Panel;
 
 const DEFAULT_CEILING: u32 = 32767;
 
+// The score into a panel: typed as text where its name says so.
+fn brought(panel: Panel, path: &[u8], score: &[u8]) -> Brought {
+    if names::is_text(path) {
+        return Panel::load_text(panel, score);
+    }
+    Panel::load_score(panel, score)
+}
+
+fn refused(path: &[u8], length: usize, line: usize, a: Answer) {
+    if names::is_text(path) {
+        words::refused_text(path, line, a);
+        return;
+    }
+    words::refused_score(path, length, line, a);
+}
+
 // The score into a panel, and then the piece.
 fn performed(panel: Panel, path: &[u8], score: &[u8], out: &[u8]) {
-    let r = Panel::load_score(panel, score);
+    let r = brought(panel, path, score);
     let a = r.answer;
     if answer::is_taken(a) {
         let ready = r.panel;
         tape::recorded(ready, out);
         return;
     }
-    words::refused_score(path, score.len(), r.line, a);
+    refused(path, score.len(), r.line, a);
 }
 
 // The first n bytes of a buffer are the score, if it did not fill the buffer.

@@ -1,12 +1,16 @@
 // What is said, a line to a message, each with the program's name in front: on standard error, and the result where it is asked for.
 use answer::Answer;
 
+// No text has as many lines.
+const MOST_SHOWN: u64 = 0x1_0000_0000;
+
 fn say(text: &[u8]) {
     io::write_all(2, text);
 }
 
 pub fn usage() {
     say(b"play: usage: play ORCHESTRA SCORE OUT [CEILING]\n");
+    say(b"  SCORE is text where its name ends in .sasl or .txt, and else the bytes of a score.\n");
     say(
         b"  Plays the score's lines through the orchestra into a WAV file: 32,000 Hz, 16 bits, one channel.\n",
     );
@@ -40,6 +44,8 @@ fn meaning(a: Answer) {
         Answer::BadNames => say(b"name rules or name counts broken"),
         Answer::BadRates => say(b"rate rules broken"),
         Answer::TooLarge => say(b"orchestra too large"),
+        Answer::BadText => say(b"no score line, or one line too many"),
+        Answer::NoText => say(b"a line that text cannot say"),
     }
 }
 
@@ -94,6 +100,17 @@ fn refused_line(path: &[u8], line: usize, a: Answer) {
     about(path, b": line ");
     io::print_decimal(2, line as u64);
     say(b" (counted from 0): ");
+    meaning(a);
+    numbered(a);
+}
+
+// A text's lines are counted from 1, as editors count them, and from 0, as the panel does.
+pub fn refused_text(path: &[u8], line: usize, a: Answer) {
+    about(path, b": line ");
+    io::print_decimal(2, (line as u64) % MOST_SHOWN + 1);
+    say(b" (");
+    io::print_decimal(2, line as u64);
+    say(b" counted from 0): ");
     meaning(a);
     numbered(a);
 }

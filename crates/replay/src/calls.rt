@@ -1,7 +1,9 @@
 // One function for each kind of call: the call on lent memory that is marked, and its answer into the output.
 use crate::record::Record;
 use answer::Answer;
+use panel::Brought;
 use panel::Panel;
+use score_area::Decoded;
 use score_writer::Written;
 
 // The panel, if there is one.
@@ -57,8 +59,8 @@ fn fresh(bytes: &[u8], ceiling: u32, out: &mut [u8], used: usize) -> Done {
     left(panel, answer::is_taken(a), next)
 }
 
-fn stick(panel: Panel, bytes: &[u8], out: &mut [u8], used: usize) -> Done {
-    let r = Panel::load_score(panel, bytes);
+// A whole score: the number of the line that the answer is about stands behind it.
+fn whole(r: Brought, out: &mut [u8], used: usize) -> Done {
     let a = r.answer;
     let after = r.panel;
     let one = put_answer(out, used, a);
@@ -67,8 +69,7 @@ fn stick(panel: Panel, bytes: &[u8], out: &mut [u8], used: usize) -> Done {
     left(after, true, next)
 }
 
-fn unit(panel: Panel, bytes: &[u8], out: &mut [u8], used: usize) -> Done {
-    let r = Panel::receive_unit(panel, bytes);
+fn single(r: Brought, out: &mut [u8], used: usize) -> Done {
     let a = r.answer;
     let after = r.panel;
     let one = put_answer(out, used, a);
@@ -84,12 +85,7 @@ fn keypad_words(
     used: usize,
 ) -> Done {
     ports::words_of(bytes, words);
-    let r = Panel::enter_line(panel, words);
-    let a = r.answer;
-    let after = r.panel;
-    let one = put_answer(out, used, a);
-    let next = put_missed(out, one, after);
-    left(after, true, next)
+    single(Panel::enter_line(panel, words), out, used)
 }
 
 fn keypad(panel: Panel, bytes: &[u8], count: usize, out: &mut [u8], used: usize) -> Done {
@@ -128,10 +124,10 @@ fn untouched(count: usize, out: &mut [u8], used: usize) -> usize {
 }
 
 fn no_line(code: u8, out: &mut [u8], used: usize) -> usize {
-    if code == b'S' {
-        return ports::put_word(out, used, 0);
+    match code {
+        b'S' | b'T' => ports::put_word(out, used, 0),
+        _ => used,
     }
-    used
 }
 
 fn absent(code: u8, count: usize, out: &mut [u8], used: usize) -> usize {
@@ -144,72 +140,69 @@ fn absent(code: u8, count: usize, out: &mut [u8], used: usize) -> usize {
     next
 }
 
-fn decode_area(bytes: &[u8], area: &mut [u32], out: &mut [u8], used: usize) -> usize {
-    let r = score_area::decode_score(bytes, area);
+// Where a line's number is written, and where not.
+fn put_line(code: u8, line: usize, out: &mut [u8], used: usize) -> usize {
+    match code {
+        b'D' | b'E' | b'X' => ports::put_word(out, used, word_of(line)),
+        _ => used,
+    }
+}
+
+fn decoded(code: u8, bytes: &[u8], area: &mut [u32]) -> Decoded {
+    match code {
+        b'D' => score_area::decode_score(bytes, area),
+        b'd' => score_area::decode_unit(bytes, area),
+        _ => text_area::decode_text(bytes, area),
+    }
+}
+
+fn decode_area(code: u8, bytes: &[u8], area: &mut [u32], out: &mut [u8], used: usize) -> usize {
+    let r = decoded(code, bytes, area);
     let a = r.answer;
     let one = put_answer(out, used, a);
-    let two = ports::put_word(out, one, word_of(r.line));
+    let two = put_line(code, r.line, out, one);
     ports::put_words(out, two, area)
 }
 
-fn decode(bytes: &[u8], slots: usize, out: &mut [u8], used: usize) -> usize {
+fn decode(code: u8, bytes: &[u8], slots: usize, out: &mut [u8], used: usize) -> usize {
     let mut area = [1515870810u32; 2304];
     if slots <= 128 {
         let words = 18 * slots;
-        return decode_area(bytes, &mut area[..words], out, used);
+        return decode_area(code, bytes, &mut area[..words], out, used);
     }
     used
 }
 
-fn decode_unit_area(bytes: &[u8], area: &mut [u32], out: &mut [u8], used: usize) -> usize {
-    let r = score_area::decode_unit(bytes, area);
-    let a = r.answer;
-    let one = put_answer(out, used, a);
-    ports::put_words(out, one, area)
-}
-
-fn decode_unit(bytes: &[u8], slots: usize, out: &mut [u8], used: usize) -> usize {
-    let mut area = [1515870810u32; 2304];
-    if slots <= 128 {
-        let words = 18 * slots;
-        return decode_unit_area(bytes, &mut area[..words], out, used);
+fn written(code: u8, area: &[u32], slots: usize, lent: &mut [u8]) -> Written {
+    match code {
+        b'W' => score_writer::write_score(area, slots, lent),
+        b'w' => score_writer::write_slot(area, lent),
+        _ => text_writer::write_text(area, slots, lent),
     }
-    used
 }
 
-fn put_written(r: Written, lent: &[u8], out: &mut [u8], used: usize) -> usize {
-    let a = r.answer;
-    let one = put_answer(out, used, a);
-    let two = ports::put_word(out, one, word_of(r.bytes));
-    ports::put_bytes(out, two, lent)
-}
-
-fn write_area(bytes: &[u8], slots: usize, lent: &mut [u8], out: &mut [u8], used: usize) -> usize {
+fn write_area(
+    code: u8,
+    bytes: &[u8],
+    slots: usize,
+    lent: &mut [u8],
+    out: &mut [u8],
+    used: usize,
+) -> usize {
     let mut area = [0u32; 2304];
     ports::words_of(bytes, &mut area);
-    let r = score_writer::write_score(&area, slots, lent);
-    put_written(r, lent, out, used)
+    let r = written(code, &area, slots, lent);
+    let a = r.answer;
+    let one = put_answer(out, used, a);
+    let two = put_line(code, r.line, out, one);
+    let three = ports::put_word(out, two, word_of(r.bytes));
+    ports::put_bytes(out, three, lent)
 }
 
-fn write(bytes: &[u8], slots: usize, room: usize, out: &mut [u8], used: usize) -> usize {
-    let mut lent = [90u8; 8192];
-    if room <= 8192 {
-        return write_area(bytes, slots, &mut lent[..room], out, used);
-    }
-    used
-}
-
-fn write_unit_area(bytes: &[u8], lent: &mut [u8], out: &mut [u8], used: usize) -> usize {
-    let mut slot = [0u32; 18];
-    ports::words_of(bytes, &mut slot);
-    let r = score_writer::write_slot(&slot, lent);
-    put_written(r, lent, out, used)
-}
-
-fn write_unit(bytes: &[u8], room: usize, out: &mut [u8], used: usize) -> usize {
-    let mut lent = [90u8; 8192];
-    if room <= 8192 {
-        return write_unit_area(bytes, &mut lent[..room], out, used);
+fn write(code: u8, bytes: &[u8], slots: usize, room: usize, out: &mut [u8], used: usize) -> usize {
+    let mut lent = [90u8; 16384];
+    if room <= 16384 {
+        return write_area(code, bytes, slots, &mut lent[..room], out, used);
     }
     used
 }
@@ -225,10 +218,8 @@ fn alone(
     used: usize,
 ) -> usize {
     match code {
-        b'D' => decode(bytes, first, out, used),
-        b'd' => decode_unit(bytes, first, out, used),
-        b'W' => write(bytes, count, room, out, used),
-        _ => write_unit(bytes, room, out, used),
+        b'D' | b'd' | b'E' => decode(code, bytes, first, out, used),
+        _ => write(code, bytes, count, room, out, used),
     }
 }
 
@@ -242,8 +233,9 @@ fn on_panel(
     used: usize,
 ) -> Done {
     match code {
-        b'S' => stick(panel, bytes, out, used),
-        b'U' => unit(panel, bytes, out, used),
+        b'S' => whole(Panel::load_score(panel, bytes), out, used),
+        b'T' => whole(Panel::load_text(panel, bytes), out, used),
+        b'U' => single(Panel::receive_unit(panel, bytes), out, used),
         b'K' => keypad(panel, bytes, count, out, used),
         _ => cycle(panel, count, out, used),
     }
@@ -251,7 +243,7 @@ fn on_panel(
 
 fn needs_panel(code: u8) -> bool {
     match code {
-        b'S' | b'U' | b'K' | b'C' => true,
+        b'S' | b'T' | b'U' | b'K' | b'C' => true,
         _ => false,
     }
 }

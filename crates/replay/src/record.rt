@@ -39,14 +39,14 @@ fn dry(p: Port) -> Fault {
 
 fn is_known(code: u8) -> bool {
     match code {
-        b'F' | b'S' | b'U' | b'K' | b'C' | b'D' | b'd' | b'W' | b'w' => true,
+        b'F' | b'S' | b'T' | b'U' | b'K' | b'C' | b'D' | b'd' | b'E' | b'W' | b'w' | b'X' => true,
         _ => false,
     }
 }
 
 fn has_first(code: u8) -> bool {
     match code {
-        b'F' | b'D' | b'd' => true,
+        b'F' | b'D' | b'd' | b'E' => true,
         _ => false,
     }
 }
@@ -60,16 +60,20 @@ fn most_count(code: u8) -> u32 {
         b'F' => 32768,
         b'K' => 4096,
         b'C' => 1024,
-        b'W' => 128,
+        b'W' | b'X' => 128,
         _ => 1048576,
     }
 }
 
 fn has_room(code: u8) -> bool {
     match code {
-        b'W' | b'w' => true,
+        b'W' | b'w' | b'X' => true,
         _ => false,
     }
+}
+
+fn most_room(code: u8) -> u32 {
+    if code == b'X' { 16384 } else { 8192 }
 }
 
 // How many bytes a number of items takes.
@@ -77,7 +81,7 @@ pub fn size_of(code: u8, count: u32) -> usize {
     let n = count as usize;
     match code {
         b'K' => 4 * n,
-        b'W' | b'w' => 72 * n,
+        b'W' | b'w' | b'X' => 72 * n,
         b'C' => 0,
         _ => n,
     }
@@ -148,7 +152,7 @@ fn items(
     if q.dry {
         return stopped(q, dry(q), false);
     }
-    let room = number(q, has_room(code), 8192, 0, input, out);
+    let room = number(q, has_room(code), most_room(code), 0, input, out);
     let fault = room.fault;
     let port = room.port;
     Record {

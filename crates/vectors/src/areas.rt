@@ -32,6 +32,16 @@ pub fn decode_unit(bytes: &[u8], words: usize) -> u64 {
     NO_ROOM
 }
 
+pub fn decode_text(bytes: &[u8], words: usize) -> u64 {
+    let mut area = [0u32; 512];
+    if words <= 512 {
+        let r = text_area::decode_text(bytes, &mut area[..words]);
+        let a = r.answer;
+        return number(a);
+    }
+    NO_ROOM
+}
+
 // One line, into an area of so many bytes.
 pub fn write(slot: &[u32], bytes: usize) -> u64 {
     let mut out = [0u8; 512];
@@ -47,6 +57,16 @@ pub fn write_unit(slot: &[u32], bytes: usize) -> u64 {
     let mut out = [0u8; 512];
     if bytes <= 512 {
         let r = score_writer::write_slot(slot, &mut out[..bytes]);
+        let a = r.answer;
+        return number(a);
+    }
+    NO_ROOM
+}
+
+pub fn write_text(slot: &[u32], bytes: usize) -> u64 {
+    let mut out = [0u8; 512];
+    if bytes <= 512 {
+        let r = text_writer::write_text(slot, 1, &mut out[..bytes]);
         let a = r.answer;
         return number(a);
     }

@@ -86,6 +86,22 @@ fn stick(d: Desk, bytes: &[u8]) -> Desk {
     left(d, after, number(a))
 }
 
+fn typed(d: Desk, bytes: &[u8]) -> Desk {
+    let panel = d.panel;
+    let r = Panel::load_text(panel, bytes);
+    let a = r.answer;
+    let after = r.panel;
+    left(d, after, number(a))
+}
+
+// The number of the line that a text is refused for.
+fn typed_line(d: Desk, bytes: &[u8]) -> Desk {
+    let panel = d.panel;
+    let r = Panel::load_text(panel, bytes);
+    let after = r.panel;
+    left(d, after, r.line as u64)
+}
+
 fn unit(d: Desk, bytes: &[u8]) -> Desk {
     let panel = d.panel;
     let r = Panel::receive_unit(panel, bytes);
@@ -209,6 +225,8 @@ enum Call {
     Piece,
     Fresh,
     Stick,
+    Text,
+    TextLine,
     Unit,
     Keypad,
     Cycle,
@@ -219,8 +237,10 @@ enum Call {
     Position,
     Decode,
     DecodeUnit,
+    DecodeText,
     Write,
     WriteUnit,
+    WriteText,
     Unknown,
 }
 
@@ -237,6 +257,12 @@ fn on_panel(text: &[u8], h: Head) -> Call {
     }
     if text::is_name(text, h, b"unit") {
         return Call::Unit;
+    }
+    if text::is_name(text, h, b"text") {
+        return Call::Text;
+    }
+    if text::is_name(text, h, b"text_line") {
+        return Call::TextLine;
     }
     if text::is_name(text, h, b"keypad") {
         return Call::Keypad;
@@ -273,6 +299,12 @@ fn on_area(text: &[u8], h: Head) -> Call {
     if text::is_name(text, h, b"decode_unit") {
         return Call::DecodeUnit;
     }
+    if text::is_name(text, h, b"decode_text") {
+        return Call::DecodeText;
+    }
+    if text::is_name(text, h, b"write_text") {
+        return Call::WriteText;
+    }
     if text::is_name(text, h, b"write") {
         return Call::Write;
     }
@@ -298,6 +330,8 @@ fn called(d: Desk, c: Call, size: usize, bytes: &[u8], numbers: &[u32]) -> Desk 
         Call::Piece => piece(ceiling_of(size), bytes),
         Call::Fresh => fresh(d, ceiling_of(size), bytes),
         Call::Stick => stick(d, bytes),
+        Call::Text => typed(d, bytes),
+        Call::TextLine => typed_line(d, bytes),
         Call::Unit => unit(d, bytes),
         Call::Keypad => keypad(d, numbers),
         Call::Cycle => cycle(d, size),
@@ -308,6 +342,8 @@ fn called(d: Desk, c: Call, size: usize, bytes: &[u8], numbers: &[u32]) -> Desk 
         Call::Position => position(d),
         Call::Decode => got(d, crate::areas::decode(bytes, size)),
         Call::DecodeUnit => got(d, crate::areas::decode_unit(bytes, size)),
+        Call::DecodeText => got(d, crate::areas::decode_text(bytes, size)),
+        Call::WriteText => got(d, crate::areas::write_text(numbers, size)),
         Call::Write => got(d, crate::areas::write(numbers, size)),
         Call::WriteUnit => got(d, crate::areas::write_unit(numbers, size)),
         Call::Unknown => got(d, NO_CALL),

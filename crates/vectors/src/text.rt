@@ -1,5 +1,6 @@
 // A text of cases, a line each: `[+] [TIMES] CALL[(SIZE)] NUMBERS .. = EXPECTED # title`. TIMES, SIZE and EXPECTED are decimal, the
-// numbers hexadecimal, and `00*13` is the number 00 thirteen times. The program's input says what each call is.
+// numbers hexadecimal, and `00*13` is the number 00 thirteen times. `"0 end|"` stands for the numbers of its letters, | for a newline.
+// The program's input says what each call is.
 // Past the end of the text all bytes are 0.
 
 pub const MOST: usize = 512;
@@ -153,8 +154,68 @@ fn repeated(numbers: &mut [u32; 512], from: usize, value: u32, times: u32) -> us
     at
 }
 
+fn letter(b: u8) -> u32 {
+    match b {
+        b'|' => 10,
+        _ => b as u32,
+    }
+}
+
+// The place of the closing mark, or the line's end.
+fn quote_end(text: &[u8], from: usize) -> usize {
+    let mut at = from;
+    while at < text.len() {
+        let b = byte_at(text, at);
+        if b == b'"' || ends_line(b) {
+            return at;
+        }
+        at += 1;
+    }
+    at
+}
+
+fn letters(numbers: &mut [u32; 512], first: usize, text: &[u8], from: usize, end: usize) -> usize {
+    let mut to = first;
+    let mut at = from;
+    while at < end {
+        to = stored(numbers, to, letter(byte_at(text, at)));
+        at += 1;
+    }
+    to
+}
+
+fn letters_times(
+    numbers: &mut [u32; 512],
+    first: usize,
+    text: &[u8],
+    from: usize,
+    end: usize,
+    times: u32,
+) -> usize {
+    let mut to = first;
+    let mut left = times;
+    while left > 0 {
+        to = letters(numbers, to, text, from, end);
+        left -= 1;
+    }
+    to
+}
+
+// A text between quotation marks, which may be repeated as a number is.
+fn quoted(text: &[u8], f: Filled, from: usize, numbers: &mut [u32; 512]) -> Filled {
+    let end = quote_end(text, from);
+    let times = behind(text, past_sign(text, end, b'"'), b'*', 1);
+    Filled {
+        count: letters_times(numbers, f.count, text, from, end, word_of(times.value)),
+        next: past_spaces(text, times.next),
+    }
+}
+
 fn one_more(text: &[u8], f: Filled, numbers: &mut [u32; 512]) -> Filled {
     let from = past_spaces(text, f.next);
+    if byte_at(text, from) == b'"' {
+        return quoted(text, f, after(from), numbers);
+    }
     let end = word_end(text, from);
     let times = behind(text, end, b'*', 1);
     Filled {
