@@ -1,0 +1,34 @@
+-- A call has no other faults than 1 and 2.
+use mathlib.Core.List.{List}
+use Prim.Native.Nat.{ℕ}
+use Rattle.answer.specs.declared.Answer.the-variants.{CutShort, NotCarried}
+use Rattle.messages.specs.Writing.{Call, whole, fault, before, Says, nothing, written, running, system, stray, cut, running-cut}
+use Rattle.messages.specs.Reading.{callOf}
+use Rattle.messages.specs.declared.Heard.{Heard}
+use Rattle.messages.specs.declared.Heard.the-variants.{Note, Other}
+use Rattle.messages.specs.declared.Message.{Message}
+use Rattle.messages.proofs.Meaning.{every-call}
+
+pub data Kind : Call → Type 0 where
+  is-whole : (ms : List Message) → Kind (whole ms)
+  is-cut : Kind (fault CutShort)
+  is-not-carried : Kind (fault NotCarried)
+
+kind-before : (h : Heard) {c : Call} → Kind c → Kind (before h c)
+unfolding before
+kind-before (Note m) (is-whole ms) = is-whole _
+kind-before (Note m) is-cut = is-cut
+kind-before (Note m) is-not-carried = is-not-carried
+kind-before Other k = k
+
+kind-said : {s : ℕ} {bs : List ℕ} {c : Call} → Says s bs c → Kind c
+kind-said nothing = is-whole _
+kind-said (written w s) = kind-before _ (kind-said s)
+kind-said (running w s) = kind-before _ (kind-said s)
+kind-said (system h) = is-not-carried
+kind-said (stray h) = is-not-carried
+kind-said (cut p s) = is-cut
+kind-said (running-cut p s) = is-cut
+
+pub every-kind : (bs : List ℕ) → Kind (callOf bs)
+every-kind bs = kind-said (every-call bs)

@@ -1,0 +1,125 @@
+-- The one pass over a call's bytes: what is gathered so far and what the rest of the bytes say are together what the call says.
+use mathlib.Core.Path.{_≡_, refl, sym, ap, _∙_}
+use mathlib.Core.List.{List, [], _∷_, _++_, append-assoc, append-nil}
+use Prim.Native.Nat.{ℕ, suc, _+_, _<_, _≤_}
+use native.Mathlib.Numerals.{add-one}
+use native.Mathlib.Omega.{arith}
+use native.Mathlib.Decide.{decLt}
+use borrow.Author.Tests.{lt-ltb, le-ltb, ne-eqb, eq-eqb}
+use lib.ListN.{length, getD, take, drop, set, replicate, length-append, length-replicate, drop-of-length-le}
+use lib.Seq.{take-all, take-append-le, length-take-le, drop-cons, set-at}
+use Rattle.laws.proofs.Choice.{cond-true, cond-false}
+use Rattle.answer.specs.declared.Answer.{Answer}
+use Rattle.answer.specs.declared.Answer.the-variants.{Taken, CutShort}
+use Rattle.messages.specs.Writing.{Call, whole, fault, before}
+use Rattle.messages.specs.Reading.{start, stepped, behind, callFrom, callOf, most, blank, padded, hand, gathered}
+use Rattle.messages.specs.Passes.{answered, added}
+use Rattle.messages.specs.declared.Message.{Message}
+use Rattle.messages.specs.declared.Heard.{Heard}
+use Rattle.messages.specs.declared.Heard.the-variants.{Note, Other}
+use Rattle.messages.specs.declared.Place.{Place}
+use Rattle.messages.specs.declared.Step.{Step}
+use Rattle.messages.specs.declared.Step.the-variants.{Stops, Goes}
+use Rattle.messages.specs.declared.Gathered.{Gathered}
+
+-- messages, and one more where it is a note message
+kept : List Message → Heard → List Message
+kept ms (Note m) = ms ++ m ∷ []
+kept ms Other = ms
+
+-- messages before the rest of a call
+pub prefixed : List Message → Call → Call
+prefixed ms (whole ns) = whole (ms ++ ns)
+prefixed ms (fault a) = fault a
+
+prefixed-none : (c : Call) → prefixed [] c ≡ c
+unfolding prefixed
+prefixed-none (whole ns) = refl
+prefixed-none (fault a) = refl
+
+prefixed-heard : (ms : List Message) (h : Heard) (c : Call) → prefixed ms (before h c) ≡ prefixed (kept ms h) c
+unfolding prefixed before kept
+prefixed-heard ms (Note m) (whole ns) = ap whole (sym (append-assoc ms (m ∷ []) ns))
+prefixed-heard ms (Note m) (fault a) = refl
+prefixed-heard ms Other c = refl
+
+-- one more message goes in behind the others
+put-next : (ms : List Message) (m : Message) → length ms < most → set (padded ms) (length ms) m ≡ padded (ms ++ m ∷ [])
+put-next ms m h =
+    let n : length (ms ++ m ∷ []) ≡ suc (length ms) = length-append ms (m ∷ []) ∙ omega arith in
+    let r = replicate most blank in
+    let l : length ms < length r = rw (length-replicate) h in
+    rw (drop-cons r (length ms) blank l, set-at ms (getD r (length ms) blank) (drop (suc (length ms)) r) m (length ms) refl, n)
+    (sym (append-assoc ms (m ∷ []) (drop (suc (length ms)) r)))
+
+add-whole : (ms : List Message) (m : Message) → added (gathered (whole ms)) (Note m) ≡ gathered (whole (ms ++ m ∷ []))
+unfolding added gathered
+add-whole ms m = go (decLt (length ms) most)
+  where
+    go : Dec (length ms < most) → added (gathered (whole ms)) (Note m) ≡ gathered (whole (ms ++ m ∷ []))
+    go (yes h) =
+        let n : length (ms ++ m ∷ []) ≡ length ms + 1 = length-append ms (m ∷ []) in
+        rw (take-all most ms (omega arith), take-all most (ms ++ m ∷ []) (rw n (omega arith)))
+        (cond-true _ _ (lt-ltb (length ms) most h) ∙ (λ i. record { list = put-next ms m h i; count = sym n i; answer = Taken }))
+    go (no h) =
+        rw (take-append-le most ms (m ∷ []) (omega arith))
+        (cond-false _ _ (le-ltb (length (take most ms)) most (rw (length-take-le most ms (omega arith)) (omega arith))))
+
+add-heard : (ms : List Message) (h : Heard) → added (gathered (whole ms)) h ≡ gathered (whole (kept ms h))
+unfolding added kept
+add-heard ms (Note m) = add-whole ms m
+add-heard ms Other = refl
+
+-- ---- the loop
+pub record Inv (bs : List ℕ) (nothing g : Gathered) (p : Place) (i : ℕ) : Type 0 where
+  pub ms : List Message
+  pub empty : nothing ≡ hand [] Taken
+  pub held : g ≡ gathered (whole ms)
+  pub rest : prefixed ms (callFrom p (drop i bs)) ≡ callOf bs
+
+pub starts : (bs : List ℕ) {nothing : Gathered} → nothing ≡ hand [] Taken → Inv bs nothing nothing start 0
+unfolding callOf gathered
+starts bs e = record { ms = []; empty = e; held = e; rest = prefixed-none (callFrom start bs) }
+
+-- what the byte at i does
+here : (bs : List ℕ) (p : Place) (i b : ℕ) (s : Step) → i < length bs → b ≡ getD bs i 0 → s ≡ stepped p b
+    → callFrom p (drop i bs) ≡ behind s (λ q. callFrom q (drop (i + 1) bs))
+unfolding callFrom
+here bs p i b s h e f =
+    rw (add-one i, f, e) (ap (callFrom p) (drop-cons bs i 0 h))
+
+pub again : {bs : List ℕ} {nothing g g′ : Gathered} {p q : Place} {i b : ℕ} {s : Step} {h : Heard} → Inv bs nothing g p i → i < length bs
+    → b ≡ getD bs i 0 → s ≡ stepped p b → s ≡ Goes q h → g′ ≡ added g h → Inv bs nothing g′ q (i + 1)
+again {bs} {nothing} {g} {g′} {p} {q} {i} {b} {s} {h} v l e f k a = record {
+  ms = kept (v .ms) h;
+  empty = v .empty;
+  held = a ∙ ap (λ (x : Gathered). added x h) (v .held) ∙ add-heard (v .ms) h;
+  rest = sym (prefixed-heard (v .ms) h (callFrom q (drop (i + 1) bs))) ∙ ap (prefixed (v .ms)) (sym (here bs p i b (Goes q h) l e (sym k ∙ f))) ∙ v .rest;
+}
+
+-- ---- its ends
+whole-call : {bs : List ℕ} {nothing g : Gathered} {p : Place} {i : ℕ} → (v : Inv bs nothing g p i) → (c : Call) → callFrom p (drop i bs) ≡ c → prefixed (v .ms) c ≡ callOf bs
+whole-call v c e = ap (prefixed (v .ms)) (sym e) ∙ v .rest
+
+refused : {bs : List ℕ} {nothing g r : Gathered} {p : Place} {i : ℕ} (a : Answer) → Inv bs nothing g p i → callFrom p (drop i bs) ≡ fault a
+    → r ≡ answered nothing a → r ≡ gathered (callOf bs)
+unfolding gathered prefixed
+refused a v e k = k ∙ ap (λ (x : Gathered). answered x a) (v .empty) ∙ ap gathered (whole-call v (fault a) e)
+
+pub ends-fault : {bs : List ℕ} {nothing g r : Gathered} {p : Place} {i b : ℕ} {s : Step} {a : Answer} → Inv bs nothing g p i → i < length bs
+    → b ≡ getD bs i 0 → s ≡ stepped p b → s ≡ Stops a → r ≡ answered nothing a → r ≡ gathered (callOf bs)
+ends-fault {bs} {p = p} {i} {b} {a = a} v l e f k = refused a v (here bs p i b (Stops a) l e (sym k ∙ f))
+
+at-end : (bs : List ℕ) (p : Place) (i : ℕ) → length bs ≤ i → callFrom p (drop i bs) ≡ callFrom p []
+at-end bs p i h = ap (callFrom p) (drop-of-length-le bs h)
+
+pub ends-whole : {bs : List ℕ} {nothing g : Gathered} {p : Place} {i : ℕ} → Inv bs nothing g p i → length bs ≤ i → p .wants ≡ 0 → g ≡ gathered (callOf bs)
+unfolding callFrom prefixed
+ends-whole {bs} {p = p} {i} v h e =
+    v .held ∙ ap (λ (x : List Message). gathered (whole x)) (sym (append-nil (v .ms)))
+    ∙ ap gathered (whole-call v (whole []) (at-end bs p i h ∙ cond-true _ _ (eq-eqb (p .wants) 0 e)))
+
+pub ends-cut : {bs : List ℕ} {nothing g r : Gathered} {p : Place} {i : ℕ} → Inv bs nothing g p i → length bs ≤ i → (p .wants ≡ 0 → ⊥)
+    → r ≡ answered nothing CutShort → r ≡ gathered (callOf bs)
+unfolding callFrom
+ends-cut {bs} {p = p} {i} v h e = refused CutShort v (at-end bs p i h ∙ cond-false _ _ (ne-eqb (p .wants) 0 e))

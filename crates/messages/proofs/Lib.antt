@@ -1,0 +1,6 @@
+pub mod Ways
+pub mod Gathering
+pub mod Meaning
+pub mod Room
+pub mod Bounds
+pub mod Faults

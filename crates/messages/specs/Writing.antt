@@ -1,0 +1,71 @@
+-- Document 02 on a keyboard call: "whole messages per call, running status within the call and none at its start"; its faults, 1 and 2.
+use Prim.Native.Nat.{ℕ, _≤_, _<_}
+use mathlib.Core.Path.{_≡_}
+use mathlib.Core.List.{List, [], _∷_, _++_}
+use lib.ListN.{length, getD}
+use Rattle.answer.specs.declared.Answer.{Answer}
+use Rattle.answer.specs.declared.Answer.the-variants.{CutShort, NotCarried}
+use Rattle.messages.specs.Message.{firstStatus, firstSystem, none, dataBytes, heard}
+use Rattle.messages.specs.declared.Message.{Message}
+use Rattle.messages.specs.declared.Heard.{Heard}
+use Rattle.messages.specs.declared.Heard.the-variants.{Note, Other}
+
+-- the note messages of a call, in order, or the answer to its first fault
+pub data Call : Type 0 where
+  whole : List Message → Call
+  fault : Answer → Call
+
+-- a message before the rest of a call; of a call with a fault nothing is kept
+unfoldable pub before : Heard → Call → Call
+before (Note m) (whole ms) = whole (m ∷ ms)
+before (Note m) (fault a) = fault a
+before Other c = c
+
+unfoldable pub AllData : List ℕ → Type 0
+AllData [] = Unit {0}
+AllData (b ∷ bs) = (b < firstStatus) × AllData bs
+
+-- s is the status byte of a channel message, and ds are data bytes: all that it has, or too few
+pub record Whole (s : ℕ) (ds : List ℕ) : Type 0 where
+  pub status : firstStatus ≤ s
+  pub channel : s < firstSystem
+  pub plain : AllData ds
+  pub full : length ds ≡ dataBytes s
+
+pub record Part (s : ℕ) (ds : List ℕ) : Type 0 where
+  pub status : firstStatus ≤ s
+  pub channel : s < firstSystem
+  pub plain : AllData ds
+  pub few : length ds < dataBytes s
+
+-- the end, or any status byte
+pub data Stops : List ℕ → Type 0 where
+  at-end : Stops []
+  at-status : {b : ℕ} {bs : List ℕ} → firstStatus ≤ b → Stops (b ∷ bs)
+
+-- what bytes say, s being the running status before them
+pub data Says : ℕ → List ℕ → Call → Type 0 where
+  nothing : {s : ℕ} → Says s [] (whole [])
+  -- a whole message with its status byte, and one without, under the running status
+  written : {s k : ℕ} {ds bs : List ℕ} {c : Call} → Whole k ds → Says k bs c → Says s (k ∷ (ds ++ bs)) (before (heard k (getD ds 0 0) (getD ds 1 0)) c)
+  running : {s : ℕ} {ds bs : List ℕ} {c : Call} → Whole s ds → Says s bs c → Says s (ds ++ bs) (before (heard s (getD ds 0 0) (getD ds 1 0)) c)
+  -- a system byte between messages, or data with no status
+  system : {s b : ℕ} {bs : List ℕ} → firstSystem ≤ b → Says s (b ∷ bs) (fault NotCarried)
+  stray : {b : ℕ} {bs : List ℕ} → b < firstStatus → Says none (b ∷ bs) (fault NotCarried)
+  -- a message cut by the end or any status byte
+  cut : {s k : ℕ} {ds bs : List ℕ} → Part k ds → Stops bs → Says s (k ∷ (ds ++ bs)) (fault CutShort)
+  running-cut : {s d : ℕ} {ds bs : List ℕ} → Part s (d ∷ ds) → Stops bs → Says s (d ∷ (ds ++ bs)) (fault CutShort)
+
+-- a message's channel is below 16, its key and its velocity below 128
+pub record Lawful (m : Message) : Type 0 where
+  pub channel : m .channel < 16
+  pub key : m .key < 128
+  pub velocity : m .velocity < 128
+
+unfoldable pub AllLawful : List Message → Type 0
+AllLawful [] = Unit {0}
+AllLawful (m ∷ ms) = Lawful m × AllLawful ms
+
+unfoldable pub LawfulCall : Call → Type 0
+LawfulCall (whole ms) = AllLawful ms
+LawfulCall (fault a) = Unit {0}
