@@ -1,7 +1,7 @@
 -- Condition 3, first half, for every player that follows its history.
 use mathlib.Core.Path.{_≡_, refl, sym, ap, _∙_, subst, subst⁻¹}
 use mathlib.Core.Bool.{Bool, true, false, _&&_, cond}
-use mathlib.Core.List.{List, [], _∷_, _++_}
+use mathlib.Core.List.{List, [], _∷_, _++_, append-nil}
 use Prim.Native.Nat.{ℕ, suc, _≤_}
 use native.Mathlib.Omega.{arith}
 use native.Mathlib.Nat.{le-refl}
@@ -11,10 +11,11 @@ use lib.Dec.{eqb}
 use Rattle.score_line.specs.declared.Line.{Line}
 use Rattle.players.specs.Lists.{All}
 use Rattle.players.specs.Cycle.{Voices}
-use Rattle.players.specs.Holds.{Settings, Counts, Holds, behind, marked, dueOf, endsBy, answerOf, blockOf, played, cycled}
+use Rattle.players.specs.Holds.{Settings, Counts, Holds, behind, withMessages, marked, dueOf, endsBy, answerOf, blockOf, played, cycled}
 use Rattle.players.specs.Plain.{plainStart, plainAt, answerAt, blockAt}
-use Rattle.players.specs.Calls.{Call, bring, cycle, Answer, one, After, Player, numbered, takenOf, linesOf, isZero, Last, latest, none, Moment, takenIn, cyclesWith, lastWith, allTaken, momentOf, traceFrom}
-use Rattle.players.specs.Condition3.{InTime, AsPlain, PlainAlike}
+use Rattle.messages.specs.declared.Message.{Message}
+use Rattle.players.specs.Calls.{Call, bring, keyboard, cycle, messagesIn, messagesTaken, Answer, one, After, Player, numbered, takenOf, linesOf, isZero, Last, latest, none, Moment, takenIn, cyclesWith, lastWith, allTaken, momentOf, traceFrom}
+use Rattle.players.specs.Condition3.{InTime, AsPlain, NotKeyboard, PlainAlike}
 use Rattle.players.specs.History.{History, unbegun, withCycle, withMoment}
 use Rattle.players.proofs.Lists.{cond-true, cond-false}
 use Rattle.players.proofs.Join.{AllAbove, behind-none, behind-behind, ends-join, block-join, plays-join}
@@ -26,12 +27,25 @@ differ q = let z : _≡_ {A = ℕ} 0 1 = cc in omega arith
 -- a numbered call brings no line
 no-line : (c : Call) (given : List Answer) → numbered c ≡ true → takenOf (linesOf c) given ≡ []
 no-line (bring d handed) given q = absurd (differ (sym q))
+no-line (keyboard bytes) given q = absurd (differ (sym q))
 no-line (cycle b) [] q = refl
 no-line (cycle b) (a ∷ given) q = go (eqb (a .number) 0)
   where
     go : (z : Bool) → cond {A = List Line} z [] [] ++ [] ≡ []
     go true = refl
     go false = refl
+
+-- and only the keyboard brings note messages
+no-message : (b : Bool) (c : Call) → NotKeyboard c → cond b (messagesIn c) [] ≡ []
+no-message b (keyboard bytes) h = absurd h
+no-message true (bring d handed) h = refl
+no-message false (bring d handed) h = refl
+no-message true (cycle block) h = refl
+no-message false (cycle block) h = refl
+
+messages-none : {S : Type 0} (h : Holds S) (ms : List Message) → ms ≡ [] → withMessages ms h ≡ h
+unfolding withMessages
+messages-none h ms e = λ i. record { waits = h .waits; messages = (ap (λ (l : List Message). h .messages ++ l) e ∙ append-nil (h .messages)) i; plays = h .plays }
 
 -- ---- the plain player against what is held; f are the lines still to come
 
@@ -73,7 +87,7 @@ module _ {S : Type 0} (v : Voices S) (settings : ℕ → Settings) (ls : List Li
   unfolding answerAt answerOf plainAt cycled marked
   match-ends m e =
       let q : plainAt v settings ls k ≡ h = m .same ∙ behind-none h in
-      let st : cycled v (settings k) h ≡ record { waits = h .waits; plays = marked (h .plays) } = cond-false _ _ (m .runs) ∙ cond-true _ _ e in (
+      let st : cycled v (settings k) h ≡ record { waits = h .waits; messages = h .messages; plays = marked (h .plays) } = cond-false _ _ (m .runs) ∙ cond-true _ _ e in (
         ap answerOf q,
         record {
           here = ap (λ (d : Holds S). d .plays .ended) st;
@@ -150,10 +164,11 @@ module _ {P S : Type 0} (e : Player P) (v : Voices S) (settings : ℕ → Settin
   cycle-ended k h q = ap (λ (d : Holds S). d .plays .ended) (cond-true _ _ q) ∙ q
 
   still-ended : (h : History S) (m : Moment P) → h .holds .plays .ended ≡ true → withMoment v settings h m .holds .plays .ended ≡ true
-  unfolding behind
+  unfolding behind withMessages
   still-ended h m q = go (numbered (m .call))
     where
-      go : (b : Bool) → cond b (withCycle v settings (m .cycles) h) (record { holds = behind (takenIn m) (h .holds); reached = h .reached }) .holds .plays .ended ≡ true
+      go : (b : Bool)
+          → cond b (withCycle v settings (m .cycles) h) (record { holds = withMessages (messagesTaken m) (behind (takenIn m) (h .holds)); reached = h .reached }) .holds .plays .ended ≡ true
       go true = cycle-ended (m .cycles) (h .holds) q
       go false = q
 
@@ -180,15 +195,20 @@ module _ {P S : Type 0} (e : Player P) (v : Voices S) (settings : ℕ → Settin
     nine : (h : History S) (m : Moment P) → Follows h m → answerOf (h .holds) ≡ 9 → numbered (m .call) ≡ true → isZero (m .after .answers) ≡ true → ⊥
     nine h m f n q z = differ (sym z ∙ ap isZero (f .answer q) ∙ ap (λ (x : ℕ). eqb x 0) n)
 
-    over-step : (h : History S) (m : Moment P) → Follows h m → Over v settings ls (m .cycles) (h .holds)
+    -- a call of another kind changes nothing that plays
+    still-over : (k : ℕ) (h : Holds S) (ls′ : List Line) (ms : List Message) → Over v settings ls k h → Over v settings ls k (withMessages ms (behind ls′ h))
+    unfolding behind withMessages
+    still-over k h ls′ ms o = record { here = o .here; plain = o .plain; same = o .same }
+
+    over-step : (h : History S) (m : Moment P) → Over v settings ls (m .cycles) (h .holds)
         → (b : Bool) → numbered (m .call) ≡ b → Over v settings ls (cyclesWith m) (withMoment v settings h m .holds)
-    over-step h m f o true q =
+    over-step h m o true q =
         subst⁻¹ (λ (x : ℕ). Over v settings ls x (withMoment v settings h m .holds)) (cond-true _ _ q)
         (subst⁻¹ (λ (x : History S). Over v settings ls (suc (m .cycles)) (x .holds)) (cond-true _ _ q) (over-next v settings ls (m .cycles) (h .holds) o .1))
-    over-step h m f o false q =
+    over-step h m o false q =
         subst⁻¹ (λ (x : ℕ). Over v settings ls x (withMoment v settings h m .holds)) (cond-false _ _ q)
         (subst⁻¹ (λ (x : History S). Over v settings ls (m .cycles) (x .holds)) (cond-false _ _ q)
-        (subst⁻¹ (Over v settings ls (m .cycles)) (ap (λ (l : List Line). behind l (h .holds)) (f .over (o .here)) ∙ behind-none (h .holds)) o))
+        (still-over (m .cycles) (h .holds) (takenIn m) (messagesTaken m) o))
 
     ended-nine : (h : Holds S) → h .plays .ended ≡ true → answerOf h ≡ 9
     unfolding answerOf
@@ -200,7 +220,7 @@ module _ {P S : Type 0} (e : Player P) (v : Voices S) (settings : ℕ → Settin
     afterwards [] k z p h f o = tt
     afterwards (c ∷ cs) k z p h f o =
         let m = momentOf e k z p c in
-        let o′ = over-step h m (f .0) o (numbered c) refl in (
+        let o′ = over-step h m o (numbered c) refl in (
           as-plain h m (f .0) (λ q. over-next v settings ls k (h .holds) o .0)
               (λ q y. absurd (nine h m (f .0) (ended-nine (h .holds) (o .here)) q y)) (o′ .same),
           afterwards cs (cyclesWith m) (lastWith m) (e .after p c .player) (withMoment v settings h m) (f .1) o′,
@@ -210,12 +230,12 @@ module _ {P S : Type 0} (e : Player P) (v : Voices S) (settings : ℕ → Settin
 
     Goes : List Call → Type 0
     Goes cs =
-        (k : ℕ) (z : Last) (p : P) (h : History S) → AllFollow h (traceFrom e k z p cs)
+        All NotKeyboard cs → (k : ℕ) (z : Last) (p : P) (h : History S) → AllFollow h (traceFrom e k z p cs)
         → Match v settings ls k (h .holds) (allTaken (traceFrom e k z p cs)) → All (InTime e v settings ls) (traceFrom e k z p cs)
         → All (AsPlain e v settings ls) (traceFrom e k z p cs)
 
     -- one call, and then the others
-    module _ (c : Call) (cs : List Call) (rec : Goes cs) (k : ℕ) (z : Last) (p : P) (h : History S) where
+    module _ (c : Call) (cs : List Call) (bare-of : All NotKeyboard (c ∷ cs)) (rec : Goes cs) (k : ℕ) (z : Last) (p : P) (h : History S) where
       abbrev m : Moment P
       m = momentOf e k z p c
 
@@ -231,12 +251,15 @@ module _ {P S : Type 0} (e : Player P) (v : Voices S) (settings : ℕ → Settin
             → AsPlain e v settings ls m × All (AsPlain e v settings ls) rest
         unfolding Goes
         unnumbered q x =
-            let y = match-took v settings ls k (h .holds) (takenIn m) (allTaken rest) x in
+            let y : Match v settings ls k (withMessages (messagesTaken m) (behind (takenIn m) (h .holds))) (allTaken rest) =
+            subst⁻¹ (λ (d : Holds S). Match v settings ls k d (allTaken rest))
+            (messages-none (behind (takenIn m) (h .holds)) (messagesTaken m) (no-message (isZero (e .after p c .answers)) c (bare-of .0)))
+            (match-took v settings ls k (h .holds) (takenIn m) (allTaken rest) x) in
             let x′ : Match v settings ls (cyclesWith m) (h′ .holds) (allTaken rest) =
             subst⁻¹ (λ (n : ℕ). Match v settings ls n (h′ .holds) (allTaken rest)) (cond-false _ _ q)
             (subst⁻¹ (λ (d : History S). Match v settings ls k (d .holds) (allTaken rest)) (cond-false _ _ q) y) in (
               as-plain h m f (λ w. absurd (differ (sym w ∙ q))) (λ w. absurd (differ (sym w ∙ q))) (match-counts v settings ls _ (h′ .holds) _ x′),
-              rec _ _ _ h′ fs x′ is,
+              rec (bare-of .1) _ _ _ h′ fs x′ is,
             )
 
         -- it finds the end
@@ -268,7 +291,7 @@ module _ {P S : Type 0} (e : Player P) (v : Voices S) (settings : ℕ → Settin
             subst⁻¹ (λ (n : ℕ). Match v settings ls n (h′ .holds) (allTaken rest)) (cond-true _ _ q)
             (subst⁻¹ (λ (d : History S). Match v settings ls (suc k) (d .holds) (allTaken rest)) (cond-true _ _ q) (y .2)) in (
               as-plain h m f (λ w. y .0) (λ w u. y .1) (match-counts v settings ls _ (h′ .holds) _ x′),
-              rec _ _ _ h′ fs x′ is,
+              rec (bare-of .1) _ _ _ h′ fs x′ is,
             )
           where
             both : {a b : Bool} → a ≡ true → b ≡ true → (a && b) ≡ true
@@ -293,10 +316,10 @@ module _ {P S : Type 0} (e : Player P) (v : Voices S) (settings : ℕ → Settin
 
     goes : (cs : List Call) → Goes cs
     unfolding Goes traceFrom allTaken
-    goes [] = λ k z p h f x i. tt
-    goes (c ∷ cs) = λ k z p h f x i. next c cs (goes cs) k z p h f x i
+    goes [] = λ g k z p h f x i. tt
+    goes (c ∷ cs) = λ g k z p h f x i. next c cs g (goes cs) k z p h f x i
 
   -- a player that follows its history from its start agrees with the plain player
   pub plain-alike : (p : P) → ((cs : List Call) → AllFollow (unbegun (settings 0)) (traceFrom e 0 none p cs)) → PlainAlike e v settings p
   unfolding PlainAlike Goes plainAt behind plainStart
-  plain-alike p f cs i = goes (allTaken (traceFrom e 0 none p cs)) cs 0 none p (unbegun (settings 0)) (f cs) (record { runs = refl; same = refl }) i
+  plain-alike p f cs g i = goes (allTaken (traceFrom e 0 none p cs)) cs g 0 none p (unbegun (settings 0)) (f cs) (record { runs = refl; same = refl }) i

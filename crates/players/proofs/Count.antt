@@ -1,4 +1,5 @@
--- The count of missed notes never comes near 64 bits: at most 64 lines a cycle, at least 1,024 ticks a cycle, and a limit on position.
+-- The count of missed notes never comes near 64 bits: at most 64 lines and 64 note messages a cycle, at least 1,024 ticks a cycle, and a limit on
+-- position.
 use mathlib.Core.Path.{_≡_, refl, ap}
 use mathlib.Core.Bool.{Bool, true, false, not, _||_, cond}
 use mathlib.Core.List.{List, [], _∷_, _++_}
@@ -12,9 +13,10 @@ use Rattle.timebase.specs.Time.{cycleIn, cycleOf}
 use Rattle.score_line.specs.declared.Event.{Event}
 use Rattle.score_line.specs.declared.Event.the-variants.{Instr, Control, End, Tempo}
 use Rattle.score_line.specs.declared.Line.{Line}
+use Rattle.messages.specs.declared.Message.{Message}
 use Rattle.players.specs.Lists.{keep, fold, All}
-use Rattle.players.specs.Cycle.{Voices, Note, Started, isDue, earlier, insert, ordered, farthest, tempoFrom, lastTempo, joinedBy, startedBy, started, born}
-use Rattle.players.specs.Holds.{Settings, Plays, Holds, sixty, dueAt, laterThan, dueOf, endsBy, capped, startedOf, played}
+use Rattle.players.specs.Cycle.{Voices, Note, Started, isDue, earlier, insert, ordered, farthest, tempoFrom, lastTempo, joinedBy, letGoOldest, startedBy, started, born, controlled, pressed, afterMessage, afterMessages}
+use Rattle.players.specs.Holds.{Settings, Plays, Holds, Due, sixty, dueAt, laterThan, dueOf, endsBy, capped, startedOf, soundsOf, played}
 use Rattle.players.proofs.Lists.{length-keep, all-keep}
 
 -- a tempo of at least 1: 1,024 ticks a cycle or more
@@ -69,18 +71,18 @@ last-steady t (l ∷ ls) h f = last-steady (tempoFrom t (l .event)) ls (go (l .e
     go (Tempo u) s = s
 
 module _ {S : Type 0} (h : Holds S) where
-  due-few : length (dueOf h) ≤ length (h .waits)
+  due-few : length (dueOf h .lines) ≤ length (h .waits)
   unfolding dueAt ordered
   due-few =
       let a = length-onto [] (keep (isDue (h .plays .position)) (h .waits)) in
       let b = length-keep (isDue (h .plays .position)) (h .waits) in
       omega (arith, a, b)
 
-  due-all : (P : Line → Type 0) → All P (h .waits) → All P (dueOf h)
+  due-all : (P : Line → Type 0) → All P (h .waits) → All P (dueOf h .lines)
   unfolding dueAt ordered
   due-all P f = all-onto P [] (keep (isDue (h .plays .position)) (h .waits)) tt (all-keep (isDue (h .plays .position)) P (h .waits) f)
 
--- ---- each line misses one note at most
+-- ---- each line and each message misses one note at most
 
 module _ {S : Type 0} (v : Voices S) (most : ℕ) where
   join-least : (s : Started S) (n : Note S) → joinedBy most s n .missed ≤ s .missed + 1
@@ -106,19 +108,38 @@ module _ {S : Type 0} (v : Voices S) (most : ℕ) where
       let r = fold-least pos (startedBy v most pos l s (l .event)) ls in
       omega (arith, a, r)
 
+  message-least : (chosen : ℕ) (s : Started S) (m : Message) → afterMessage v most chosen s m .missed ≤ s .missed + 1
+  unfolding afterMessage
+  message-least chosen s m = go (m .on) (join-least s (pressed v chosen m))
+    where
+      go : (b : Bool) → joinedBy most s (pressed v chosen m) .missed ≤ s .missed + 1
+          → cond b (joinedBy most s (pressed v chosen m)) (record { notes = letGoOldest (m .channel) (m .key) (s .notes); missed = s .missed }) .missed ≤ s .missed + 1
+      go true h = h
+      go false h = omega arith
+
+  messages-least : (chosen : ℕ) (s : Started S) (ms : List Message) → afterMessages v most chosen s ms .missed ≤ s .missed + length ms
+  unfolding afterMessages fold
+  messages-least chosen s [] = omega arith
+  messages-least chosen s (m ∷ ms) =
+      let a = message-least chosen s m in
+      let r = messages-least chosen (afterMessage v most chosen s m) ms in
+      omega (arith, a, r)
+
 module _ {S : Type 0} (v : Voices S) (s : Settings) where
-  missed-least : (h : Holds S) → startedOf v s (dueOf h) (h .plays) .missed ≤ length (h .waits)
-  unfolding startedOf started
+  missed-least : (h : Holds S) → soundsOf v s (dueOf h) (h .plays) .missed ≤ length (h .waits) + length (h .messages)
+  unfolding soundsOf startedOf started
   missed-least h =
-      let a = fold-least v (s .mostNotes) (h .plays .position) (record { notes = h .plays .notes; missed = 0 }) (dueOf h) in
+      let a = fold-least v (s .mostNotes) (h .plays .position) (record { notes = h .plays .notes; missed = 0 }) (dueOf h .lines) in
       let b = due-few h in
-      omega (arith, a, b)
+      let m = messages-least v (s .mostNotes) (s .chosen)
+      (record { notes = controlled v (startedOf v s (dueOf h) (h .plays) .notes) (dueOf h .lines); missed = startedOf v s (dueOf h) (h .plays) .missed }) (h .messages) in
+      omega (arith, a, b, m)
 
 -- ---- the invariant
 
 -- few notes missed for the position reached, and every tempo at least 1
 pub record Slow {S : Type 0} (h : Holds S) : Type 0 where
-  pub few : h .plays .counts .missed * 16 ≤ h .plays .position
+  pub few : h .plays .counts .missed * 8 ≤ h .plays .position
   pub lines : AllSteady (h .waits)
   pub tempo : 1024 ≤ cycleIn (h .plays .tempo)
 
@@ -126,19 +147,19 @@ or-left : (a b : Bool) → (a || b) ≡ false → a ≡ false
 or-left true b h = h
 or-left false b h = refl
 
-pub within-limit : {S : Type 0} (due : List Line) (p : Plays S) → endsBy due p ≡ false → p .position ≤ farthest
+pub within-limit : {S : Type 0} (due : Due) (p : Plays S) → endsBy due p ≡ false → p .position ≤ farthest
 unfolding endsBy
 within-limit due p e = ltb-false farthest (p .position) (or-left (ltb farthest (p .position)) _ e)
 
-module _ {S : Type 0} (v : Voices S) (s : Settings) (h : Holds S) (short : length (h .waits) ≤ 64) (slow : Slow h)
+module _ {S : Type 0} (v : Voices S) (s : Settings) (h : Holds S) (short : length (h .waits) ≤ 64) (brief : length (h .messages) ≤ 64) (slow : Slow h)
     (near : h .plays .position ≤ farthest) where
   pub cap-none : capped (played v s (dueOf h) (h .plays)) ≡ played v s (dueOf h) (h .plays)
   unfolding capped played
   cap-none =
       let p = h .plays in
       let m = missed-least v s h in
-      let e : min (p .counts .missed + startedOf v s (dueOf h) p .missed) 18446744073709551615 ≡ p .counts .missed + startedOf v s (dueOf h) p .missed =
-      omega (arith, m, slow .few, near, short) in
+      let e : min (p .counts .missed + soundsOf v s (dueOf h) p .missed) 18446744073709551615 ≡ p .counts .missed + soundsOf v s (dueOf h) p .missed =
+      omega (arith, m, slow .few, near, short, brief) in
       λ i. record {
         notes = played v s (dueOf h) p .notes;
         position = played v s (dueOf h) p .position;
@@ -147,14 +168,14 @@ module _ {S : Type 0} (v : Voices S) (s : Settings) (h : Holds S) (short : lengt
         ended = false;
       }
 
-  pub slow-played : Slow (record { waits = laterThan (h .plays .position) (h .waits); plays = played v s (dueOf h) (h .plays) })
+  pub slow-played : Slow (record { waits = laterThan (h .plays .position) (h .waits); messages = []; plays = played v s (dueOf h) (h .plays) })
   unfolding played laterThan
   slow-played =
       let p = h .plays in
       let m = missed-least v s h in
-      let t : 1024 ≤ cycleIn (lastTempo (p .tempo) (dueOf h)) = last-steady (p .tempo) (dueOf h) (slow .tempo) (due-all h _ (slow .lines)) in
+      let t : 1024 ≤ cycleIn (lastTempo (p .tempo) (dueOf h .lines)) = last-steady (p .tempo) (dueOf h .lines) (slow .tempo) (due-all h _ (slow .lines)) in
       record {
-        few = omega (arith, m, t, slow .few, short);
+        few = omega (arith, m, t, slow .few, short, brief);
         lines = all-keep (λ (l : Line). not (isDue (p .position) l)) (λ (l : Line). steady (l .event)) (h .waits) (slow .lines);
         tempo = t;
       }

@@ -11,7 +11,7 @@ use Rattle.score_line.specs.declared.When.the-variants.{Timed, Untimed}
 use Rattle.score_line.specs.declared.Line.{Line}
 use Rattle.players.specs.Lists.{keep, All}
 use Rattle.players.specs.Cycle.{Voices, dueWhen, isDue, ordered}
-use Rattle.players.specs.Holds.{Settings, Holds, behind, dueAt, laterThan, dueOf, endsBy, blockOf, played, cycled}
+use Rattle.players.specs.Holds.{Settings, Due, Holds, behind, dueAt, laterThan, dueOf, endsBy, blockOf, played, cycled}
 use Rattle.players.specs.Condition3.{above}
 use Rattle.players.proofs.Lists.{cond-true, cond-false, keep-append}
 
@@ -42,17 +42,17 @@ keep-all position (l ∷ ls) h =
 module _ {S : Type 0} where
   pub behind-none : (h : Holds S) → behind [] h ≡ h
   unfolding behind
-  behind-none h = λ i. record { waits = append-nil (h .waits) i; plays = h .plays }
+  behind-none h = λ i. record { waits = append-nil (h .waits) i; messages = h .messages; plays = h .plays }
 
   pub behind-behind : (h : Holds S) (xs ys : List Line) → behind ys (behind xs h) ≡ behind (xs ++ ys) h
   unfolding behind
-  behind-behind h xs ys = λ i. record { waits = append-assoc (h .waits) xs ys i; plays = h .plays }
+  behind-behind h xs ys = λ i. record { waits = append-assoc (h .waits) xs ys i; messages = h .messages; plays = h .plays }
 
 module _ {S : Type 0} (h : Holds S) (f : List Line) (a : AllAbove (h .plays .position) f) where
   due-join : dueOf (behind f h) ≡ dueOf h
   unfolding dueAt behind
   due-join =
-      ap ordered
+      ap (λ (ls : List Line). record { lines = ordered ls; messages = h .messages })
       (keep-append (isDue (h .plays .position)) (h .waits) f
       ∙ ap (λ (t : List Line). keep (isDue (h .plays .position)) (h .waits) ++ t) (keep-none (h .plays .position) f a)
       ∙ append-nil _)
@@ -65,17 +65,17 @@ module _ {S : Type 0} (h : Holds S) (f : List Line) (a : AllAbove (h .plays .pos
 
   pub ends-join : endsBy (dueOf (behind f h)) (behind f h .plays) ≡ endsBy (dueOf h) (h .plays)
   unfolding behind
-  ends-join = ap (λ (due : List Line). endsBy due (h .plays)) due-join
+  ends-join = ap (λ (due : Due). endsBy due (h .plays)) due-join
 
   module _ (v : Voices S) (s : Settings) where
     pub block-join : blockOf v s (dueOf (behind f h)) (behind f h .plays) ≡ blockOf v s (dueOf h) (h .plays)
     unfolding behind
-    block-join = ap (λ (due : List Line). blockOf v s due (h .plays)) due-join
+    block-join = ap (λ (due : Due). blockOf v s due (h .plays)) due-join
 
     -- a cycle that plays
     pub plays-join : h .plays .ended ≡ false → endsBy (dueOf h) (h .plays) ≡ false → cycled v s (behind f h) ≡ behind f (cycled v s h)
     unfolding cycled behind
     plays-join r e =
         cond-false _ _ r ∙ cond-false _ _ (ends-join ∙ e)
-        ∙ (λ i. record { waits = later-join i; plays = played v s (due-join i) (h .plays) })
+        ∙ (λ i. record { waits = later-join i; messages = []; plays = played v s (due-join i) (h .plays) })
         ∙ sym (ap (behind f) (cond-false _ _ r ∙ cond-false _ _ e))

@@ -22,7 +22,7 @@ module _ {S : Type 0} (v : Voices S) where
   cycle-mono s h = go (h .plays .ended) (endsBy (dueOf h) (h .plays))
     where
       go : (a b : Bool) → h .plays .position
-          ≤ cond a h (cond b (record { waits = h .waits; plays = marked (h .plays) }) (record { waits = laterThan (h .plays .position) (h .waits); plays = played v s (dueOf h) (h .plays) })) .plays .position
+          ≤ cond a h (cond b (record { waits = h .waits; messages = h .messages; plays = marked (h .plays) }) (record { waits = laterThan (h .plays .position) (h .waits); messages = []; plays = played v s (dueOf h) (h .plays) })) .plays .position
       go true b = omega arith
       go false true = omega arith
       go false false = omega arith

@@ -14,6 +14,9 @@ use Rattle.score_line.specs.declared.Line.{Line}
 use Rattle.score_line.specs.declared.LineRead.{LineRead}
 use Rattle.score.specs.Score.{Score, scoreOf, unitOf}
 use Rattle.score_text.specs.Reading.{textOf}
+use Rattle.messages.specs.Writing as midi
+use Rattle.messages.specs.Reading.{callOf}
+use Rattle.messages.specs.declared.Message.{Message}
 use Rattle.players.specs.Cycle.{samples}
 use Rattle.players.specs.Holds.{Counts}
 
@@ -50,15 +53,28 @@ reads text bytes = textOf bytes
 
 -- ---- calls
 
--- bytes or numbers at a door, or a block as it is lent
+-- bytes or numbers at a door, bytes at the keyboard, or a block as it is lent
 pub data Call : Type 0 where
   bring : Door → List ℕ → Call
+  keyboard : List ℕ → Call
   cycle : List ℤ → Call
 
 -- the lines that a call holds, for each answer that it gets
 abbrev pub linesOf : Call → List (List Line)
 linesOf (bring d handed) = reads d handed .lines ∷ []
+linesOf (keyboard bytes) = [] ∷ []
 linesOf (cycle block) = [] ∷ []
+
+-- the note messages that bytes are, none where they have a fault
+abbrev pub wholeMessages : midi.Call → List Message
+wholeMessages (midi.whole ms) = ms
+wholeMessages (midi.fault a) = []
+
+-- the note messages that a call holds
+abbrev pub messagesIn : Call → List Message
+messagesIn (bring d handed) = []
+messagesIn (keyboard bytes) = wholeMessages (callOf bytes)
+messagesIn (cycle block) = []
 
 -- an answer: its number, and the number of the line that it is about
 pub record Answer : Type 0 where
@@ -83,6 +99,7 @@ pub record Player (P : Type 0) : Type 0 where
 -- a cycle call lent a block of 320 samples: these are numbered from 0
 abbrev pub numbered : Call → Bool
 numbered (bring d handed) = false
+numbered (keyboard bytes) = false
 numbered (cycle block) = eqb (length block) samples
 
 -- the lines taken: of every part that is answered 0
@@ -113,6 +130,10 @@ pub record Moment (P : Type 0) : Type 0 where
 module _ {P : Type 0} where
   abbrev pub takenIn : Moment P → List Line
   takenIn m = takenOf (linesOf (m .call)) (m .after .answers)
+
+  -- the note messages taken: all of a call that is answered 0
+  abbrev pub messagesTaken : Moment P → List Message
+  messagesTaken m = cond (isZero (m .after .answers)) (messagesIn (m .call)) []
 
   -- how many numbered cycle calls there are up to and with this one
   abbrev pub cyclesWith : Moment P → ℕ

@@ -12,7 +12,7 @@ use Rattle.players.specs.Lists.{All}
 use Rattle.players.specs.Cycle.{Voices}
 use Rattle.players.specs.Holds.{Settings}
 use Rattle.players.specs.Plain.{plainAt, answerAt, blockAt}
-use Rattle.players.specs.Calls.{Call, Player, numbered, isZero, one, Last, none, latest, Moment, takenIn, cyclesWith, allTaken, trace}
+use Rattle.players.specs.Calls.{Call, bring, keyboard, cycle, Player, numbered, isZero, one, Last, none, latest, Moment, takenIn, cyclesWith, allTaken, trace}
 
 abbrev pub timed : When → Type 0
 timed (Timed late t) = Unit {0}
@@ -41,11 +41,16 @@ module _ {P S : Type 0} (e : Player P) (v : Voices S) (settings : ℕ → Settin
     pub block : numbered (m .call) ≡ true → isZero (m .after .answers) ≡ true → m .after .block ≡ blockAt v settings ls (m .cycles)
     pub counts : e .counts (m .after .player) ≡ plainAt v settings ls (cyclesWith m) .plays .counts
 
--- The first half, for a player p at its fresh start: for any list of calls, if every line taken is timed and in time, each call
--- agrees with the plain player that is given the lines taken.
+abbrev pub NotKeyboard : Call → Type 0
+NotKeyboard (bring d handed) = Unit {0}
+NotKeyboard (keyboard bytes) = ⊥
+NotKeyboard (cycle block) = Unit {0}
+
+-- The first half, for a player p at its fresh start: for any list of calls, none of them at the keyboard, if every line taken is timed and
+-- in time, each call agrees with the plain player that is given the lines taken.
 unfoldable pub PlainAlike : {P S : Type 0} → Player P → Voices S → (ℕ → Settings) → P → Type 0
 PlainAlike e v settings p =
-    (cs : List Call) → let ms = trace e p cs in
+    (cs : List Call) → All NotKeyboard cs → let ms = trace e p cs in
     let ls = allTaken ms in
     All (InTime e v settings ls) ms → All (AsPlain e v settings ls) ms
 

@@ -1,6 +1,6 @@
 -- Document 01, "One cycle, in order", over lists. What the notes do is a parameter, the voices, so that the panel and the plain
 -- player share this one definition.
-use mathlib.Core.Bool.{Bool, true, false, _&&_, _||_, cond}
+use mathlib.Core.Bool.{Bool, true, false, not, _&&_, _||_, cond}
 use mathlib.Core.List.{List, [], _∷_, _++_}
 use Prim.Native.Nat.{ℕ, _+_}
 use lib.IntN.{ℤ}
@@ -16,6 +16,8 @@ use Rattle.score_line.specs.declared.Label.the-variants.{Unlabelled, Labelled}
 use Rattle.score_line.specs.declared.Event.{Event}
 use Rattle.score_line.specs.declared.Event.the-variants.{Instr, Control, End, Tempo}
 use Rattle.score_line.specs.declared.Line.{Line}
+use Rattle.keys.specs.Keys.{frequencyOf, loudnessOf}
+use Rattle.messages.specs.declared.Message.{Message}
 use Rattle.players.specs.Lists.{fold, each}
 
 -- ---- the voices
@@ -42,6 +44,11 @@ pub record Note (S : Type 0) : Type 0 where
   -- whether it is without end; if not, the position of its birth plus the ticks of its duration
   pub endless : Bool
   pub end : ℕ
+  -- whether it is from the keyboard, and then its channel and key, 0 where it is not; whether that key was let go
+  pub keyed : Bool
+  pub channel : ℕ
+  pub key : ℕ
+  pub released : Bool
   pub state : S
 
 -- ---- due lines
@@ -126,7 +133,33 @@ limited ceiling mix = each (λ (x : Float). sampleOf x ceiling) mix
 
 module _ {S : Type 0} where
   abbrev pub withState : Note S → S → Note S
-  withState n s = record { labelled = n .labelled; label = n .label; endless = n .endless; end = n .end; state = s }
+  withState n s =
+      record {
+        labelled = n .labelled;
+        label = n .label;
+        endless = n .endless;
+        end = n .end;
+        keyed = n .keyed;
+        channel = n .channel;
+        key = n .key;
+        released = n .released;
+        state = s;
+      }
+
+  -- marked for removal
+  abbrev pub letGo : Note S → Note S
+  letGo n =
+      record {
+        labelled = n .labelled;
+        label = n .label;
+        endless = n .endless;
+        end = n .end;
+        keyed = n .keyed;
+        channel = n .channel;
+        key = n .key;
+        released = true;
+        state = n .state;
+      }
 
   -- one note more; with the most notes sounding, one more missed
   unfoldable pub joinedBy : ℕ → Started S → Note S → Started S
@@ -135,9 +168,18 @@ module _ {S : Type 0} where
       (record { notes = s .notes ++ (n ∷ []); missed = s .missed })
       (record { notes = s .notes; missed = s .missed + 1 })
 
-  -- a note that goes on after a cycle at a position: its end lies above it
+  -- a note that goes on after a cycle at a position: it is not marked, and its end lies above the position
   unfoldable pub goesOn : ℕ → Note S → Bool
-  goesOn pos n = n .endless || ltb pos (n .end)
+  goesOn pos n = not (n .released) && (n .endless || ltb pos (n .end))
+
+  -- an unmarked note of a key of a channel
+  unfoldable pub isHeld : ℕ → ℕ → Note S → Bool
+  isHeld channel key n = n .keyed && eqb (n .channel) channel && eqb (n .key) key && not (n .released)
+
+  -- the oldest unmarked note of a key of a channel marked; the others stay
+  unfoldable pub letGoOldest : ℕ → ℕ → List (Note S) → List (Note S)
+  letGoOldest channel key [] = []
+  letGoOldest channel key (n ∷ ns) = cond (isHeld channel key n) (letGo n ∷ ns) (n ∷ letGoOldest channel key ns)
 
 module _ {S : Type 0} (v : Voices S) where
   -- the note that an instr line starts; its values are the first of the fields, a duration of -1 is without end
@@ -148,6 +190,10 @@ module _ {S : Type 0} (v : Voices S) where
         label = labelNumber label;
         endless = eq duration withoutEnd;
         end = pos + ticksIn duration;
+        keyed = false;
+        channel = 0;
+        key = 0;
+        released = false;
         state = v .birth instrument (take (l .count) (l .values));
       }
 
@@ -176,6 +222,31 @@ module _ {S : Type 0} (v : Voices S) where
   -- step 4: each control line in order
   unfoldable pub controlled : List (Note S) → List Line → List (Note S)
   controlled ns ls = fold (λ (ms : List (Note S)) (l : Line). controlEvent ms (l .event)) ns ls
+
+  -- the note that a note-on starts, of the chosen instrument, without label and end
+  unfoldable pub pressed : ℕ → Message → Note S
+  pressed chosen m =
+      record {
+        labelled = false;
+        label = 0;
+        endless = true;
+        end = 0;
+        keyed = true;
+        channel = m .channel;
+        key = m .key;
+        released = false;
+        state = v .birth chosen (frequencyOf (m .key) ∷ loudnessOf (m .velocity) ∷ []);
+      }
+
+  -- a note-on starts a note, as an instr line does; a note-off marks one
+  unfoldable pub afterMessage : ℕ → ℕ → Started S → Message → Started S
+  afterMessage most chosen s m =
+      cond (m .on) (joinedBy most s (pressed chosen m))
+      (record { notes = letGoOldest (m .channel) (m .key) (s .notes); missed = s .missed })
+
+  -- after step 4: each note message in order
+  unfoldable pub afterMessages : ℕ → ℕ → Started S → List Message → Started S
+  afterMessages most chosen s ms = fold (afterMessage most chosen) s ms
 
   -- step 5: notes run, oldest first, each adding its outputs to the samples
   unfoldable pub runFrom : List (Note S) → List Float → Band S

@@ -1,12 +1,12 @@
--- What a list of calls leaves by its history: a machine of its own, which learns nothing of the player but which lines it took.
+-- What a list of calls leaves by its history: a machine of its own, which learns nothing of the player but which lines and note messages it took.
 use mathlib.Core.Bool.{cond}
 use mathlib.Core.List.{List, [], _∷_}
 use Prim.Native.Nat.{ℕ}
 use lib.Dec.{eqb}
 use Rattle.players.specs.Cycle.{Voices}
-use Rattle.players.specs.Holds.{Settings, Holds, behind, cycled, answerOf}
+use Rattle.players.specs.Holds.{Settings, Holds, behind, withMessages, cycled, answerOf}
 use Rattle.players.specs.Plain.{plainStart}
-use Rattle.players.specs.Calls.{numbered, Moment, takenIn}
+use Rattle.players.specs.Calls.{numbered, Moment, takenIn, messagesTaken}
 
 -- the position at the start of the last cycle that answered 0
 pub data Reached : Type 0 where
@@ -31,10 +31,11 @@ module _ {S : Type 0} (v : Voices S) (settings : ℕ → Settings) where
         reached = cond (eqb (answerOf (h .holds)) 0) (at (h .holds .plays .position)) (h .reached);
       }
 
-  -- one moment more: the lines taken wait behind the others; a numbered cycle call is a cycle; nothing else has an effect
+  -- one moment more: the lines and note messages taken wait behind the others; a numbered cycle call is a cycle; nothing else has an effect
   abbrev pub withMoment : {P : Type 0} → History S → Moment P → History S
   withMoment h m =
-      cond (numbered (m .call)) (withCycle (m .cycles) h) (record { holds = behind (takenIn m) (h .holds); reached = h .reached })
+      cond (numbered (m .call)) (withCycle (m .cycles) h)
+      (record { holds = withMessages (messagesTaken m) (behind (takenIn m) (h .holds)); reached = h .reached })
 
   unfoldable pub historyFrom : {P : Type 0} → History S → List (Moment P) → History S
   historyFrom h [] = h

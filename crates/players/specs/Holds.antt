@@ -1,14 +1,15 @@
 -- What a player holds, in two parts, and document 01's cycle as a function of the settings, the due lines and what plays.
 use mathlib.Core.Bool.{Bool, true, false, not, _||_, cond}
-use mathlib.Core.List.{List, _++_}
+use mathlib.Core.List.{List, [], _++_}
 use Prim.Native.Nat.{ℕ, _+_, min}
 use lib.IntN.{ℤ}
 use lib.Dec.{ltb}
 use lib.Ieee.{Float, binary32, ofBits}
 use Rattle.timebase.specs.Time.{cycleIn}
 use Rattle.score_line.specs.declared.Line.{Line}
+use Rattle.messages.specs.declared.Message.{Message}
 use Rattle.players.specs.Lists.{keep}
-use Rattle.players.specs.Cycle.{Voices, Note, Started, Band, isDue, ordered, farthest, anyEnd, lastTempo, started, controlled, runAll, limited, goesOn}
+use Rattle.players.specs.Cycle.{Voices, Note, Started, Band, isDue, ordered, farthest, anyEnd, lastTempo, started, controlled, afterMessages, runAll, limited, goesOn}
 
 -- what a fresh start fixes
 pub record Settings : Type 0 where
@@ -16,6 +17,8 @@ pub record Settings : Type 0 where
   -- the most notes that sound at once
   pub mostNotes : ℕ
   pub startingTempo : Float
+  -- the instrument of the keyboard's notes, by its name
+  pub chosen : ℕ
 
 -- today's: 16 notes
 abbrev pub sixteen : ℕ
@@ -25,8 +28,8 @@ sixteen = 16
 unfoldable pub sixty : Float
 sixty = ofBits binary32 0x42700000
 
-abbrev pub settingsOf : ℕ → Settings
-settingsOf ceiling = record { ceiling = ceiling; mostNotes = sixteen; startingTempo = sixty }
+abbrev pub settingsOf : ℕ → ℕ → Settings
+settingsOf ceiling chosen = record { ceiling = ceiling; mostNotes = sixteen; startingTempo = sixty; chosen = chosen }
 
 -- what a player counts; condition 3 compares it whole
 pub record Counts : Type 0 where
@@ -43,10 +46,16 @@ pub record Plays (S : Type 0) : Type 0 where
   -- whether the piece is ended
   pub ended : Bool
 
--- what a player holds between two calls: the waiting lines, in order of arrival, and what plays
+-- what a player holds between two calls: the waiting lines and note messages, each in order of arrival, and what plays
 pub record Holds (S : Type 0) : Type 0 where
   pub waits : List Line
+  pub messages : List Message
   pub plays : Plays S
+
+-- what acts in a cycle: the due lines, in order, and the note messages that wait
+pub record Due : Type 0 where
+  pub lines : List Line
+  pub messages : List Message
 
 -- ---- what waits
 
@@ -61,17 +70,21 @@ laterThan position waits = keep (λ (l : Line). not (isDue position l)) waits
 module _ {S : Type 0} where
   -- lines that are taken wait behind the others
   unfoldable pub behind : List Line → Holds S → Holds S
-  behind ls h = record { waits = h .waits ++ ls; plays = h .plays }
+  behind ls h = record { waits = h .waits ++ ls; messages = h .messages; plays = h .plays }
 
-  -- the due lines of the next cycle
-  abbrev pub dueOf : Holds S → List Line
-  dueOf h = dueAt (h .plays .position) (h .waits)
+  -- and so do note messages
+  unfoldable pub withMessages : List Message → Holds S → Holds S
+  withMessages ms h = record { waits = h .waits; messages = h .messages ++ ms; plays = h .plays }
+
+  -- what acts in the next cycle
+  abbrev pub dueOf : Holds S → Due
+  dueOf h = record { lines = dueAt (h .plays .position) (h .waits); messages = h .messages }
 
   -- ---- step 1
 
   -- an end line is due, or the position is past the limit
-  unfoldable pub endsBy : List Line → Plays S → Bool
-  endsBy due p = ltb farthest (p .position) || anyEnd due
+  unfoldable pub endsBy : Due → Plays S → Bool
+  endsBy due p = ltb farthest (p .position) || anyEnd (due .lines)
 
   -- the piece is ended: nothing else changes
   unfoldable pub marked : Plays S → Plays S
@@ -96,31 +109,37 @@ module _ {S : Type 0} where
 
 module _ {S : Type 0} (v : Voices S) (s : Settings) where
   -- step 3
-  unfoldable pub startedOf : List Line → Plays S → Started S
-  startedOf due p = started v (s .mostNotes) (p .position) (p .notes) due
+  unfoldable pub startedOf : Due → Plays S → Started S
+  startedOf due p = started v (s .mostNotes) (p .position) (p .notes) (due .lines)
 
-  -- steps 3 to 5
-  unfoldable pub bandOf : List Line → Plays S → Band S
-  bandOf due p = runAll v (controlled v (startedOf due p .notes) due)
+  -- steps 3 and 4, and then the note messages
+  unfoldable pub soundsOf : Due → Plays S → Started S
+  soundsOf due p =
+      afterMessages v (s .mostNotes) (s .chosen)
+      (record { notes = controlled v (startedOf due p .notes) (due .lines); missed = startedOf due p .missed }) (due .messages)
+
+  -- and step 5
+  unfoldable pub bandOf : Due → Plays S → Band S
+  bandOf due p = runAll v (soundsOf due p .notes)
 
   -- step 6: the block
-  unfoldable pub blockOf : List Line → Plays S → List ℤ
+  unfoldable pub blockOf : Due → Plays S → List ℤ
   blockOf due p = limited (s .ceiling) (bandOf due p .mix)
 
   -- all of them: the notes that are over are removed, the position grows
-  unfoldable pub played : List Line → Plays S → Plays S
+  unfoldable pub played : Due → Plays S → Plays S
   played due p =
       record {
         notes = keep (goesOn (p .position)) (bandOf due p .notes);
-        position = p .position + cycleIn (lastTempo (p .tempo) due);
-        tempo = lastTempo (p .tempo) due;
-        counts = record { missed = p .counts .missed + startedOf due p .missed };
+        position = p .position + cycleIn (lastTempo (p .tempo) (due .lines));
+        tempo = lastTempo (p .tempo) (due .lines);
+        counts = record { missed = p .counts .missed + soundsOf due p .missed };
         ended = false;
       }
 
-  -- a whole cycle: steps 1 to 8, or the end at step 1; after the end nothing changes
+  -- a whole cycle: steps 1 to 8, or the end at step 1; after the end nothing changes. What has acted waits no more.
   unfoldable pub cycled : Holds S → Holds S
   cycled h =
       cond (h .plays .ended) h
-      (cond (endsBy (dueOf h) (h .plays)) (record { waits = h .waits; plays = marked (h .plays) })
-      (record { waits = laterThan (h .plays .position) (h .waits); plays = played (dueOf h) (h .plays) }))
+      (cond (endsBy (dueOf h) (h .plays)) (record { waits = h .waits; messages = h .messages; plays = marked (h .plays) })
+      (record { waits = laterThan (h .plays .position) (h .waits); messages = []; plays = played (dueOf h) (h .plays) }))

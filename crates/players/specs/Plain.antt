@@ -12,6 +12,7 @@ unfoldable pub plainStart : {S : Type 0} → Settings → List Line → Holds S
 plainStart s ls =
     record {
       waits = ls;
+      messages = [];
       plays = record { notes = []; position = 0; tempo = s .startingTempo; counts = record { missed = 0 }; ended = false };
     }
 

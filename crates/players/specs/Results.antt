@@ -1,10 +1,10 @@
 -- What document 01 says of a cycle's steps as results. The definitions of a cycle go step by step; these statements say what comes of
 -- it, in other words, and a step that comes to something else keeps none of them.
 use mathlib.Core.Path.{_≡_}
-use mathlib.Core.Logic.{_↔_}
+use mathlib.Core.Logic.{_↔_, _⊎_}
 use mathlib.Core.Bool.{Bool, true, false, _&&_, cond}
 use mathlib.Core.List.{List, [], _∷_, _++_, zipWith}
-use Prim.Native.Nat.{ℕ, _+_, _-_, _≤_}
+use Prim.Native.Nat.{ℕ, suc, _+_, _-_, _≤_, min}
 use lib.ListN.{length, take, replicate}
 use lib.Dec.{eqb}
 use lib.Ieee.{Float, binary32, lt, eq, isNan, add, ofBits}
@@ -16,7 +16,8 @@ use Rattle.score_line.specs.declared.Event.{Event}
 use Rattle.score_line.specs.declared.Event.the-variants.{Instr, Control, End, Tempo}
 use Rattle.score_line.specs.declared.Line.{Line}
 use Rattle.players.specs.Lists.{keep, fold, each, All}
-use Rattle.players.specs.Cycle.{Voices, Note, withState, ordered, anyEnd, lastTempo, samples, born, started, controlled, runAll, goesOn}
+use Rattle.messages.specs.declared.Message.{Message}
+use Rattle.players.specs.Cycle.{Voices, Note, Started, withState, letGo, letGoOldest, ordered, anyEnd, lastTempo, samples, born, started, controlled, afterMessages, runAll, goesOn}
 
 -- ---- the due lines, in order
 
@@ -132,6 +133,42 @@ module _ {S : Type 0} (v : Voices S) where
       (birth position : ℕ) (l : Line) (label : Label) (i : ℕ) (duration : Float) (s : S)
       → (goesOn position (withState (born v birth l label i duration) s) ≡ false)
       ↔ ((eq duration withoutEnd ≡ false) × (birth + ticksIn duration ≤ position))
+
+  -- ---- the note messages, after step 4
+
+  -- an unmarked note of a key of a channel
+  pub record Held (channel key : ℕ) (n : Note S) : Type 0 where
+    pub fromKey : n .keyed ≡ true
+    pub onChannel : n .channel ≡ channel
+    pub ofKey : n .key ≡ key
+    pub unmarked : n .released ≡ false
+
+  -- A note-off marks the oldest such note, and no other note changes; where there is none no note does.
+  pub record OldestMarked (channel key : ℕ) : Type 0 where
+    pub oldest : (before : List (Note S)) (n : Note S) (behind : List (Note S)) → All (λ (m : Note S). Held channel key m → ⊥) before
+        → Held channel key n → letGoOldest channel key (before ++ (n ∷ behind)) ≡ before ++ (letGo n ∷ behind)
+    pub none : (notes : List (Note S)) → All (λ (m : Note S). Held channel key m → ⊥) notes → letGoOldest channel key notes ≡ notes
+
+  unfoldable pub KeysLetGo : Type 0
+  KeysLetGo = (channel key : ℕ) → OldestMarked channel key
+
+  -- A note is removed at a position exactly when it is marked, or has an end that is at most the position.
+  unfoldable pub NotesGo : Type 0
+  NotesGo =
+      (position : ℕ) (n : Note S) → (goesOn position n ≡ false) ↔ ((n .released ≡ true) ⊎ ((n .endless ≡ false) × (n .end ≤ position)))
+
+  -- how many of the messages are note-ons
+  unfoldable pub noteOns : List Message → ℕ
+  noteOns [] = 0
+  noteOns (m ∷ ms) = cond (m .on) (suc (noteOns ms)) (noteOns ms)
+
+  -- Each note-on starts a note as long as fewer than the most sound; the others are missed. A marked note still sounds.
+  pub record KeysPlay (most chosen : ℕ) (s : Started S) (ms : List Message) : Type 0 where
+    pub notes : length (afterMessages v most chosen s ms .notes) ≡ length (s .notes) + min (noteOns ms) (most - length (s .notes))
+    pub missed : afterMessages v most chosen s ms .missed ≡ s .missed + (noteOns ms - (most - length (s .notes)))
+
+  unfoldable pub MessagesPlay : Type 0
+  MessagesPlay = (most chosen : ℕ) (s : Started S) (ms : List Message) → KeysPlay most chosen s ms
 
 -- ---- step 5
 

@@ -14,13 +14,15 @@ use Rattle.score_line.specs.declared.Event.{Event}
 use Rattle.score_line.specs.declared.Event.the-variants.{Instr, Control, End, Tempo}
 use Rattle.score_line.specs.declared.Line.{Line}
 use Rattle.players.specs.Lists.{each, fold, keep, over}
-use Rattle.players.specs.Cycle.{Band, born, joinedBy, startedBy, started, withState, runFrom, controlledBy, controlEvent, controlled, goesOn}
+use Rattle.messages.specs.declared.Message.{Message}
+use Rattle.players.specs.Cycle.{Band, born, joinedBy, letGoOldest, pressed, afterMessage, afterMessages, startedBy, started, withState, runFrom, controlledBy, controlEvent, controlled, goesOn}
 use Rattle.players.specs.Holds.{sixteen}
 use Rattle.players.specs.Cycle as cycle
+use Rattle.players.proofs.Lists.{cond-true, cond-false}
 use Rattle.players.proofs.Loops.{fold-take, over-over}
 use Rattle.synth.specs.Passes.{sums, played}
 use Rattle.synth.specs.declared.Note.{Note}
-use Rattle.sounding.specs.Voices.{Held, instrumentIn, foundIn, voices, birthOf, ranValues, ranMixOf, named, noteOf, structOf, notesIn, startedIn, bandIn, bornNote, controlledNote, controlledIn, controlsIn, controlledAll, kNote, ranNote, ranMix, goesOnIn}
+use Rattle.sounding.specs.Voices.{Held, instrumentIn, foundIn, voices, birthOf, ranValues, ranMixOf, named, noteOf, structOf, notesIn, startedIn, bandIn, bornNote, pressedNote, controlledNote, controlledIn, controlsIn, controlledAll, kNote, ranNote, ranMix, goesOnIn}
 use Rattle.synth.specs.Notes.{withValues}
 use Rattle.sounding.specs.declared.Instrument.{Instrument}
 use Rattle.sounding.specs.Started.{StartedBy}
@@ -217,6 +219,34 @@ module _ (table : List Instrument) (code : List ℕ) (vals : List Float) where
       let w = voices table code vals in
       starting-step (λ (s : cycle.Started Held). startedBy w sixteen position (getD ls i d) s (getD ls i d .event)) _ _ old v r
       (fold-take (λ (s : cycle.Started Held) (l : Line). startedBy w sixteen position l s (l .event)) _ ls i d h) p b
+
+  -- ---- the note messages
+
+  pressed-same : (name : ℕ) (m : Message) → noteOf (pressedNote code vals (instrumentIn table name) name m) ≡ pressed (voices table code vals) name m
+  unfolding pressedNote pressed voices birthOf
+  pressed-same name m = refl
+
+  pub press-starts : (s : cycle.Started Held) (name : ℕ) (m : Message) → m .on ≡ true → (f : Found) → f ≡ foundIn name table
+      → (n : Note) → n ≡ pressedNote code vals (f .instrument) name m → joinedBy sixteen s (noteOf n) ≡ afterMessage (voices table code vals) sixteen name s m
+  unfolding afterMessage
+  press-starts s name m o f ef n en =
+      ap (joinedBy sixteen s) (ap noteOf (en ∙ ap (λ (g : Found). pressedNote code vals (g .instrument) name m) ef) ∙ pressed-same name m)
+      ∙ sym (cond-true _ _ o)
+
+  pub off-marks : (s : cycle.Started Held) (name : ℕ) (m : Message) → m .on ≡ false
+      → record { notes = letGoOldest (m .channel) (m .key) (s .notes); missed = s .missed } ≡ afterMessage (voices table code vals) sixteen name s m
+  unfolding afterMessage
+  off-marks s name m o = sym (cond-false _ _ o)
+
+  pub messages-more : (name : ℕ) (s : cycle.Started Held) (ms : List Message) (i : ℕ) (d : Message) (old : List Note) (v r : Started) → i < length ms
+      → Starting (afterMessages (voices table code vals) sixteen name s (take i ms)) old v
+      → StartedBy (afterMessage (voices table code vals) sixteen name (startedIn (v .notes) (v .count) (v .missed)) (getD ms i d)) v r
+      → Starting (afterMessages (voices table code vals) sixteen name s (take (i + 1) ms)) old r
+  unfolding afterMessages
+  messages-more name s ms i d old v r h p b =
+      let w = voices table code vals in
+      starting-step (λ (t : cycle.Started Held). afterMessage w sixteen name t (getD ms i d)) _ _ old v r
+      (fold-take (afterMessage w sixteen name) s ms i d h) p b
 
 -- ---- step 7
 

@@ -1,7 +1,7 @@
 -- What the code makes of one note, put together from its calls.
 use mathlib.Core.Path.{_≡_, refl, sym, ap, _∙_}
-use mathlib.Core.Bool.{Bool, true, false, _&&_}
-use mathlib.Core.List.{List}
+use mathlib.Core.Bool.{Bool, true, false, not, _&&_}
+use mathlib.Core.List.{List, [], _∷_}
 use Prim.Native.Nat.{ℕ, _+_}
 use lib.Dec.{eqb}
 use lib.Ieee.{Float, binary32, eq, neg, ofBits, ofFields, size, odd, climb, span}
@@ -10,33 +10,70 @@ use borrow.Author.Tests.{eq-eqb, ne-eqb}
 use Rattle.timebase.specs.Time.{ticksIn, endless as withoutEnd}
 use Rattle.score_line.specs.declared.Label.{Label}
 use Rattle.score_line.specs.declared.Line.{Line}
-use Rattle.players.specs.Cycle.{isLabelled, labelNumber}
+use Rattle.keys.specs.Keys.{frequencyOf, loudnessOf}
+use Rattle.messages.specs.declared.Message.{Message}
+use Rattle.players.specs.Cycle.{isLabelled, labelNumber, isHeld}
 use Rattle.players.proofs.Lists.{cond-true, cond-false}
 use Rattle.synth.specs.Passes.{stretch, freshOf, once, Played, played}
 use Rattle.synth.specs.Room.{numbersIn, roomOf}
 use Rattle.synth.specs.Notes.{newNote, withValues}
 use Rattle.synth.proofs.Rooms.{once-program, played-program}
 use Rattle.synth.specs.declared.Note.{Note}
-use Rattle.sounding.specs.Voices.{named, bornNote, controlledNote, kNote, ranNote, ranMix}
+use Rattle.sounding.specs.Voices.{named, bornNote, pressedNote, isHeldIn, controlledNote, kNote, ranNote, ranMix}
 use Rattle.sounding.specs.declared.Instrument.{Instrument}
 
 pub minus-one : (x : Float) → eq x (neg (ofBits binary32 0x3f800000)) ≡ eq x withoutEnd
 unfolding neg ofBits ofFields size odd climb span
 minus-one x = refl
 
+pub begun-law : (vals : List Float) (ws : List ℕ) (note : Note) (room : List Float) → room ≡ roomOf vals
+    → (r : Note) → r ≡ withValues (once (numbersIn room) ws (note .values)) note → r ≡ withValues (once vals ws (note .values)) note
+begun-law vals ws note room m r q =
+    q ∙ ap (λ (u : List Float). withValues (once (numbersIn u) ws (note .values)) note) m
+    ∙ ap (λ (u : List Float). withValues u note) (once-program vals ws (note .values))
+
 pub born-law : (code : List ℕ) (vals : List Float) (x : Instrument) (l : Line) (position : ℕ) (label : Label) (name : ℕ) (duration : Float)
-    → (vs : List Float) → vs ≡ freshOf (take (l .count) (l .values)) → (t : ℕ) → t ≡ ticksIn duration
+    → (vs : List Float) → vs ≡ freshOf (take (x .fields) (take (l .count) (l .values))) → (t : ℕ) → t ≡ ticksIn duration
     → (lab : Bool) → lab ≡ isLabelled label → (num : ℕ) → num ≡ labelNumber label → (end : Bool) → end ≡ eq duration withoutEnd
-    → (note : Note) → note ≡ newNote vs lab num name end (position + t)
-    → (room : List Float) → room ≡ roomOf vals → (r : Note) → r ≡ withValues (once (numbersIn room) (stretch (x .istart) (x .iend) code) (note .values)) note
+    → (note : Note) → note ≡ newNote vs lab num name end (position + t) false 0 0 false
+    → (r : Note) → r ≡ withValues (once vals (stretch (x .istart) (x .iend) code) (note .values)) note
     → r ≡ bornNote code vals x l position label name duration
 unfolding bornNote
-born-law code vals x l position label name duration vs e t f lab g num h end k note o room m r q =
+born-law code vals x l position label name duration vs e t f lab g num h end k note o r q =
     let ws = stretch (x .istart) (x .iend) code in
-    let n : Note = newNote vs lab num name end (position + t) in
-    q ∙ ap (λ (y : Note). withValues (once (numbersIn room) ws (y .values)) y) o
-    ∙ ap (λ (u : List Float). withValues (once (numbersIn u) ws vs) n) m ∙ ap (λ (u : List Float). withValues u n) (once-program vals ws vs)
-    ∙ (λ i. newNote (once vals ws (e i)) (g i) (h i) name (k i) (position + f i))
+    q ∙ ap (λ (y : Note). withValues (once vals ws (y .values)) y) o
+    ∙ (λ i. newNote (once vals ws (e i)) (g i) (h i) name (k i) (position + f i) false 0 0 false)
+
+pub pressed-law : (code : List ℕ) (vals : List Float) (x : Instrument) (name : ℕ) (m : Message)
+    → (f : Float) → f ≡ frequencyOf (m .key) → (l : Float) → l ≡ loudnessOf (m .velocity)
+    → (vs : List Float) → vs ≡ freshOf (take (x .fields) (f ∷ l ∷ []))
+    → (note : Note) → note ≡ newNote vs false 0 name true 0 true (m .channel) (m .key) false
+    → (r : Note) → r ≡ withValues (once vals (stretch (x .istart) (x .iend) code) (note .values)) note
+    → r ≡ pressedNote code vals x name m
+unfolding pressedNote
+pressed-law code vals x name m f ef l el vs e note o r q =
+    let ws = stretch (x .istart) (x .iend) code in
+    q ∙ ap (λ (y : Note). withValues (once vals ws (y .values)) y) o
+    ∙ (λ i. newNote (once vals ws ((e ∙ (λ j. freshOf (take (x .fields) (ef j ∷ el j ∷ [])))) i)) false 0 name true 0 true (m .channel) (m .key) false)
+
+-- ---- an unmarked note of a key of a channel
+
+module _ (n : Note) (channel key : ℕ) where
+  pub held-here : n .keyed ≡ true → n .channel ≡ channel → n .key ≡ key → not (n .released) ≡ isHeldIn channel key n
+  unfolding isHeld
+  held-here a b c = sym (λ i. a i && eq-eqb (n .channel) channel b i && eq-eqb (n .key) key c i && not (n .released))
+
+  pub held-other-key : n .keyed ≡ true → n .channel ≡ channel → (n .key ≡ key → ⊥) → false ≡ isHeldIn channel key n
+  unfolding isHeld
+  held-other-key a b c = sym (λ i. a i && eq-eqb (n .channel) channel b i && ne-eqb (n .key) key c i && not (n .released))
+
+  pub held-other-channel : n .keyed ≡ true → (n .channel ≡ channel → ⊥) → false ≡ isHeldIn channel key n
+  unfolding isHeld
+  held-other-channel a b = sym (λ i. a i && ne-eqb (n .channel) channel b i && eqb (n .key) key && not (n .released))
+
+  pub held-no-key : n .keyed ≡ false → false ≡ isHeldIn channel key n
+  unfolding isHeld
+  held-no-key a = sym (λ i. a i && eqb (n .channel) channel && eqb (n .key) key && not (n .released))
 
 module _ (x : Instrument) (n : Note) (label variable : ℕ) (value : Float) where
   pub control-yes : n .labelled ≡ true → n .label ≡ label → (w : ℕ) → w ≡ variable → (vs : List Float) → vs ≡ named w value (x .imports) (n .values)

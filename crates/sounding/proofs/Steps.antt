@@ -1,5 +1,5 @@
 -- Laws for the loops and the notes, one for each way through the code.
-use mathlib.Core.Path.{_≡_, refl, sym, ap, _∙_, subst}
+use mathlib.Core.Path.{_≡_, refl, sym, ap, _∙_, subst, subst⁻¹}
 use mathlib.Core.Bool.{true, false, cond}
 use mathlib.Core.List.{List, [], _∷_, _++_, append-nil}
 use Prim.Native.Nat.{ℕ, zero, suc, _+_, _-_, _≤_, _<_, min}
@@ -10,16 +10,17 @@ use native.Mathlib.Nat.{le-of-suc-le-suc}
 use lib.Dec.{eqb}
 use lib.Ieee.{Float}
 use lib.ListN.{length, take, drop, getD, set, length-take, length-set, take-append-drop}
-use lib.Seq.{take-suc, take-suc-set, take-at, drop-cons, drop-drop, drop-length, drop-set-lt, take-all, length-take-le, getD-take}
+use lib.Seq.{take-suc, take-suc-set, take-at, drop-cons, drop-drop, drop-length, drop-set-lt, take-all, take-take, take-set-lt, length-take-le, getD-take}
 use borrow.Author.Tests.{lt-ltb, le-ltb}
-use Rattle.players.specs.Lists.{each, over}
-use Rattle.players.specs.Cycle.{joinedBy}
+use Rattle.players.specs.Lists.{each, over, All}
+use Rattle.players.specs.Cycle.{joinedBy, letGoOldest, isHeld}
 use Rattle.players.specs.Holds.{sixteen}
 use Rattle.players.specs.Cycle as cycle
-use Rattle.players.proofs.Lists.{cond-true, cond-false}
+use Rattle.players.proofs.Lists.{cond-true, cond-false, all-append}
 use Rattle.players.proofs.Loops.{over-set}
+use Rattle.synth.specs.Notes.{letGo}
 use Rattle.synth.specs.declared.Note.{Note}
-use Rattle.sounding.specs.Voices.{Held, blank, foundIn, named, noteOf, structOf, notesIn, startedIn, startedOver}
+use Rattle.sounding.specs.Voices.{Held, blank, foundIn, named, noteOf, structOf, notesIn, startedIn, startedOver, isHeldIn}
 use Rattle.sounding.specs.Started.{StartedBy}
 use Rattle.sounding.specs.declared.Instrument.{Instrument}
 use Rattle.sounding.specs.declared.Found.{Found}
@@ -40,6 +41,14 @@ length-each f (x ∷ xs) = ap suc (length-each f xs)
 pub each-one : {A B : Type 0} (f : A → B) (x : A) → each f (x ∷ []) ≡ f x ∷ []
 unfolding each
 each-one f x = refl
+
+-- the first a of the first b
+pub take-both : {A : Type 0} (a b : ℕ) (l : List A) → take (min a b) l ≡ take a (take b l)
+take-both {A} a b l = go (decLe a b)
+  where
+    go : Dec (a ≤ b) → take (min a b) l ≡ take a (take b l)
+    go (yes h) = let e : min a b ≡ a = omega arith in ap (λ (n : ℕ). take n l) e ∙ sym (take-take a b l h)
+    go (no h) = let e : min a b ≡ b = omega arith in ap (λ (n : ℕ). take n l) e ∙ sym (take-all a (take b l) (omega (arith, length-take b l)))
 
 -- ---- the instrument with a name, among those from i on
 
@@ -217,6 +226,63 @@ module _ (s : cycle.Started Held) (v r : Started) (n : Note) (long : length (v .
         long = ap length (e .0);
         behind = ap (drop (r .count)) (e .0);
       }
+
+-- ---- what a note-off marks
+
+module _ (channel key : ℕ) where
+  abbrev pub Unheld : List Note → Type 0
+  Unheld ns = All (λ (n : Note). isHeldIn channel key n ≡ false) ns
+
+  pub unheld-more : (l : List Note) (i : ℕ) (d : Note) → i < length l → Unheld (take i l) → isHeldIn channel key (getD l i d) ≡ false → Unheld (take (i + 1) l)
+  unheld-more l i d h u e =
+      subst⁻¹ Unheld (ap (λ (n : ℕ). take n l) (add-one i) ∙ take-suc l i d h) (all-append _ (take i l) (getD l i d ∷ []) u (e, tt))
+
+  mark-at : (ns : List Note) (i : ℕ) (d : Note) → i < length ns → Unheld (take i ns) → isHeldIn channel key (getD ns i d) ≡ true
+      → each noteOf (set ns i (letGo (getD ns i d))) ≡ letGoOldest channel key (each noteOf ns)
+  unfolding each letGoOldest
+  mark-at [] i d h u e = absurd (omega arith)
+  mark-at (n ∷ ns) zero d h u e = sym (cond-true _ _ e)
+  mark-at (n ∷ ns) (suc i) d h u e =
+      ap (λ (l : List (cycle.Note Held)). noteOf n ∷ l) (mark-at ns i d (le-of-suc-le-suc h) (u .1) e) ∙ sym (cond-false _ _ (u .0))
+
+  mark-none : (ns : List Note) → Unheld ns → each noteOf ns ≡ letGoOldest channel key (each noteOf ns)
+  unfolding each letGoOldest
+  mark-none [] u = refl
+  mark-none (n ∷ ns) u = ap (λ (l : List (cycle.Note Held)). noteOf n ∷ l) (mark-none ns (u .1)) ∙ sym (cond-false _ _ (u .0))
+
+  module _ (v : Started) (room : v .count ≤ 16) (long : length (v .notes) ≡ 16) where
+    abbrev marked : cycle.Started Held
+    marked = record { notes = letGoOldest channel key (notesIn (v .notes) (v .count)); missed = v .missed }
+
+    pub marks-one : (i : ℕ) (d : Note) → i < v .count → Unheld (take i (v .notes)) → isHeldIn channel key (getD (v .notes) i d) ≡ true
+        → (y : Note) → y ≡ letGo (getD (v .notes) i d) → StartedBy marked v (record { notes = set (v .notes) i y; count = v .count; missed = v .missed })
+    marks-one i d h u e y q =
+        let ns = take (v .count) (v .notes) in
+        let n : length ns ≡ v .count = length-take-le (v .count) (v .notes) (omega arith) in
+        let g : getD ns i d ≡ getD (v .notes) i d = getD-take (v .count) (v .notes) i d h in
+        let x : each noteOf (take (v .count) (set (v .notes) i y)) ≡ letGoOldest channel key (each noteOf ns) =
+        ap (each noteOf) (take-set-lt (v .count) (v .notes) i y h ∙ ap (set ns i) (q ∙ ap letGo (sym g)))
+        ∙ mark-at ns i d (omega (arith, n)) (subst⁻¹ Unheld (take-take i (v .count) (v .notes) (omega arith)) u) (ap (isHeldIn channel key) g ∙ e) in
+        record {
+          are = ap (λ (l : List (cycle.Note Held)). record { notes = l; missed = v .missed }) x;
+          room = room;
+          more = omega arith;
+          few = omega arith;
+          long = length-set (v .notes) i y;
+          behind = drop-set-lt (v .count) (v .notes) i y h;
+        }
+
+    pub marks-none : (i : ℕ) → v .count ≤ i → Unheld (take i (v .notes)) → i ≤ v .count → StartedBy marked v v
+    marks-none i h u g =
+        let e : i ≡ v .count = omega arith in
+        record {
+          are = ap (λ (l : List (cycle.Note Held)). record { notes = l; missed = v .missed }) (mark-none (take (v .count) (v .notes)) (subst (λ (n : ℕ). Unheld (take n (v .notes))) e u));
+          room = room;
+          more = omega arith;
+          few = omega arith;
+          long = refl;
+          behind = refl;
+        }
 
 -- the notes that sound after some lines
 pub record Starting (s : cycle.Started Held) (old : List Note) (v : Started) : Type 0 where

@@ -13,10 +13,12 @@ use Rattle.score_line.specs.declared.Line.{Line}
 use Rattle.synth.specs.Passes.{stretch, freshOf, once, played}
 use Rattle.synth.specs.Notes.{newNote, withValues}
 use Rattle.synth.specs.declared.Note.{Note}
+use Rattle.keys.specs.Keys.{frequencyOf, loudnessOf}
+use Rattle.messages.specs.declared.Message.{Message}
 use Rattle.waiting.specs.declared.Fields.{Fields}
 use Rattle.waiting.specs.declared.Fields.the-variants.{Count, NoSuch}
 use Rattle.players.specs.Lists.{each, fold, over}
-use Rattle.players.specs.Cycle.{Voices, isLabelled, labelNumber, goesOn}
+use Rattle.players.specs.Cycle.{Voices, isLabelled, labelNumber, isHeld, goesOn}
 use Rattle.players.specs.Cycle as cycle
 use Rattle.sounding.specs.declared.Instrument.{Instrument}
 use Rattle.sounding.specs.declared.Found.{Found}
@@ -78,9 +80,9 @@ module _ (table : List Instrument) (code : List ℕ) (vals : List Float) where
   abbrev pub aCode : ℕ → List ℕ
   aCode name = stretch (instrumentIn table name .astart) (instrumentIn table name .aend) code
 
-  -- the fields have the values and then zeros, all else is +0, and the i pass runs
+  -- the fields have the values, as many as there are fields, and then zeros, all else is +0, and the i pass runs
   unfoldable pub birthOf : ℕ → List Float → List Float
-  birthOf name xs = once vals (iCode name) (freshOf xs)
+  birthOf name xs = once vals (iCode name) (freshOf (take (instrumentIn table name .fields) xs))
 
   -- the k pass, then an a pass for each sample
   unfoldable pub ranValues : ℕ → List Float → List Float → List Float
@@ -111,6 +113,10 @@ noteOf n =
       label = n .label;
       endless = n .endless;
       end = n .end;
+      keyed = n .keyed;
+      channel = n .channel;
+      key = n .key;
+      released = n .released;
       state = record { instrument = n .instrument; values = n .values };
     }
 
@@ -123,6 +129,10 @@ structOf n =
       instrument = n .state .instrument;
       endless = n .endless;
       end = n .end;
+      keyed = n .keyed;
+      channel = n .channel;
+      key = n .key;
+      released = n .released;
     }
 
 -- the first notes of an array
@@ -144,8 +154,14 @@ bandIn ns n mix = record { notes = notesIn ns n; mix = mix }
 -- the note that a line starts, its i pass run
 unfoldable pub bornNote : List ℕ → List Float → Instrument → Line → ℕ → Label → ℕ → Float → Note
 bornNote code vals x l position label name duration =
-    newNote (once vals (stretch (x .istart) (x .iend) code) (freshOf (take (l .count) (l .values)))) (isLabelled label) (labelNumber label) name
-    (eq duration withoutEnd) (position + ticksIn duration)
+    newNote (once vals (stretch (x .istart) (x .iend) code) (freshOf (take (x .fields) (take (l .count) (l .values))))) (isLabelled label) (labelNumber label) name
+    (eq duration withoutEnd) (position + ticksIn duration) false 0 0 false
+
+-- the note that a note-on starts
+unfoldable pub pressedNote : List ℕ → List Float → Instrument → ℕ → Message → Note
+pressedNote code vals x name m =
+    newNote (once vals (stretch (x .istart) (x .iend) code) (freshOf (take (x .fields) (frequencyOf (m .key) ∷ loudnessOf (m .velocity) ∷ [])))) false 0 name
+    true 0 true (m .channel) (m .key) false
 
 unfoldable pub controlledNote : Instrument → Note → ℕ → ℕ → Float → Note
 controlledNote x n label variable value =
@@ -176,6 +192,10 @@ controlsIn table ns (Tempo t) = ns
 
 unfoldable pub controlledAll : List Instrument → List Note → List Line → List Note
 controlledAll table ns ls = fold (λ (ms : List Note) (l : Line). controlsIn table ms (l .event)) ns ls
+
+-- an unmarked note of a key of a channel
+abbrev pub isHeldIn : ℕ → ℕ → Note → Bool
+isHeldIn channel key n = isHeld channel key (noteOf n)
 
 -- a note that goes on
 abbrev pub goesOnIn : ℕ → Note → Bool

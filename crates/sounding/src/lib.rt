@@ -1,5 +1,6 @@
 // The sounding notes in an array of 16: notes started, control lines, the run of a cycle, notes that are over (document 01,
-// "One cycle, in order", steps 3, 4, 5 and 7), over straight-line code.
+// "One cycle, in order", steps 3, 4, 5 and 7), and what note messages do, over straight-line code.
+use messages::Message;
 use score_line::Event;
 use score_line::Label;
 use score_line::Line;
@@ -12,11 +13,12 @@ ghost use lib.Dec.{T};
 ghost use lib.Ieee.{binary32, fits};
 ghost use lib.ListN.{length, take, set};
 ghost use Rattle.players.specs.Lists.{keep, each, over};
-ghost use Rattle.players.specs.Cycle.{farthest, goesOn, startedBy, started, isLabelled, labelNumber, runFrom};
+ghost use Rattle.players.specs.Cycle.{farthest, goesOn, startedBy, started, isLabelled, labelNumber, letGoOldest, afterMessage, afterMessages, runFrom};
 ghost use Rattle.players.specs.Holds.{sixteen};
-ghost use Rattle.synth.specs.Passes.{freshOf};
+ghost use Rattle.synth.specs.Passes.{stretch, freshOf, once};
+ghost use Rattle.synth.specs.Notes.{withValues};
 ghost use Rattle.synth.specs.Room.{numbersIn};
-ghost use Rattle.sounding.specs.Voices.{voices, foundIn, fieldsIn, named, noteOf, structOf, notesIn, startedIn, startedOver, bornNote, controlledNote, controlledIn, controlsIn, controlledAll, ranNote, ranMix, goesOnIn};
+ghost use Rattle.sounding.specs.Voices.{voices, foundIn, fieldsIn, named, noteOf, structOf, notesIn, startedIn, startedOver, bornNote, pressedNote, isHeldIn, controlledNote, controlledIn, controlsIn, controlledAll, ranNote, ranMix, goesOnIn};
 ghost use Rattle.sounding.specs.Started.{StartedBy};
 
 // An instrument of the program: its name, how many fields it has, its instructions for the i, k and a passes, from one number
@@ -176,12 +178,20 @@ fn label_number(label: Label) -> u16
     }
 }
 
-// The first values, then zeros.
-fn fresh_values(given: [f32; 8], count: usize) -> [f32; 16]
-    ensures { λ r. ⌜ r ≡ freshOf (take count given) ⌝ }
+// The first values, as many as there are fields, then zeros.
+fn fresh_values(given: [f32; 8], count: usize, fields: usize) -> [f32; 16]
+    ensures { λ r. ⌜ r ≡ freshOf (take fields (take count given)) ⌝ }
 {
-    let n = within(count, 8);
+    let n = within(within(count, 8), fields);
     synth::fresh(&given[0..n])
+}
+
+// A new note after its i pass.
+fn begun<'a>(code: &'a [u64], vals: &'a [f32], x: Instrument, note: Note) -> Note
+    ensures { λ r. ⌜ r ≡ withValues (once (now (vals .entry)) (stretch (x .istart) (x .iend) (now (code .entry))) (note .values)) note ⌝ }
+{
+    let mut room = synth::room(vals);
+    synth::passed(code, x.istart, x.iend, &mut room, note)
 }
 
 // The note that an instr line starts at a position; its i pass has run.
@@ -199,7 +209,7 @@ fn note_of<'a>(
     ensures { λ r. ⌜ r ≡ bornNote (now (code .entry)) (now (vals .entry)) x l position label instrument duration ⌝ }
 {
     let given = l.values;
-    let values = fresh_values(given, l.count);
+    let values = fresh_values(given, l.count, x.fields);
     let ticks = timebase::beats_to_ticks(duration);
     let note = synth::new_note(
         values,
@@ -208,9 +218,41 @@ fn note_of<'a>(
         instrument,
         duration == -1.0,
         position + ticks,
+        false,
+        0,
+        0,
+        false,
     );
-    let mut room = synth::room(vals);
-    synth::passed(code, x.istart, x.iend, &mut room, note)
+    begun(code, vals, x, note)
+}
+
+// The note that a note-on starts: field one gets the key's frequency, field two the velocity over 128; its i pass has run.
+fn pressed_note<'a>(
+    code: &'a [u64],
+    vals: &'a [f32],
+    x: Instrument,
+    instrument: u16,
+    m: Message,
+) -> Note
+    ensures { λ r. ⌜ r ≡ pressedNote (now (code .entry)) (now (vals .entry)) x instrument m ⌝ }
+{
+    let mut given = [0.0f32; 8];
+    given[0] = keys::frequency(m.key);
+    given[1] = keys::loudness(m.velocity);
+    let values = fresh_values(given, 2, x.fields);
+    let note = synth::new_note(
+        values,
+        false,
+        0,
+        instrument,
+        true,
+        0,
+        true,
+        m.channel,
+        m.key,
+        false,
+    );
+    begun(code, vals, x, note)
 }
 
 // One note more; there is room for it.
@@ -230,7 +272,7 @@ fn with_note(v: Started, n: Note) -> Started
 
 // One more missed.
 fn with_miss(v: Started) -> Started
-    requires { ⌜ v .missed < 64 ⌝ }
+    requires { ⌜ v .missed < 128 ⌝ }
     ensures { λ r. ⌜ (r .notes ≡ v .notes) × (r .count ≡ v .count) × (r .missed ≡ v .missed + 1) ⌝ }
 {
     let notes = v.notes;
@@ -394,6 +436,100 @@ pub fn control_lines(
     v
 }
 
+// An unmarked note of a key of a channel.
+fn is_held(n: Note, channel: u8, key: u8) -> bool
+    ensures { λ r. ⌜ r ≡ isHeldIn channel key n ⌝ }
+{
+    if n.keyed {
+        if n.channel == channel {
+            if n.key == key {
+                return !n.released;
+            }
+        }
+    }
+    false
+}
+
+// What a note-off does: the oldest unmarked note of its key and channel is marked for removal.
+fn let_go_oldest(v: Started, channel: u8, key: u8) -> Started
+    requires { ⌜ v .count ≤ 16 ⌝ }
+    ensures { λ r. ⌜ StartedBy (record { notes = letGoOldest channel key (notesIn (v .notes) (v .count)); missed = v .missed }) v r ⌝ }
+{
+    let notes = v.notes;
+    let m = v.count;
+    let mut i: usize = 0;
+    while i < m {
+        let x = notes[i];
+        if is_held(x, channel, key) {
+            let mut a = notes;
+            a[i] = synth::let_go(x);
+            return Started {
+                notes: a,
+                count: m,
+                missed: v.missed,
+            };
+        }
+        i += 1;
+    }
+    v
+}
+
+// What a note message does.
+fn play_message<'a>(
+    table: [Instrument; 8],
+    n: usize,
+    code: &'a [u64],
+    vals: &'a [f32],
+    v: Started,
+    chosen: u16,
+    m: Message,
+) -> Started
+    requires { ⌜ (v .count ≤ 16) × (v .missed < 128) ⌝ }
+    ensures { λ r. ⌜ StartedBy (afterMessage (voices (take n table) (now (code .entry)) (now (vals .entry))) sixteen chosen (startedIn (v .notes) (v .count) (v .missed)) m) v r ⌝ }
+{
+    if m.on {
+        if v.count < MOST_NOTES {
+            let f = find(table, n, chosen);
+            let x = f.instrument;
+            let note = pressed_note(code, vals, x, chosen, m);
+            return with_note(v, note);
+        }
+        return with_miss(v);
+    }
+    let_go_oldest(v, m.channel, m.key)
+}
+
+// After step 4: each note message among the first, in order; so many notes were missed before.
+pub fn play_messages<'a>(
+    table: [Instrument; 8],
+    n: usize,
+    code: &'a [u64],
+    vals: &'a [f32],
+    notes: Notes,
+    missed: usize,
+    chosen: u16,
+    messages: [Message; 64],
+    m: usize,
+) -> Started
+    requires { ⌜ missed ≤ 64 ⌝ }
+    ensures { λ r. ⌜ (r ≡ startedOver (afterMessages (voices (take n table) (now (code .entry)) (now (vals .entry))) sixteen chosen (startedIn (notes .notes) (notes .count) missed) (take m messages)) (notes .notes)) × (r .missed ≤ 128) ⌝ }
+{
+    let w = within(m, 64);
+    let given = notes.notes;
+    let mut v = Started {
+        notes: given,
+        count: within(notes.count, MOST_NOTES),
+        missed: missed,
+    };
+    let mut i: usize = 0;
+    while i < w {
+        let x = messages[i];
+        v = play_message(table, n, code, vals, v, chosen, x);
+        i += 1;
+    }
+    v
+}
+
 // A note's cycle: its k pass, then an a pass for each sample of the mix.
 fn run_note(code: &[u64], room: &mut [f32; 4096], x: Instrument, n: Note, mix: &mut [f32]) -> Note
     ensures note { λ r. ⌜ r ≡ ranNote (now (code .entry)) (numbersIn (now (room .entry))) x n (now (mix .entry)) ⌝ }
@@ -407,6 +543,9 @@ fn run_note(code: &[u64], room: &mut [f32; 4096], x: Instrument, n: Note, mix: &
 fn goes_on(n: Note, position: u64) -> bool
     ensures { λ r. ⌜ r ≡ goesOn position (noteOf n) ⌝ }
 {
+    if n.released {
+        return false;
+    }
     if n.endless { true } else { position < n.end }
 }
 

@@ -8,12 +8,11 @@ use lib.Ieee.{Float, binary32, ofBits}
 use lib.ListN.{length, replicate, length-replicate}
 use Rattle.float32.specs.Limit.{sampleOf}
 use Rattle.limiter.specs.Block as block
-use Rattle.score_line.specs.declared.Line.{Line}
 use Rattle.synth.specs.Passes.{sums, played}
 use Rattle.players.specs.Lists.{each}
 use Rattle.players.specs.Cycle.{samples, runFrom, runAll, limited}
 use Rattle.players.specs.Cycle as cycle
-use Rattle.players.specs.Holds.{Settings, Plays, bandOf}
+use Rattle.players.specs.Holds.{Settings, Due, Plays, bandOf}
 use Rattle.sounding.specs.Voices.{Held, voices, ranMixOf}
 use Rattle.sounding.specs.declared.Instrument.{Instrument}
 
@@ -32,7 +31,7 @@ module _ (table : List Instrument) (code : List ℕ) (vals : List Float) where
   length-run [] mix = refl
   length-run (n ∷ ns) mix = length-run ns (voices table code vals .run (n .state) mix .mix) ∙ length-one (n .state) mix
 
-  pub length-mix : (s : Settings) (due : List Line) (p : Plays Held) → length (bandOf (voices table code vals) s due p .mix) ≡ samples
+  pub length-mix : (s : Settings) (due : Due) (p : Plays Held) → length (bandOf (voices table code vals) s due p .mix) ≡ samples
   unfolding bandOf runAll
   length-mix s due p = length-run _ (replicate samples (ofBits binary32 0)) ∙ length-replicate samples (ofBits binary32 0)
 

@@ -11,13 +11,15 @@ use Rattle.limiter.specs.Block as block
 use Rattle.score_line.specs.declared.Line.{Line}
 use Rattle.players.specs.Lists.{keep, over}
 use Rattle.players.specs.Cycle.{Voices, farthest, isDue, ordered, anyEnd}
-use Rattle.players.specs.Holds.{settingsOf, dueAt, laterThan, dueOf, endsBy, bandOf, capped, played}
+use Rattle.players.specs.Holds.{Due, settingsOf, dueAt, laterThan, dueOf, endsBy, bandOf, capped, played}
 use Rattle.players.proofs.Lists.{cond-true, cond-false}
 use Rattle.waiting.specs.Admission.{waitingIn}
 use Rattle.waiting.specs.declared.Queue.{Queue}
+use Rattle.keyboard.specs.Keyboard.{messagesIn}
+use Rattle.keyboard.specs.declared.Messages.{Messages}
 use Rattle.sounding.specs.Voices.{Held}
 use Rattle.turning.specs.Steps.{playsOf, advanced}
-use Rattle.turning.specs.Turn.{holdsOf, endsNow, stopped, keptOf, playedOf, turned, blockAfter}
+use Rattle.turning.specs.Turn.{holdsOf, endsNow, stopped, keptOf, usedOf, playedOf, turned, blockAfter}
 use Rattle.turning.specs.declared.Playing.{Playing}
 use Rattle.turning.specs.declared.State.{State}
 
@@ -37,37 +39,38 @@ neither false b h = refl
 pub near-law : (position : ℕ) (b : Bool) → (ltb farthest position || b) ≡ false → position ≤ farthest
 near-law position b h = ltb-false farthest position (neither (ltb farthest position) b h)
 
-module _ (v : Voices Held) (ceiling : ℕ) (s : State) (due : List Line) (is : due ≡ ordered (keep (isDue (s .playing .position)) (waitingIn (s .queue))))
+module _ (v : Voices Held) (ceiling chosen : ℕ) (s : State) (due : List Line) (is : due ≡ ordered (keep (isDue (s .playing .position)) (waitingIn (s .queue))))
     (b : Bool) (q : b ≡ (ltb farthest (s .playing .position) || anyEnd due)) where
-  due-law : due ≡ dueOf (holdsOf s)
+  due-law : record { lines = due; messages = messagesIn (s .messages) } ≡ dueOf (holdsOf s)
   unfolding dueAt
-  due-law = is
+  due-law = ap (λ (ls : List Line). record { lines = ls; messages = messagesIn (s .messages) }) is
 
   ends-law : b ≡ endsNow s
   unfolding endsBy
-  ends-law = q ∙ ap (λ (d : List Line). ltb farthest (s .playing .position) || anyEnd d) due-law
+  ends-law = q ∙ ap (λ (d : Due). ltb farthest (s .playing .position) || anyEnd (d .lines)) due-law
 
-  pub turn-stops : b ≡ true → record { queue = s .queue; playing = stopped (s .playing) } ≡ turned v (settingsOf ceiling) s
+  pub turn-stops : b ≡ true → record { queue = s .queue; messages = s .messages; playing = stopped (s .playing) } ≡ turned v (settingsOf ceiling chosen) s
   unfolding turned
   turn-stops t = sym (cond-true _ _ (sym ends-law ∙ t))
 
-  pub turn-plays : b ≡ false → (p : Playing) → p ≡ advanced v (settingsOf ceiling) due (s .playing) → (k : Queue) → k ≡ keptOf (s .playing .position) (s .queue)
-      → record { queue = k; playing = p } ≡ turned v (settingsOf ceiling) s
+  pub turn-plays : b ≡ false → (p : Playing) → p ≡ advanced v (settingsOf ceiling chosen) (record { lines = due; messages = messagesIn (s .messages) }) (s .playing)
+      → (k : Queue) → k ≡ keptOf (s .playing .position) (s .queue) → (m : Messages) → m ≡ usedOf (s .messages)
+      → record { queue = k; messages = m; playing = p } ≡ turned v (settingsOf ceiling chosen) s
   unfolding turned playedOf
-  turn-plays t p e k f =
-      (λ i. record { queue = f i; playing = (e ∙ ap (λ (d : List Line). advanced v (settingsOf ceiling) d (s .playing)) due-law) i })
+  turn-plays t p e k f m g =
+      (λ i. record { queue = f i; messages = g i; playing = (e ∙ ap (λ (d : Due). advanced v (settingsOf ceiling chosen) d (s .playing)) due-law) i })
       ∙ sym (cond-false _ _ (sym ends-law ∙ t))
 
   module _ (lent : List ℤ) where
-    pub block-stays : b ≡ true → lent ≡ blockAfter v (settingsOf ceiling) s lent
+    pub block-stays : b ≡ true → lent ≡ blockAfter v (settingsOf ceiling chosen) s lent
     unfolding blockAfter
     block-stays t = sym (cond-true _ _ (sym ends-law ∙ t))
 
-    pub block-plays : b ≡ false → (left : List ℤ) → left ≡ block.limited ceiling (bandOf v (settingsOf ceiling) due (playsOf (s .playing)) .mix) lent
-        → left ≡ blockAfter v (settingsOf ceiling) s lent
+    pub block-plays : b ≡ false → (left : List ℤ) → left ≡ block.limited ceiling (bandOf v (settingsOf ceiling chosen) (record { lines = due; messages = messagesIn (s .messages) }) (playsOf (s .playing)) .mix) lent
+        → left ≡ blockAfter v (settingsOf ceiling chosen) s lent
     unfolding blockAfter
     block-plays t left e =
-        e ∙ ap (λ (d : List Line). block.limited ceiling (bandOf v (settingsOf ceiling) d (playsOf (s .playing)) .mix) lent) due-law
+        e ∙ ap (λ (d : Due). block.limited ceiling (bandOf v (settingsOf ceiling chosen) d (playsOf (s .playing)) .mix) lent) due-law
         ∙ sym (cond-false _ _ (sym ends-law ∙ t))
 
 -- ---- what waits
@@ -80,8 +83,8 @@ keep-law position q kl kc e f = λ i. record { lines = f i; count = e i; ran = t
 
 -- ---- for callers: the mark of the end tells which way it went
 
-module _ (v : Voices Held) (ceiling : ℕ) (s s′ : State) (e : s′ ≡ turned v (settingsOf ceiling) s) where
-  marked : (b : Bool) → cond b (record { queue = s .queue; playing = stopped (s .playing) }) (playedOf v (settingsOf ceiling) s) .playing .ended ≡ b
+module _ (v : Voices Held) (ceiling chosen : ℕ) (s s′ : State) (e : s′ ≡ turned v (settingsOf ceiling chosen) s) where
+  marked : (b : Bool) → cond b (record { queue = s .queue; messages = s .messages; playing = stopped (s .playing) }) (playedOf v (settingsOf ceiling chosen) s) .playing .ended ≡ b
   unfolding stopped playedOf advanced capped played
   marked true = refl
   marked false = refl
@@ -90,10 +93,10 @@ module _ (v : Voices Held) (ceiling : ℕ) (s s′ : State) (e : s′ ≡ turned
   unfolding turned
   ended-law = sym (marked (endsNow s)) ∙ ap (λ (x : State). x .playing .ended) (sym e)
 
-  pub has-stopped : s′ .playing .ended ≡ true → s′ ≡ record { queue = s .queue; playing = stopped (s .playing) }
+  pub has-stopped : s′ .playing .ended ≡ true → s′ ≡ record { queue = s .queue; messages = s .messages; playing = stopped (s .playing) }
   unfolding turned
   has-stopped t = e ∙ cond-true _ _ (ended-law ∙ t)
 
-  pub has-played : s′ .playing .ended ≡ false → s′ ≡ playedOf v (settingsOf ceiling) s
+  pub has-played : s′ .playing .ended ≡ false → s′ ≡ playedOf v (settingsOf ceiling chosen) s
   unfolding turned
   has-played t = e ∙ cond-false _ _ (ended-law ∙ t)

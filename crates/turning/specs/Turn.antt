@@ -10,6 +10,8 @@ use Rattle.players.specs.Cycle.{Voices}
 use Rattle.players.specs.Holds.{Settings, Holds, laterThan, dueOf, endsBy, bandOf}
 use Rattle.waiting.specs.Admission.{waitingIn}
 use Rattle.waiting.specs.declared.Queue.{Queue}
+use Rattle.keyboard.specs.Keyboard.{messagesIn}
+use Rattle.keyboard.specs.declared.Messages.{Messages}
 use Rattle.sounding.specs.Voices.{Held}
 use Rattle.turning.specs.Steps.{playsOf, advanced}
 use Rattle.turning.specs.declared.Playing.{Playing}
@@ -17,7 +19,7 @@ use Rattle.turning.specs.declared.State.{State}
 
 -- what waits and what plays, as lists
 abbrev pub holdsOf : State → Holds Held
-holdsOf s = record { waits = waitingIn (s .queue); plays = playsOf (s .playing) }
+holdsOf s = record { waits = waitingIn (s .queue); messages = messagesIn (s .messages); plays = playsOf (s .playing) }
 
 abbrev pub endsNow : State → Bool
 endsNow s = endsBy (dueOf (holdsOf s)) (playsOf (s .playing))
@@ -32,13 +34,22 @@ keptOf position q =
     let later = laterThan position (waitingIn q) in
     record { lines = over later (q .lines); count = length later; ran = true; last = position }
 
+-- note messages that have acted wait no more
+abbrev pub usedOf : Messages → Messages
+usedOf keys = record { list = keys .list; count = 0 }
+
 -- steps 2 to 8
 unfoldable pub playedOf : Voices Held → Settings → State → State
-playedOf v s x = record { queue = keptOf (x .playing .position) (x .queue); playing = advanced v s (dueOf (holdsOf x)) (x .playing) }
+playedOf v s x =
+    record {
+      queue = keptOf (x .playing .position) (x .queue);
+      messages = usedOf (x .messages);
+      playing = advanced v s (dueOf (holdsOf x)) (x .playing);
+    }
 
 -- step 1, then the others
 unfoldable pub turned : Voices Held → Settings → State → State
-turned v s x = cond (endsNow x) (record { queue = x .queue; playing = stopped (x .playing) }) (playedOf v s x)
+turned v s x = cond (endsNow x) (record { queue = x .queue; messages = x .messages; playing = stopped (x .playing) }) (playedOf v s x)
 
 -- the lent block afterwards: as it was where the piece ends, else the limited samples
 unfoldable pub blockAfter : Voices Held → Settings → State → List ℤ → List ℤ

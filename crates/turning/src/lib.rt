@@ -1,4 +1,5 @@
 // One cycle, steps 1 to 8, on the state that it changes (document 01, "One cycle, in order").
+use keyboard::Messages;
 use sounding::Instrument;
 use sounding::Notes;
 use waiting::Lines;
@@ -11,9 +12,10 @@ ghost use lib.ListN.{take};
 ghost use Rattle.limiter.specs.Block.{limited};
 ghost use Rattle.players.specs.Cycle.{farthest, anyEnd, runAll};
 ghost use Rattle.players.specs.Holds.{settingsOf, bandOf};
+ghost use Rattle.keyboard.specs.Keyboard.{messagesIn};
 ghost use Rattle.sounding.specs.Voices.{voices};
-ghost use Rattle.turning.specs.Steps.{soundingIn, playsOf, performedOf, advanced};
-ghost use Rattle.turning.specs.Turn.{keptOf, turned, blockAfter};
+ghost use Rattle.turning.specs.Steps.{soundingIn, playsOf, dueIn, performedOf, advanced};
+ghost use Rattle.turning.specs.Turn.{keptOf, usedOf, turned, blockAfter};
 
 // What plays: the sounding notes, position, tempo, missed notes and the mark of the end.
 pub struct Playing {
@@ -24,9 +26,10 @@ pub struct Playing {
     pub ended: bool,
 }
 
-// What the calls change: the waiting lines, and what plays.
+// What the calls change: the waiting lines and note messages, and what plays.
 pub struct State {
     pub queue: Queue,
+    pub messages: Messages,
     pub playing: Playing,
 }
 
@@ -66,7 +69,7 @@ fn sound<'a>(
 
 // The count of missed notes stops at the largest number.
 fn counted(missed: u64, more: usize) -> u64
-    requires { ⌜ more ≤ 64 ⌝ }
+    requires { ⌜ more ≤ 128 ⌝ }
     ensures { λ r. ⌜ r ≡ min (missed + more) 18446744073709551615 ⌝ }
 {
     let m = more as u64;
@@ -83,7 +86,7 @@ struct Performed {
     missed: u64,
 }
 
-// Steps 3 to 7, for the due lines in order.
+// Steps 3 to 7, for the due lines and then the note messages in order.
 fn perform<'a>(
     table: [Instrument; 8],
     n: usize,
@@ -91,12 +94,14 @@ fn perform<'a>(
     vals: &'a [f32],
     p: Playing,
     due: Lines,
+    keys: Messages,
     ceiling: u16,
+    chosen: u16,
     block: &mut [i16],
 ) -> Performed
     requires { ⌜ p .position ≤ farthest ⌝ }
-    ensures notes { λ r. ⌜ r ≡ performedOf (voices (take n table) (now (code .entry)) (now (vals .entry))) (settingsOf ceiling) (take (due .count) (due .lines)) p ⌝ }
-    ensures block { λ r. ⌜ now (block .exit) ≡ limited ceiling (bandOf (voices (take n table) (now (code .entry)) (now (vals .entry))) (settingsOf ceiling) (take (due .count) (due .lines)) (playsOf p) .mix) (now (block .entry)) ⌝ }
+    ensures notes { λ r. ⌜ r ≡ performedOf (voices (take n table) (now (code .entry)) (now (vals .entry))) (settingsOf ceiling chosen) (dueIn due keys) p ⌝ }
+    ensures block { λ r. ⌜ now (block .exit) ≡ limited ceiling (bandOf (voices (take n table) (now (code .entry)) (now (vals .entry))) (settingsOf ceiling chosen) (dueIn due keys) (playsOf p) .mix) (now (block .entry)) ⌝ }
 {
     let old = p.notes;
     let position = p.position;
@@ -124,7 +129,21 @@ fn perform<'a>(
         lines,
         due.count,
     );
-    let h = sound(table, n, code, vals, c, ceiling, block);
+    let list = keys.list;
+    let k = sounding::play_messages(table, n, code, vals, c, v.missed, chosen, list, keys.count);
+    let played = k.notes;
+    let h = sound(
+        table,
+        n,
+        code,
+        vals,
+        Notes {
+            notes: played,
+            count: k.count,
+        },
+        ceiling,
+        block,
+    );
     let heard = h.notes;
     let g = sounding::remaining(heard, h.count, position);
     let left = g.notes;
@@ -134,11 +153,11 @@ fn perform<'a>(
             notes: out,
             count: g.count,
         },
-        missed: counted(p.missed, v.missed),
+        missed: counted(p.missed, k.missed),
     }
 }
 
-// Steps 2 to 8 on what plays, for the due lines in order.
+// Steps 2 to 8 on what plays, for the due lines and then the note messages in order.
 fn advance<'a>(
     table: [Instrument; 8],
     n: usize,
@@ -146,17 +165,19 @@ fn advance<'a>(
     vals: &'a [f32],
     p: Playing,
     due: Lines,
+    keys: Messages,
     ceiling: u16,
+    chosen: u16,
     block: &mut [i16],
 ) -> Playing
     requires { ⌜ p .position ≤ farthest ⌝ }
-    ensures playing { λ r. ⌜ r ≡ advanced (voices (take n table) (now (code .entry)) (now (vals .entry))) (settingsOf ceiling) (take (due .count) (due .lines)) p ⌝ }
-    ensures block { λ r. ⌜ now (block .exit) ≡ limited ceiling (bandOf (voices (take n table) (now (code .entry)) (now (vals .entry))) (settingsOf ceiling) (take (due .count) (due .lines)) (playsOf p) .mix) (now (block .entry)) ⌝ }
+    ensures playing { λ r. ⌜ r ≡ advanced (voices (take n table) (now (code .entry)) (now (vals .entry))) (settingsOf ceiling chosen) (dueIn due keys) p ⌝ }
+    ensures block { λ r. ⌜ now (block .exit) ≡ limited ceiling (bandOf (voices (take n table) (now (code .entry)) (now (vals .entry))) (settingsOf ceiling chosen) (dueIn due keys) (playsOf p) .mix) (now (block .entry)) ⌝ }
 {
     let position = p.position;
     let lines = due.lines;
     let tempo = waiting::tempo_after(lines, due.count, p.tempo);
-    let t = perform(table, n, code, vals, p, due, ceiling, block);
+    let t = perform(table, n, code, vals, p, due, keys, ceiling, chosen, block);
     let notes = t.notes;
     let step = timebase::ticks_per_cycle(tempo);
     Playing {
@@ -183,6 +204,17 @@ fn keep_waiting(q: Queue, position: u64) -> Queue
     }
 }
 
+// Note messages that have acted wait no more.
+fn used(keys: Messages) -> Messages
+    ensures { λ r. ⌜ r ≡ usedOf keys ⌝ }
+{
+    let list = keys.list;
+    Messages {
+        list: list,
+        count: 0,
+    }
+}
+
 // One cycle: the state afterwards, marked as ended where step 1 ends the piece.
 pub fn turn<'a>(
     table: [Instrument; 8],
@@ -191,12 +223,14 @@ pub fn turn<'a>(
     vals: &'a [f32],
     mut s: State,
     ceiling: u16,
+    chosen: u16,
     block: &mut [i16],
 ) -> State
-    ensures state { λ r. ⌜ r ≡ turned (voices (take n table) (now (code .entry)) (now (vals .entry))) (settingsOf ceiling) s ⌝ }
-    ensures block { λ r. ⌜ now (block .exit) ≡ blockAfter (voices (take n table) (now (code .entry)) (now (vals .entry))) (settingsOf ceiling) s (now (block .entry)) ⌝ }
+    ensures state { λ r. ⌜ r ≡ turned (voices (take n table) (now (code .entry)) (now (vals .entry))) (settingsOf ceiling chosen) s ⌝ }
+    ensures block { λ r. ⌜ now (block .exit) ≡ blockAfter (voices (take n table) (now (code .entry)) (now (vals .entry))) (settingsOf ceiling chosen) s (now (block .entry)) ⌝ }
 {
     let q = s.queue;
+    let keys = s.messages;
     let mut p = s.playing;
     let position = p.position;
     let lines = q.lines;
@@ -206,9 +240,10 @@ pub fn turn<'a>(
         s.playing = p;
         return s;
     }
-    let next = advance(table, n, code, vals, p, due, ceiling, block);
+    let next = advance(table, n, code, vals, p, due, keys, ceiling, chosen, block);
     State {
         queue: keep_waiting(q, position),
+        messages: used(keys),
         playing: next,
     }
 }

@@ -13,9 +13,11 @@ use Rattle.score_line.specs.declared.Event.{Event}
 use Rattle.score_line.specs.declared.Event.the-variants.{Instr, Control, End, Tempo}
 use Rattle.score_line.specs.declared.Line.{Line}
 use Rattle.lowered.specs.Statements.{AllFit}
+use Rattle.keys.specs.Keys.{frequencyOf, loudnessOf}
+use Rattle.messages.specs.declared.Message.{Message}
 use Rattle.players.specs.Lists.{keep, fold, each, All}
-use Rattle.players.specs.Cycle.{Voices, Ran, Note, Started, Band, samples, isLabelled, labelNumber, withState, joinedBy, born, startedBy, started, controlledBy, controlEvent, controlled, runFrom, runAll, lastTempo, limited, goesOn}
-use Rattle.players.specs.Holds.{Settings, Plays, Holds, laterThan, dueOf, endsBy, marked, answerOf, startedOf, bandOf, blockOf, played, cycled}
+use Rattle.players.specs.Cycle.{Voices, Ran, Note, Started, Band, samples, isLabelled, labelNumber, withState, letGo, isHeld, letGoOldest, joinedBy, born, startedBy, started, controlledBy, controlEvent, controlled, pressed, afterMessage, afterMessages, runFrom, runAll, lastTempo, limited, goesOn}
+use Rattle.players.specs.Holds.{Settings, Due, Plays, Holds, laterThan, dueOf, endsBy, marked, answerOf, startedOf, soundsOf, bandOf, blockOf, played, cycled}
 use Rattle.players.specs.Plain.{plainStart, plainAt, answerAt, blockAt}
 use Rattle.players.proofs.Lists.{all-keep, all-append}
 
@@ -62,6 +64,10 @@ module _ {S : Type 0} (Good : S → Type 0) where
           label = labelNumber label;
           endless = eq d withoutEnd;
           end = pos + ticksIn d;
+          keyed = false;
+          channel = 0;
+          key = 0;
+          released = false;
           state = a .birth i (take (l .count) (l .values)) j;
         }
 
@@ -151,6 +157,62 @@ module _ {S : Type 0} (Good : S → Type 0) where
     controlled-good ns [] h = h
     controlled-good ns (l ∷ ls) h = controlled-good (controlEvent w ns (l .event)) ls (controls-good ns (l .event) h)
 
+    -- ---- the note messages
+
+    pressed-same : (chosen : ℕ) (m : Message) → pressed v chosen m ≡ pressed w chosen m
+    unfolding pressed
+    pressed-same chosen m =
+        λ j. record {
+          labelled = false;
+          label = 0;
+          endless = true;
+          end = 0;
+          keyed = true;
+          channel = m .channel;
+          key = m .key;
+          released = false;
+          state = a .birth chosen (frequencyOf (m .key) ∷ loudnessOf (m .velocity) ∷ []) j;
+        }
+
+    pressed-good : (chosen : ℕ) (m : Message) → Good (pressed w chosen m .state)
+    unfolding pressed
+    pressed-good chosen m = a .birth-good chosen (frequencyOf (m .key) ∷ loudnessOf (m .velocity) ∷ [])
+
+    marked-good : (channel key : ℕ) (ns : List (Note S)) → Notes ns → Notes (letGoOldest channel key ns)
+    unfolding letGoOldest
+    marked-good channel key [] h = tt
+    marked-good channel key (n ∷ ns) h = go (isHeld channel key n) (marked-good channel key ns (h .1))
+      where
+        go : (b : Bool) → Notes (letGoOldest channel key ns) → Notes (cond b (letGo n ∷ ns) (n ∷ letGoOldest channel key ns))
+        go true r = h
+        go false r = (h .0, r)
+
+    module _ (most chosen : ℕ) where
+      message-same : (s : Started S) (m : Message) → afterMessage v most chosen s m ≡ afterMessage w most chosen s m
+      unfolding afterMessage
+      message-same s m =
+          ap (λ (n : Note S). cond (m .on) (joinedBy most s n) (record { notes = letGoOldest (m .channel) (m .key) (s .notes); missed = s .missed })) (pressed-same chosen m)
+
+      message-good : (s : Started S) (m : Message) → Notes (s .notes) → Notes (afterMessage w most chosen s m .notes)
+      unfolding afterMessage
+      message-good s m h = go (m .on)
+        where
+          go : (b : Bool)
+              → Notes (cond {A = Started S} b (joinedBy most s (pressed w chosen m)) (record { notes = letGoOldest (m .channel) (m .key) (s .notes); missed = s .missed }) .notes)
+          go true = joined-good most s (pressed w chosen m) h (pressed-good chosen m)
+          go false = marked-good (m .channel) (m .key) (s .notes) h
+
+      messages-same : (s : Started S) (ms : List Message) → afterMessages v most chosen s ms ≡ afterMessages w most chosen s ms
+      unfolding afterMessages fold
+      messages-same s [] = refl
+      messages-same s (m ∷ ms) =
+          ap (λ (t : Started S). afterMessages v most chosen t ms) (message-same s m) ∙ messages-same (afterMessage w most chosen s m) ms
+
+      messages-good : (s : Started S) (ms : List Message) → Notes (s .notes) → Notes (afterMessages w most chosen s ms .notes)
+      unfolding afterMessages fold
+      messages-good s [] h = h
+      messages-good s (m ∷ ms) h = messages-good (afterMessage w most chosen s m) ms (message-good s m h)
+
     -- ---- step 5
 
     -- a note's run, and then the others'
@@ -176,23 +238,31 @@ module _ {S : Type 0} (Good : S → Type 0) where
 
     -- ---- steps 2 to 8
 
-    module _ (s : Settings) (due : List Line) (p : Plays S) (h : Notes (p .notes)) where
-      started-of-same : startedOf v s due p ≡ startedOf w s due p
-      unfolding startedOf
-      started-of-same = started-same (s .mostNotes) (p .position) (p .notes) due
+    module _ (s : Settings) (due : Due) (p : Plays S) (h : Notes (p .notes)) where
+      abbrev from : (u : Voices S) → Started S → Started S
+      from u t = record { notes = controlled u (t .notes) (due .lines); missed = t .missed }
+
+      sounds-same : soundsOf v s due p ≡ soundsOf w s due p
+      unfolding soundsOf startedOf
+      sounds-same =
+          ap (λ (t : Started S). afterMessages v (s .mostNotes) (s .chosen) (from v t) (due .messages)) (started-same (s .mostNotes) (p .position) (p .notes) (due .lines))
+          ∙ ap (λ (ns : List (Note S)). afterMessages v (s .mostNotes) (s .chosen) (record { notes = ns; missed = startedOf w s due p .missed }) (due .messages))
+          (controlled-same (startedOf w s due p .notes) (due .lines))
+          ∙ messages-same (s .mostNotes) (s .chosen) (from w (startedOf w s due p)) (due .messages)
 
       abbrev sounding : List (Note S)
-      sounding = controlled w (startedOf w s due p .notes) due
+      sounding = soundsOf w s due p .notes
 
       sounding-good : Notes sounding
-      unfolding startedOf
-      sounding-good = controlled-good (startedOf w s due p .notes) due (started-good (s .mostNotes) (p .position) (p .notes) due h)
+      unfolding soundsOf startedOf
+      sounding-good =
+          messages-good (s .mostNotes) (s .chosen) (from w (startedOf w s due p)) (due .messages)
+          (controlled-good (startedOf w s due p .notes) (due .lines) (started-good (s .mostNotes) (p .position) (p .notes) (due .lines) h))
 
       band-same : bandOf v s due p ≡ bandOf w s due p
       unfolding bandOf runAll
       band-same =
-          ap (λ (t : Started S). runAll v (controlled v (t .notes) due)) started-of-same
-          ∙ ap (runAll v) (controlled-same (startedOf w s due p .notes) due)
+          ap (λ (t : Started S). runAll v (t .notes)) sounds-same
           ∙ run-same sounding (replicate samples (ofBits binary32 0)) sounding-good (zeros-fit samples)
 
       band-good : Notes (bandOf w s due p .notes)
@@ -208,9 +278,9 @@ module _ {S : Type 0} (Good : S → Type 0) where
       played-same =
           λ i. record {
             notes = keep (goesOn (p .position)) (band-same i .notes);
-            position = p .position + cycleIn (lastTempo (p .tempo) due);
-            tempo = lastTempo (p .tempo) due;
-            counts = record { missed = p .counts .missed + started-of-same i .missed };
+            position = p .position + cycleIn (lastTempo (p .tempo) (due .lines));
+            tempo = lastTempo (p .tempo) (due .lines);
+            counts = record { missed = p .counts .missed + sounds-same i .missed };
             ended = false;
           }
 
@@ -225,7 +295,7 @@ module _ {S : Type 0} (Good : S → Type 0) where
       unfolding cycled
       cycled-same =
           ap (λ (p : Plays S). cond (h .plays .ended) h
-          (cond (endsBy (dueOf h) (h .plays)) (record { waits = h .waits; plays = marked (h .plays) }) (record { waits = laterThan (h .plays .position) (h .waits); plays = p })))
+          (cond (endsBy (dueOf h) (h .plays)) (record { waits = h .waits; messages = h .messages; plays = marked (h .plays) }) (record { waits = laterThan (h .plays .position) (h .waits); messages = []; plays = p })))
           (played-same s (dueOf h) (h .plays) g)
 
       pub cycled-good : Notes (cycled w s h .plays .notes)
@@ -233,7 +303,7 @@ module _ {S : Type 0} (Good : S → Type 0) where
       cycled-good = go (h .plays .ended) (endsBy (dueOf h) (h .plays))
         where
           go : (b d : Bool)
-              → Notes (cond b h (cond d (record { waits = h .waits; plays = marked (h .plays) }) (record { waits = laterThan (h .plays .position) (h .waits); plays = played w s (dueOf h) (h .plays) })) .plays .notes)
+              → Notes (cond b h (cond d (record { waits = h .waits; messages = h .messages; plays = marked (h .plays) }) (record { waits = laterThan (h .plays .position) (h .waits); messages = []; plays = played w s (dueOf h) (h .plays) })) .plays .notes)
           go true d = g
           go false true = g
           go false false = played-good s (dueOf h) (h .plays) g

@@ -2,7 +2,7 @@
 use mathlib.Core.Path.{_≡_, ap, _∙_}
 use mathlib.Core.List.{List}
 use Prim.Native.Nat.{ℕ}
-use lib.ListN.{length}
+use lib.ListN.{length, take}
 use lib.Ieee.{Float}
 use Rattle.syntax.specs.Tree.{Instrument}
 use Rattle.meaning.specs.Placed.{birth, kPass, cycle}
@@ -21,10 +21,11 @@ abbrev pub Sixteen : Held → Type 0
 Sixteen s = length (s .values) ≡ 16
 
 module _ (is : List Instrument) (table : List row.Instrument) (code : List ℕ) (vals : List Float) (r : Represents is table code vals) where
-  born-is : (name : ℕ) (xs : List Float) → birthOf table code vals name xs ≡ birth (bodyOf is name) xs
+  born-is : (name : ℕ) (xs : List Float) → birthOf table code vals name xs ≡ birth (bodyOf is name) (take (length (instrumentOf is name .fields)) xs)
   unfolding birthOf
   born-is name xs =
-      ap (λ (ws : List ℕ). once vals ws (freshOf xs)) (r .rows name .icode) ∙ r .rows name .sounds .born xs
+      (λ i. once vals (r .rows name .icode i) (freshOf (take (r .rows name .fields i) xs)))
+      ∙ r .rows name .sounds .born (take (length (instrumentOf is name .fields)) xs)
 
   module _ (name : ℕ) (vs mix : List Float) (h : length vs ≡ 16) (f : AllFit mix) where
     k-is : once vals (stretch (instrumentIn table name .kstart) (instrumentIn table name .kend) code) vs ≡ kPass (bodyOf is name) vs
@@ -62,7 +63,7 @@ module _ (is : List Instrument) (table : List row.Instrument) (code : List ℕ) 
               state = record { instrument = s .instrument; values = values-are (s .instrument) (s .values) mix h f i };
               mix = mix-is (s .instrument) (s .values) mix h f i;
             };
-        birth-good = λ name xs. birth-size (bodyOf is name) xs;
+        birth-good = λ name xs. birth-size (bodyOf is name) (take (length (instrumentOf is name .fields)) xs);
         control-good = λ x a s h. named-size x a (importsOf (instrumentOf is (s .instrument))) (s .values) ∙ h;
         run-good = λ s mix h f.
             record { good = cycle-sixteen (s .instrument) (s .values) mix h f; fit = cycle-fits (s .instrument) (s .values) mix h f };

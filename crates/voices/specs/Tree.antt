@@ -42,9 +42,9 @@ abbrev pub bodyOf : List Instrument → ℕ → Statements
 bodyOf is name = placed (instrumentOf is name) .body
 
 module _ (is : List Instrument) where
-  -- step 3: a new note holds the line's values and then zeros, and its i statements have run once
+  -- step 3: a new note holds the values, as many as there are fields, and then zeros, and its i statements have run once
   abbrev pub bornOf : ℕ → List Float → Held
-  bornOf name xs = record { instrument = name; values = birth (bodyOf is name) xs }
+  bornOf name xs = record { instrument = name; values = birth (bodyOf is name) (take (length (instrumentOf is name .fields)) xs) }
 
   -- step 4: the imports ksig named x is set to a
   abbrev pub setOf : ℕ → Float → Held → Held

@@ -11,11 +11,13 @@ use Rattle.score_line.specs.declared.Label.{Label}
 use Rattle.score_line.specs.declared.Event.{Event}
 use Rattle.score_line.specs.declared.Event.the-variants.{Instr, Control, End, Tempo}
 use Rattle.score_line.specs.declared.Line.{Line}
+use Rattle.keys.specs.Keys.{frequencyOf, loudnessOf}
+use Rattle.messages.specs.declared.Message.{Message}
 use Rattle.players.specs.Lists.{keep, fold, each, All}
-use Rattle.players.specs.Cycle.{Voices, Note, Started, samples, isDue, earlier, insert, ordered, withState, joinedBy, born, startedBy, started, controlledBy, controlEvent, controlled, runFrom, runAll, anyEnd, farthest, lastTempo, limited, goesOn}
-use Rattle.players.specs.Holds.{Settings, Holds, behind, dueAt, laterThan, dueOf, endsBy, marked, answerOf, startedOf, bandOf, blockOf, played, cycled}
+use Rattle.players.specs.Cycle.{Voices, Note, Started, samples, isDue, earlier, insert, ordered, withState, joinedBy, born, startedBy, started, controlledBy, controlEvent, controlled, runFrom, runAll, anyEnd, farthest, lastTempo, limited, goesOn, Band, letGo, isHeld, letGoOldest, pressed, afterMessage, afterMessages}
+use Rattle.players.specs.Holds.{Settings, Holds, behind, dueAt, laterThan, dueOf, endsBy, marked, answerOf, startedOf, bandOf, blockOf, played, cycled, Due, withMessages, soundsOf}
 use Rattle.players.specs.Plain.{plainStart, plainAt, answerAt, blockAt}
-use Rattle.players.specs.Calls.{numbered, Moment, takenIn, allTaken}
+use Rattle.players.specs.Calls.{numbered, Moment, takenIn, messagesTaken, allTaken}
 use Rattle.players.specs.History.{at, History, unbegun, withCycle, withMoment, historyFrom, historyOf}
 use Rattle.players.proofs.Lists.{all-keep, all-append}
 
@@ -44,8 +46,7 @@ module _ {S S′ : Type 0} (R : S → S′ → Type 0) (Ok : Line → Event → 
   AllOk ls = All (λ (l : Line). Ok l (l .event)) ls
 
   pub record Related (v : Voices S) (w : Voices S′) : Type 0 where
-    pub birth : (l : Line) (label : Label) (name : ℕ) (d : Float) → Ok l (Instr label name d)
-        → R (v .birth name (take (l .count) (l .values))) (w .birth name (take (l .count) (l .values)))
+    pub birth : (name : ℕ) (xs : List Float) → R (v .birth name xs) (w .birth name xs)
     pub control : (l : Line) (label : ℕ) (x : ℕ) (y : Float) (s : S) (t : S′) → Ok l (Control label x y) → R s t → R (v .control x y s) (w .control x y t)
     pub run : (s : S) (t : S′) (mix : List Float) → R s t → R (v .run s mix .state) (w .run t mix .state)
     pub mix : (s : S) (t : S′) (mix : List Float) → R s t → v .run s mix .mix ≡ w .run t mix .mix
@@ -55,6 +56,10 @@ module _ {S S′ : Type 0} (R : S → S′ → Type 0) (Ok : Line → Event → 
     pub label : m .label ≡ n .label
     pub endless : m .endless ≡ n .endless
     pub end : m .end ≡ n .end
+    pub keyed : m .keyed ≡ n .keyed
+    pub channel : m .channel ≡ n .channel
+    pub key : m .key ≡ n .key
+    pub released : m .released ≡ n .released
     pub state : R (m .state) (n .state)
 
   abbrev pub Notes : List (Note S) → List (Note S′) → Type 0
@@ -95,14 +100,36 @@ module _ {S S′ : Type 0} (R : S → S′ → Type 0) (Ok : Line → Event → 
   kept pos [] (y ∷ ys) h = absurd h
   kept pos (x ∷ xs) [] h = absurd h
   kept pos (x ∷ xs) (y ∷ ys) h =
-      let e : (x .endless || ltb pos (x .end)) ≡ (y .endless || ltb pos (y .end)) = λ j. h .0 .endless j || ltb pos (h .0 .end j) in
+      let e : goesOn pos x ≡ goesOn pos y = λ j. not (h .0 .released j) && (h .0 .endless j || ltb pos (h .0 .end j)) in
       subst
-      (λ (c : Bool). Notes (cond (x .endless || ltb pos (x .end)) (x ∷ keep (goesOn pos) xs) (keep (goesOn pos) xs)) (cond c (y ∷ keep (goesOn pos) ys) (keep (goesOn pos) ys)))
-      e (go (x .endless || ltb pos (x .end)) (kept pos xs ys (h .1)))
+      (λ (c : Bool). Notes (cond (goesOn pos x) (x ∷ keep (goesOn pos) xs) (keep (goesOn pos) xs)) (cond c (y ∷ keep (goesOn pos) ys) (keep (goesOn pos) ys)))
+      e (go (goesOn pos x) (kept pos xs ys (h .1)))
     where
       go : (b : Bool) → Notes (keep (goesOn pos) xs) (keep (goesOn pos) ys) → Notes (cond b (x ∷ keep (goesOn pos) xs) (keep (goesOn pos) xs)) (cond b (y ∷ keep (goesOn pos) ys) (keep (goesOn pos) ys))
       go true r = (h .0, r)
       go false r = r
+
+  -- a note-off marks the same note
+  marked-alike : (channel key : ℕ) (xs : List (Note S)) (ys : List (Note S′)) → Notes xs ys → Notes (letGoOldest channel key xs) (letGoOldest channel key ys)
+  unfolding letGoOldest isHeld
+  marked-alike channel key [] [] h = tt
+  marked-alike channel key [] (y ∷ ys) h = absurd h
+  marked-alike channel key (x ∷ xs) [] h = absurd h
+  marked-alike channel key (x ∷ xs) (y ∷ ys) h =
+      let e : isHeld channel key x ≡ isHeld channel key y =
+      λ j. h .0 .keyed j && eqb (h .0 .channel j) channel && eqb (h .0 .key j) key && not (h .0 .released j) in
+      subst
+      (λ (c : Bool). Notes (cond (isHeld channel key x) (letGo x ∷ xs) (x ∷ letGoOldest channel key xs)) (cond c (letGo y ∷ ys) (y ∷ letGoOldest channel key ys)))
+      e (go (isHeld channel key x) (marked-alike channel key xs ys (h .1)))
+    where
+      go : (b : Bool) → Notes (letGoOldest channel key xs) (letGoOldest channel key ys)
+          → Notes (cond b (letGo x ∷ xs) (x ∷ letGoOldest channel key xs)) (cond b (letGo y ∷ ys) (y ∷ letGoOldest channel key ys))
+      go true r =
+          let g = h .0 in (
+            record { labelled = g .labelled; label = g .label; endless = g .endless; end = g .end; keyed = g .keyed; channel = g .channel; key = g .key; released = refl; state = g .state },
+            h .1,
+          )
+      go false r = (h .0, r)
 
   module _ {v : Voices S} {w : Voices S′} (a : Related v w) where
     -- ---- step 3
@@ -111,7 +138,7 @@ module _ {S S′ : Type 0} (R : S → S′ → Type 0) (Ok : Line → Event → 
     unfolding born
     begins most pos l s t (Instr label name d) o h =
         joined most s t (born v pos l label name d) (born w pos l label name d) h
-        (record { labelled = refl; label = refl; endless = refl; end = refl; state = a .birth l label name d o })
+        (record { labelled = refl; label = refl; endless = refl; end = refl; keyed = refl; channel = refl; key = refl; released = refl; state = a .birth name (take (l .count) (l .values)) })
     begins most pos l s t (Control label x y) o h = h
     begins most pos l s t End o h = h
     begins most pos l s t (Tempo d) o h = h
@@ -134,7 +161,7 @@ module _ {S S′ : Type 0} (R : S → S′ → Type 0) (Ok : Line → Event → 
       where
         go : (b : Bool) → Same (cond b (withState m (v .control x y (m .state))) m) (cond b (withState n (w .control x y (n .state))) n)
         go true =
-            record { labelled = h .labelled; label = h .label; endless = h .endless; end = h .end; state = a .control l label x y (m .state) (n .state) o (h .state) }
+            record { labelled = h .labelled; label = h .label; endless = h .endless; end = h .end; keyed = h .keyed; channel = h .channel; key = h .key; released = h .released; state = a .control l label x y (m .state) (n .state) o (h .state) }
         go false = h
 
     all-one : (l : Line) (label x : ℕ) (y : Float) (ms : List (Note S)) (ns : List (Note S′)) → Ok l (Control label x y) → Notes ms ns
@@ -156,6 +183,27 @@ module _ {S S′ : Type 0} (R : S → S′ → Type 0) (Ok : Line → Event → 
     controls [] ms ns o h = h
     controls (l ∷ ls) ms ns o h = controls ls (controlEvent v ms (l .event)) (controlEvent w ns (l .event)) (o .1) (event l ms ns (l .event) (o .0) h)
 
+    -- ---- the note messages
+
+    message : (most chosen : ℕ) (m : Message) (s : Started S) (t : Started S′) → Begun s t → Begun (afterMessage v most chosen s m) (afterMessage w most chosen t m)
+    unfolding afterMessage pressed
+    message most chosen m s t h = go (m .on)
+      where
+        go : (b : Bool)
+            → Begun (cond b (joinedBy most s (pressed v chosen m)) (record { notes = letGoOldest (m .channel) (m .key) (s .notes); missed = s .missed }))
+            (cond b (joinedBy most t (pressed w chosen m)) (record { notes = letGoOldest (m .channel) (m .key) (t .notes); missed = t .missed }))
+        go true =
+            joined most s t (pressed v chosen m) (pressed w chosen m) h
+            (record { labelled = refl; label = refl; endless = refl; end = refl; keyed = refl; channel = refl; key = refl; released = refl; state = a .birth chosen (frequencyOf (m .key) ∷ loudnessOf (m .velocity) ∷ []) })
+        go false = record { notes = marked-alike (m .channel) (m .key) (s .notes) (t .notes) (h .notes); missed = h .missed }
+
+    messages-alike : (most chosen : ℕ) (ms : List Message) (s : Started S) (t : Started S′) → Begun s t
+        → Begun (afterMessages v most chosen s ms) (afterMessages w most chosen t ms)
+    unfolding afterMessages fold
+    messages-alike most chosen [] s t h = h
+    messages-alike most chosen (m ∷ ms) s t h =
+        messages-alike most chosen ms (afterMessage v most chosen s m) (afterMessage w most chosen t m) (message most chosen m s t h)
+
     -- ---- step 5
 
     runs : (ms : List (Note S)) (ns : List (Note S′)) (mix : List Float) → Notes ms ns
@@ -169,7 +217,7 @@ module _ {S S′ : Type 0} (R : S → S′ → Type 0) (Ok : Line → Event → 
         let r = runs ms ns (w .run (n .state) mix .mix) (h .1) in
         let e = a .mix (m .state) (n .state) mix (g .state) in (
           (
-            record { labelled = g .labelled; label = g .label; endless = g .endless; end = g .end; state = a .run (m .state) (n .state) mix (g .state) },
+            record { labelled = g .labelled; label = g .label; endless = g .endless; end = g .end; keyed = g .keyed; channel = g .channel; key = g .key; released = g .released; state = a .run (m .state) (n .state) mix (g .state) },
             subst (λ (z : List Float). Notes (runFrom v ms z .notes) (runFrom w ns (w .run (n .state) mix .mix) .notes)) (sym e) (r .0),
           ),
           ap (λ (z : List Float). runFrom v ms z .mix) e ∙ r .1,
@@ -179,6 +227,7 @@ module _ {S S′ : Type 0} (R : S → S′ → Type 0) (Ok : Line → Event → 
 
     record Cores (c : Holds S) (d : Holds S′) : Type 0 where
       lines : c .waits ≡ d .waits
+      messages : c .messages ≡ d .messages
       notes : Notes (c .plays .notes) (d .plays .notes)
       position : c .plays .position ≡ d .plays .position
       tempo : c .plays .tempo ≡ d .plays .tempo
@@ -188,9 +237,9 @@ module _ {S S′ : Type 0} (R : S → S′ → Type 0) (Ok : Line → Event → 
 
     module _ (q : Settings) (c : Holds S) (d : Holds S′) (h : Cores c d) where
       due-same : dueOf c ≡ dueOf d
-      due-same = λ j. dueAt (h .position j) (h .lines j)
+      due-same = λ j. record { lines = dueAt (h .position j) (h .lines j); messages = h .messages j }
 
-      due-ok : AllOk (dueOf c)
+      due-ok : AllOk (dueOf c .lines)
       unfolding dueAt ordered
       due-ok =
           let P : Line → Type 0 = λ l. Ok l (l .event) in
@@ -200,19 +249,26 @@ module _ {S S′ : Type 0} (R : S → S′ → Type 0) (Ok : Line → Event → 
       begun : Begun (startedOf v q (dueOf c) (c .plays)) (startedOf w q (dueOf d) (d .plays))
       unfolding startedOf started
       begun =
-          let from = started v (q .mostNotes) (c .plays .position) (c .plays .notes) (dueOf c) in
-          subst (λ (p : ℕ). Begun from (started w (q .mostNotes) p (d .plays .notes) (dueOf d))) (h .position)
-          (subst (λ (ls : List Line). Begun from (started w (q .mostNotes) (c .plays .position) (d .plays .notes) ls)) due-same
-          (beginning (q .mostNotes) (c .plays .position) (dueOf c) (record { notes = c .plays .notes; missed = 0 }) (record { notes = d .plays .notes; missed = 0 }) due-ok
+          let from = started v (q .mostNotes) (c .plays .position) (c .plays .notes) (dueOf c .lines) in
+          subst (λ (p : ℕ). Begun from (started w (q .mostNotes) p (d .plays .notes) (dueOf d .lines))) (h .position)
+          (subst (λ (u : Due). Begun from (started w (q .mostNotes) (c .plays .position) (d .plays .notes) (u .lines))) due-same
+          (beginning (q .mostNotes) (c .plays .position) (dueOf c .lines) (record { notes = c .plays .notes; missed = 0 }) (record { notes = d .plays .notes; missed = 0 }) due-ok
           (record { notes = h .notes; missed = refl })))
+
+      sounding : Begun (soundsOf v q (dueOf c) (c .plays)) (soundsOf w q (dueOf d) (d .plays))
+      unfolding soundsOf
+      sounding =
+          let s = startedOf v q (dueOf c) (c .plays) in
+          let t = startedOf w q (dueOf d) (d .plays) in
+          subst (λ (u : Due). Begun (soundsOf v q (dueOf c) (c .plays)) (afterMessages w (q .mostNotes) (q .chosen) (record { notes = controlled w (t .notes) (u .lines); missed = t .missed }) (u .messages))) due-same
+          (messages-alike (q .mostNotes) (q .chosen) (c .messages) (record { notes = controlled v (s .notes) (dueOf c .lines); missed = s .missed })
+          (record { notes = controlled w (t .notes) (dueOf c .lines); missed = t .missed })
+          (record { notes = controls (dueOf c .lines) (s .notes) (t .notes) due-ok (begun .notes); missed = begun .missed }))
 
       band : Notes (bandOf v q (dueOf c) (c .plays) .notes) (bandOf w q (dueOf d) (d .plays) .notes) × (bandOf v q (dueOf c) (c .plays) .mix ≡ bandOf w q (dueOf d) (d .plays) .mix)
       unfolding bandOf runAll
       band =
-          let ms = startedOf v q (dueOf c) (c .plays) .notes in
-          let ns = startedOf w q (dueOf d) (d .plays) .notes in
-          runs (controlled v ms (dueOf c)) (controlled w ns (dueOf d)) (replicate samples (ofBits binary32 0))
-          (subst (λ (ls : List Line). Notes (controlled v ms (dueOf c)) (controlled w ns ls)) due-same (controls (dueOf c) ms ns due-ok (begun .notes)))
+          runs (soundsOf v q (dueOf c) (c .plays) .notes) (soundsOf w q (dueOf d) (d .plays) .notes) (replicate samples (ofBits binary32 0)) (sounding .notes)
 
       block : blockOf v q (dueOf c) (c .plays) ≡ blockOf w q (dueOf d) (d .plays)
       unfolding blockOf
@@ -220,41 +276,42 @@ module _ {S S′ : Type 0} (R : S → S′ → Type 0) (Ok : Line → Event → 
 
       ends-same : endsBy (dueOf c) (c .plays) ≡ endsBy (dueOf d) (d .plays)
       unfolding endsBy
-      ends-same = λ j. ltb farthest (h .position j) || anyEnd (due-same j)
+      ends-same = λ j. ltb farthest (h .position j) || anyEnd (due-same j .lines)
 
       answer : answerOf c ≡ answerOf d
       unfolding answerOf
       answer = λ j. cond (h .ended j) 9 (cond (ends-same j) 9 0)
 
       abbrev goes : Holds S
-      goes = record { waits = laterThan (c .plays .position) (c .waits); plays = played v q (dueOf c) (c .plays) }
+      goes = record { waits = laterThan (c .plays .position) (c .waits); messages = []; plays = played v q (dueOf c) (c .plays) }
 
       abbrev goes′ : Holds S′
-      goes′ = record { waits = laterThan (d .plays .position) (d .waits); plays = played w q (dueOf d) (d .plays) }
+      goes′ = record { waits = laterThan (d .plays .position) (d .waits); messages = []; plays = played w q (dueOf d) (d .plays) }
 
       steps : Cores goes goes′
       unfolding played laterThan
       steps =
           record {
             lines = λ j. keep (λ (l : Line). not (isDue (h .position j) l)) (h .lines j);
+            messages = refl;
             notes = subst (λ (p : ℕ). Notes (keep (goesOn (c .plays .position)) (bandOf v q (dueOf c) (c .plays) .notes)) (keep (goesOn p) (bandOf w q (dueOf d) (d .plays) .notes))) (h .position)
                 (kept (c .plays .position) (bandOf v q (dueOf c) (c .plays) .notes) (bandOf w q (dueOf d) (d .plays) .notes) (band .0));
-            position = λ j. h .position j + cycleIn (lastTempo (h .tempo j) (due-same j));
-            tempo = λ j. lastTempo (h .tempo j) (due-same j);
-            missed = λ j. h .missed j + begun .missed j;
+            position = λ j. h .position j + cycleIn (lastTempo (h .tempo j) (due-same j .lines));
+            tempo = λ j. lastTempo (h .tempo j) (due-same j .lines);
+            missed = λ j. h .missed j + sounding .missed j;
             ended = refl;
             ok = all-keep (λ (l : Line). not (isDue (c .plays .position) l)) (λ (l : Line). Ok l (l .event)) (c .waits) (h .ok);
           }
 
       abbrev stop : Holds S
-      stop = record { waits = c .waits; plays = marked (c .plays) }
+      stop = record { waits = c .waits; messages = c .messages; plays = marked (c .plays) }
 
       abbrev stop′ : Holds S′
-      stop′ = record { waits = d .waits; plays = marked (d .plays) }
+      stop′ = record { waits = d .waits; messages = d .messages; plays = marked (d .plays) }
 
       stops : Cores stop stop′
       unfolding marked
-      stops = record { lines = h .lines; notes = h .notes; position = h .position; tempo = h .tempo; missed = h .missed; ended = refl; ok = h .ok }
+      stops = record { lines = h .lines; messages = h .messages; notes = h .notes; position = h .position; tempo = h .tempo; missed = h .missed; ended = refl; ok = h .ok }
 
       next : Cores (cycled v q c) (cycled w q d)
       unfolding cycled
@@ -272,7 +329,7 @@ module _ {S S′ : Type 0} (R : S → S′ → Type 0) (Ok : Line → Event → 
     module _ (settings : ℕ → Settings) where
       at-cores : (ls : List Line) → AllOk ls → (n : ℕ) → Cores (plainAt v settings ls n) (plainAt w settings ls n)
       unfolding plainAt plainStart
-      at-cores ls o zero = record { lines = refl; notes = tt; position = refl; tempo = refl; missed = refl; ended = refl; ok = o }
+      at-cores ls o zero = record { lines = refl; messages = refl; notes = tt; position = refl; tempo = refl; missed = refl; ended = refl; ok = o }
       at-cores ls o (suc n) = next (settings n) (plainAt v settings ls n) (plainAt w settings ls n) (at-cores ls o n)
 
       pub blocks-related : (ls : List Line) (n : ℕ) → AllOk ls → blockAt v settings ls n ≡ blockAt w settings ls n
@@ -297,15 +354,15 @@ module _ {S S′ : Type 0} (R : S → S′ → Type 0) (Ok : Line → Event → 
 
       module _ {P : Type 0} where
         one-moment : (m : Moment P) (h : History S) (h′ : History S′) → AllOk (takenIn m) → Pasts h h′ → Pasts (withMoment v settings h m) (withMoment w settings h′ m)
-        unfolding behind
+        unfolding behind withMessages
         one-moment m h h′ o g = go (numbered (m .call))
           where
             c : Cores (h .holds) (h′ .holds)
             c = g .holds
 
             go : (b : Bool)
-                → Pasts (cond b (withCycle v settings (m .cycles) h) (record { holds = behind (takenIn m) (h .holds); reached = h .reached }))
-                (cond b (withCycle w settings (m .cycles) h′) (record { holds = behind (takenIn m) (h′ .holds); reached = h′ .reached }))
+                → Pasts (cond b (withCycle v settings (m .cycles) h) (record { holds = withMessages (messagesTaken m) (behind (takenIn m) (h .holds)); reached = h .reached }))
+                (cond b (withCycle w settings (m .cycles) h′) (record { holds = withMessages (messagesTaken m) (behind (takenIn m) (h′ .holds)); reached = h′ .reached }))
             go true =
                 record {
                   holds = next (settings (m .cycles)) (h .holds) (h′ .holds) c;
@@ -316,6 +373,7 @@ module _ {S S′ : Type 0} (R : S → S′ → Type 0) (Ok : Line → Event → 
                   holds =
                       record {
                         lines = λ j. c .lines j ++ takenIn m;
+                        messages = λ j. c .messages j ++ messagesTaken m;
                         notes = c .notes;
                         position = c .position;
                         tempo = c .tempo;
@@ -337,7 +395,7 @@ module _ {S S′ : Type 0} (R : S → S′ → Type 0) (Ok : Line → Event → 
         unfolding plainStart
         past ms o =
             all-moments ms (unbegun (settings 0)) (unbegun (settings 0)) o
-            (record { holds = record { lines = refl; notes = tt; position = refl; tempo = refl; missed = refl; ended = refl; ok = tt }; reached = refl })
+            (record { holds = record { lines = refl; messages = refl; notes = tt; position = refl; tempo = refl; missed = refl; ended = refl; ok = tt }; reached = refl })
 
         pub past-block-related : (q : Settings) (ms : List (Moment P)) → AllOk (allTaken ms)
             → blockOf v q (dueOf (historyOf v settings ms .holds)) (historyOf v settings ms .holds .plays)

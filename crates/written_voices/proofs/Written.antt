@@ -4,8 +4,7 @@ use native.Mathlib.Omega.{arith}
 use mathlib.Core.Path.{_≡_, refl, sym, ap, _∙_, subst}
 use mathlib.Core.Bool.{Bool, true, false, not, _&&_, _||_, cond, true≢false}
 use mathlib.Core.List.{List, [], _∷_, _++_, map}
-use lib.ListN.{length, getD, take}
-use lib.Seq.{take-all}
+use lib.ListN.{length, getD}
 use lib.Dec.{eqb, leb}
 use lib.Ieee.{Float}
 use borrow.Author.Tests.{eqb-true, eq-eqb}
@@ -14,7 +13,7 @@ use Rattle.syntax.specs.Tree.{Instrument, importsKind}
 use Rattle.syntax.specs.Names.{Named, namesOf, symbols, has, apart, distinct, namesKept, eachKept, titleOf, nameRules, known, named, namedBy}
 use Rattle.float32.specs.Builtins.{zeroF}
 use Rattle.sounding.specs.Voices as by
-use Rattle.voices.specs.Tree.{instrumentOf, silent, bodyOf, treeVoices}
+use Rattle.voices.specs.Tree.{instrumentOf, silent, bodyOf, treeVoices, noSymbol, setOf}
 use Rattle.meaning.specs.Placed as placed
 use Rattle.voices.specs.Claims.{imported}
 use Rattle.voices.proofs.Lines.{control-names}
@@ -156,20 +155,16 @@ record Holds (is : List Instrument) (s : by.Held) (t : Held) : Type 0 where
   same : s .instrument ≡ t .instrument
   values : Stands (namesOf (instrumentOf is (s .instrument))) (s .values) (t .memory .values)
 
--- values that are no more than the fields are not cut
-born : (is : List Instrument) → eachKept is ≡ true → (name : ℕ) (xs : List Float) → length xs ≤ length (instrumentOf is name .fields)
+born : (is : List Instrument) → eachKept is ≡ true → (name : ℕ) (xs : List Float)
     → Stands (namesOf (instrumentOf is name)) (treeVoices is .birth name xs .values) (birth (instrumentOf is name) xs .memory .values)
 unfolding treeVoices
-born is e name xs l =
-    let x = instrumentOf is name in
-    subst (λ (vs : List Float). Stands (namesOf x) (placed.birth (bodyOf is name) vs) (birth x xs .memory .values)) (take-all (length (x .fields)) xs l)
-    (birth-agrees x xs (each-found is name e))
+born is e name xs = birth-agrees (instrumentOf is name) xs (each-found is name e)
 
 related : (is : List Instrument) → eachKept is ≡ true → Related (Holds is) (Fits is) (treeVoices is) (writtenVoices is)
 unfolding treeVoices writtenVoices
 related is e =
     record {
-      birth = λ l label name d o. record { same = refl; values = born is e name (take (l .count) (l .values)) o };
+      birth = λ name xs. record { same = refl; values = born is e name xs };
       control = λ l label x y s t o h.
           let k = control-names is x y s o (h .values .size) in
           record {

@@ -5,31 +5,17 @@ use borrow.Author.Needs.{needs}
 use lib.ListN.{take}
 use Rattle.synth.specs.Passes.{freshOf}
 use Rattle.players.proofs.Loops.{take-min}
+use Rattle.sounding.proofs.Steps.{take-both}
 use Rattle.sounding.proofs.fresh_values.Statement.{statement}
 use Rattle.sounding.proofs.fresh_values.Tie as tie
 
-within-requires : tie.Need-within-requires
-within-requires c κs = search needs
-
-sub-fresh : tie.Need-sub-fresh
-sub-fresh c = search needs
-
-part-fresh-start : tie.Need-part-fresh-start
-part-fresh-start c = search needs
-
-part-fresh-end : tie.Need-part-fresh-end
-part-fresh-end c = search needs
-
-fresh-requires : tie.Need-fresh-requires
-fresh-requires c κs = search needs
-
-returns : tie.Need-returns
-returns c =
-    let s = c .before .before .before .before in
-    let e : c .before .before .before .within .result - 0 ≡ min (s .args .count) 8 = omega (arith, c .before .before .before .within .ensures) in
-    c .fresh .ensures ∙ ap freshOf (ap (λ (k : ℕ). take k (s .args .t1)) e ∙ take-min (s .args .t1) (s .args .count) 8 (s .good .0 .1 .0 .1))
-
 pub fresh-values-spec : {M : Type 1} → statement M
 fresh-values-spec =
-    tie.close
-    (tie.spec within-requires sub-fresh part-fresh-start part-fresh-end fresh-requires returns)
+    tie.close (tie.spec
+    (λ c κs. search needs) (λ c κs. search needs) (λ c. search needs) (λ c. search needs) (λ c. search needs) (λ c κs. search needs)
+    (λ c. let w = c .before .before .before in
+    let s = w .before .before in
+    let a = s .args in
+    let e : w .within2 .result - 0 ≡ min (a .fields) (min (a .count) 8) = omega (arith, w .within2 .ensures, w .before .within .ensures) in
+    c .fresh .ensures ∙ ap freshOf (ap (λ (k : ℕ). take k (a .t1)) e ∙ take-both (a .fields) (min (a .count) 8) (a .t1)
+    ∙ ap (take (a .fields)) (take-min (a .t1) (a .count) 8 (s .good .0 .1 .0 .1)))))

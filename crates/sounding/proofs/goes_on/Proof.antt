@@ -2,13 +2,8 @@ use Rattle.players.specs.Cycle.{goesOn}
 use Rattle.sounding.proofs.goes_on.Statement.{statement}
 use Rattle.sounding.proofs.goes_on.Tie as tie
 
-returns : tie.Need-returns
-unfolding goesOn
-returns c = rw (c .if1 .taken)
-
-returns-2 : tie.Need-returns-2
-unfolding goesOn
-returns-2 c = rw (c .before .if1 .left)
-
 pub goes-on-spec : {M : Type 1} → statement M
-goes-on-spec = tie.close (tie.spec returns returns-2)
+goes-on-spec =
+    tie.close (tie.spec
+    (λ c. unfold goesOn in rw (c .if1 .taken)) (λ c. unfold goesOn in rw (c .before .if1 .left, c .if2 .taken))
+    (λ c. unfold goesOn in rw (c .before .before .if1 .left, c .before .if2 .left)))

@@ -11,8 +11,8 @@ note-of-spec =
     (λ c κs. search needs) (λ c κs. search needs) (λ c κs. search needs) (λ c κs. search needs)
     (λ c. let s = c .before .before .before .before .before .before .before in
     omega (arith, c .before .before .beats-to-ticks .ensures, ticks-most (s .args .duration), s .pre))
-    (λ c κs. search needs) (λ c κs. search needs) (λ c κs. search needs)
-    (λ c. let n = c .before .before .before in
+    (λ c κs. search needs) (λ c κs. search needs)
+    (λ c. let n = c .before in
     let p = n .before in
     born-law _ _ _ _ _ _ _ _ _ (p .before .before .before .fresh-values .ensures) _ (p .before .before .beats-to-ticks .ensures)
-    _ (p .before .is-labelled .ensures) _ (p .label-number .ensures) _ (minus-one _) _ (n .new-note .ensures) _ (c .before .before .room .ensures) _ (c .passed .ensures .0)))
+    _ (p .before .is-labelled .ensures) _ (p .label-number .ensures) _ (minus-one _) _ (n .new-note .ensures) _ (c .begun .ensures)))

@@ -17,7 +17,7 @@ unfolding stopped
 returns c = let d = c .before .before .due-lines .ensures in
     let due = take-over _ _ (d .0) (d .1) in
     let over = c .before .is-over .ensures in
-    (turn-stops _ _ _ _ due _ over (c .if1 .taken), block-stays _ _ _ _ due _ over _ (c .if1 .taken))
+    (turn-stops _ _ _ _ _ due _ over (c .if1 .taken), block-stays _ _ _ _ _ due _ over _ (c .if1 .taken))
 
 advance-requires : tie.Need-advance-requires
 advance-requires c κs = near-law _ _ (sym (c .before .before .is-over .ensures) ∙ c .before .if1 .left)
@@ -28,13 +28,16 @@ keep-waiting-requires c κs = search needs
 same-length : tie.Need-same-length
 same-length c = search needs
 
+used-requires : tie.Need-used-requires
+used-requires c κs = search needs
+
 returns-2 : tie.Need-returns-2
-returns-2 c = let d = c .before .before .before .before .before .before .due-lines .ensures in
+returns-2 c = let d = c .before .before .before .before .before .before .before .due-lines .ensures in
     let due = take-over _ _ (d .0) (d .1) in
-    let over = c .before .before .before .before .before .is-over .ensures in
-    let on = c .before .before .before .before .if1 .left in
-    let left = c .before .before .advance .ensures in
-    (turn-plays _ _ _ _ due _ over on _ (left .0) _ (c .keep-waiting .ensures), block-plays _ _ _ _ due _ over _ on _ (left .1))
+    let over = c .before .before .before .before .before .before .is-over .ensures in
+    let on = c .before .before .before .before .before .if1 .left in
+    let left = c .before .before .before .advance .ensures in
+    (turn-plays _ _ _ _ _ due _ over on _ (left .0) _ (c .before .keep-waiting .ensures) _ (c .used .ensures), block-plays _ _ _ _ _ due _ over _ on _ (left .1))
 
 pub turn-spec : {M : Type 1} → statement M
 turn-spec =
@@ -45,5 +48,6 @@ turn-spec =
     returns
     advance-requires
     keep-waiting-requires
+    used-requires
     same-length
     returns-2)
