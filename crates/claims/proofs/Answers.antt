@@ -6,8 +6,8 @@ use Prim.Native.Nat.{ℕ, suc, _+_, _≤_, _<_}
 use native.Mathlib.Omega.{arith}
 use lib.IntN.{ℤ}
 use lib.ListN.{length, length-take, length-append}
-use lib.Dec.{eqb, ltb}
-use borrow.Author.Tests.{eqb-true, eqb-false, ltb-true, ltb-false}
+use lib.Dec.{eqb, ltb, leb}
+use borrow.Author.Tests.{eqb-true, eqb-false, ltb-true, ltb-false, leb-true, leb-false}
 use Rattle.answer.specs.Numbers.{numberOf, isTaken}
 use Rattle.answer.specs.declared.Answer as kind
 use Rattle.answer.specs.declared.Answer.the-variants as answer
@@ -35,7 +35,7 @@ use Rattle.voices.specs.Tree.{instrumentOf, fieldsOf}
 use Rattle.voices.proofs.Lines.{fields-tree}
 use Rattle.sounding.specs.Voices.{Held, fieldsIn}
 use Rattle.players.specs.Holds.{dueOf, endsBy}
-use Rattle.players.specs.Calls.{Door, stick, unit, keypad, text, mustBeTimed, hasTime, reads, Call, bring, cycle, Answer, one, After, numbered}
+use Rattle.players.specs.Calls.{Door, stick, unit, keypad, text, mustBeTimed, hasTime, reads, Call, bring, cycle, Answer, one, After, numbered, keyboard}
 use Rattle.players.specs.History.{Reached, nowhere, at, History}
 use Rattle.players.proofs.Lists.{cond-true, cond-false}
 use Rattle.waiting.specs.Waiting.{isLate}
@@ -53,9 +53,17 @@ use Rattle.panel.specs.declared.Panel.{Panel}
 use Rattle.panel.specs.declared.Brought.{Brought}
 use Rattle.loader.specs.declared.Program.{Program}
 use Rattle.loader_claims.specs.Claims.{StandsFor}
-use Rattle.claims.specs.Verdict.{HasFields, here, there, Playable, tooLate, mostLines, Fits, AllFit, Faulty, untimed, unplayable, late, full, Verdict, AtDoor, AtCycle, over, badText, cut, notCarried, outOfRange, tooManyValues, leftOver, faulty, taken, otherLength, overBefore, findsEnd, plays}
+use Rattle.claims.specs.Verdict.{HasFields, here, there, Playable, tooLate, mostLines, Fits, AllFit, Faulty, untimed, unplayable, late, full, Verdict, AtDoor, AtCycle, over, badText, cut, notCarried, outOfRange, tooManyValues, leftOver, faulty, taken, otherLength, overBefore, findsEnd, plays, AtKeyboard, mostMessages, keysOver, keysCut, keysNotCarried, keysFull, keysTaken}
 use Rattle.claims.specs.Claims.{afterOf, past, panelAfter, CallVerdict}
 use Rattle.claims.proofs.Doors.{differ, differ′}
+use Rattle.messages.specs.Message.{none as noStatus}
+use Rattle.messages.specs.Writing as midi
+use Rattle.messages.specs.Writing.{Says}
+use Rattle.messages.specs.Reading.{callOf}
+use Rattle.messages.specs.declared.Message.{Message}
+use Rattle.messages.proofs.Meaning.{one-meaning, every-call}
+use Rattle.messages.proofs.Faults.{Kind, is-whole, is-cut, is-not-carried, every-kind}
+use Rattle.claims.proofs.Keyboard.{Presses, keys-over, keys-faulty, keys-full, keys-taken, presses, whole-same, fault-same, no-fault}
 use Rattle.claims.proofs.Cycles.{Cycles, off, over-before, ends, plays as goes-on, cycles}
 use Rattle.claims.proofs.Past.{own, stands, kept-after, past-is}
 
@@ -432,8 +440,43 @@ module _ (is : List Instrument) (p : Panel) (r : StandsFor is (p .program)) (lon
   at-door-given d b n l (taken ls s t) =
       when-read d b ls (s .0) (s .1) (s .2) ∙ all-fit is (p .program) r d (own p .reached) (p .state .queue) ls (p .state .queue) _ 0 (has-own d) t
 
+  -- bytes say one thing only
+  said : (bytes : List ℕ) {c d : midi.Call} → callOf bytes ≡ c → Says noStatus bytes d → c ≡ d
+  said bytes {c} {d} q s = sym q ∙ one-meaning bytes d s
+
+  at-keyboard-given : (bytes : List ℕ) (n l : ℕ) → AtKeyboard is (own p) bytes n l → afterOf p (keyboard bytes) .answers ≡ one n l
+  at-keyboard-given bytes n l v = go v (presses p bytes)
+    where
+      answers : {a : After Panel} → afterOf p (keyboard bytes) ≡ a → afterOf p (keyboard bytes) .answers ≡ a .answers
+      answers x = ap (λ (a : After Panel). a .answers) x
+
+      go : {n l : ℕ} → AtKeyboard is (own p) bytes n l → Presses p bytes (afterOf p (keyboard bytes)) → afterOf p (keyboard bytes) .answers ≡ one n l
+      go (keysOver e) (keys-over f x) = answers x
+      go (keysOver e) (keys-faulty a f q z x) = absurd (differ (sym e ∙ f))
+      go (keysOver e) (keys-full ms f q r x) = absurd (differ (sym e ∙ f))
+      go (keysOver e) (keys-taken ms f q r x) = absurd (differ (sym e ∙ f))
+      go (keysCut e s) (keys-over f x) = absurd (differ (sym f ∙ e))
+      go (keysCut e s) (keys-faulty a f q z x) = answers x ∙ ap (λ (k : kind.Answer). one (numberOf k) 0) (fault-same (said bytes q s))
+      go (keysCut e s) (keys-full ms f q r x) = absurd (no-fault (said bytes q s))
+      go (keysCut e s) (keys-taken ms f q r x) = absurd (no-fault (said bytes q s))
+      go (keysNotCarried e s) (keys-over f x) = absurd (differ (sym f ∙ e))
+      go (keysNotCarried e s) (keys-faulty a f q z x) = answers x ∙ ap (λ (k : kind.Answer). one (numberOf k) 0) (fault-same (said bytes q s))
+      go (keysNotCarried e s) (keys-full ms f q r x) = absurd (no-fault (said bytes q s))
+      go (keysNotCarried e s) (keys-taken ms f q r x) = absurd (no-fault (said bytes q s))
+      go (keysFull ns e s g) (keys-over f x) = absurd (differ (sym f ∙ e))
+      go (keysFull ns e s g) (keys-faulty a f q z x) = absurd (no-fault (sym (said bytes q s)))
+      go (keysFull ns e s g) (keys-full ms f q r x) = answers x
+      go (keysFull ns e s g) (keys-taken ms f q r x) =
+          let same = ap length (whole-same (said bytes q s)) in absurd (omega (arith, g, r, same))
+      go (keysTaken ns e s g) (keys-over f x) = absurd (differ (sym f ∙ e))
+      go (keysTaken ns e s g) (keys-faulty a f q z x) = absurd (no-fault (sym (said bytes q s)))
+      go (keysTaken ns e s g) (keys-full ms f q r x) =
+          let same = ap length (whole-same (said bytes q s)) in absurd (omega (arith, g, r, same))
+      go (keysTaken ns e s g) (keys-taken ms f q r x) = answers x
+
   pub given : (c : Call) (n l : ℕ) → Verdict is (own p) c n l → afterOf p c .answers ≡ one n l
   given (bring d b) n l v = at-door-given d b n l v
+  given (keyboard bytes) n l v = at-keyboard-given bytes n l v
   given (cycle b) n l v = at-cycle-given b n l v
 
 -- ---- every call has a verdict
@@ -532,6 +575,22 @@ module _ {S : Type 0} (is : List Instrument) (h : History S) where
         by-end true e = record { number = 9; line = 0; verdict = over e }
         by-end false e = by-reading e (reads d handed .answer) refl (reads-so d handed .readable)
 
+  at-keyboard : (bytes : List ℕ) → Decided (keyboard bytes)
+  at-keyboard bytes = by-end (h .holds .plays .ended) refl
+    where
+      by-room : (ms : List Message) → h .holds .plays .ended ≡ false → Says noStatus bytes (midi.whole ms) → (b : Bool) → leb (length (h .holds .messages) + length ms) mostMessages ≡ b → Decided (keyboard bytes)
+      by-room ms e s true q = record { number = 0; line = 0; verdict = keysTaken ms e s (leb-true (length (h .holds .messages) + length ms) mostMessages q) }
+      by-room ms e s false q = record { number = 8; line = 0; verdict = keysFull ms e s (leb-false (length (h .holds .messages) + length ms) mostMessages q) }
+
+      by-call : h .holds .plays .ended ≡ false → {c : midi.Call} → Says noStatus bytes c → Kind c → Decided (keyboard bytes)
+      by-call e s (is-whole ms) = by-room ms e s (leb (length (h .holds .messages) + length ms) mostMessages) refl
+      by-call e s is-cut = record { number = 1; line = 0; verdict = keysCut e s }
+      by-call e s is-not-carried = record { number = 2; line = 0; verdict = keysNotCarried e s }
+
+      by-end : (b : Bool) → h .holds .plays .ended ≡ b → Decided (keyboard bytes)
+      by-end true e = record { number = 9; line = 0; verdict = keysOver e }
+      by-end false e = by-call e (every-call bytes) (every-kind bytes)
+
   at-cycle : (block : List ℤ) → Decided (cycle block)
   at-cycle block = go (numbered (cycle block)) (h .holds .plays .ended) (endsBy (dueOf (h .holds)) (h .holds .plays)) refl refl refl
     where
@@ -543,18 +602,19 @@ module _ {S : Type 0} (is : List Instrument) (h : History S) where
 
   pub decided : (c : Call) → Decided c
   decided (bring d handed) = at-door d handed
+  decided (keyboard bytes) = at-keyboard bytes
   decided (cycle block) = at-cycle block
 
 -- ---- both directions
 
 pub call-verdict : CallVerdict
 unfolding CallVerdict
-call-verdict orchestra is ceiling g cs c =
-    let p = panelAfter orchestra is ceiling cs in
-    let k = kept-after orchestra is ceiling g cs in
-    let e = past-is orchestra is ceiling g cs in
-    let s : StandsFor is (p .program) = subst⁻¹ (StandsFor is) (k .has) (stands orchestra is ceiling g) in
-    let exactly : (n l : ℕ) → Verdict is (past orchestra is ceiling cs) c n l → afterOf p c .answers ≡ one n l = λ n l x.
+call-verdict orchestra is ceiling chosen g cs c =
+    let p = panelAfter orchestra is ceiling chosen cs in
+    let k = kept-after orchestra is ceiling chosen g cs in
+    let e = past-is orchestra is ceiling chosen g cs in
+    let s : StandsFor is (p .program) = subst⁻¹ (StandsFor is) (k .has) (stands orchestra is ceiling chosen g) in
+    let exactly : (n l : ℕ) → Verdict is (past orchestra is ceiling chosen cs) c n l → afterOf p c .answers ≡ one n l = λ n l x.
     given is p s (k .long) c n l (subst⁻¹ (λ (h : History Held). Verdict is h c n l) e x) in
-    let x = decided is (past orchestra is ceiling cs) c in
+    let x = decided is (past orchestra is ceiling chosen cs) c in
     (record { number = x .number; line = x .line; answers = exactly (x .number) (x .line) (x .verdict); given = x .verdict }, exactly)

@@ -15,8 +15,8 @@ use Rattle.synth.specs.declared.Note.{Note}
 use Rattle.players.specs.Lists.{each, keep, over}
 use Rattle.players.specs.Cycle.{isDue, samples}
 use Rattle.players.specs.Cycle as cycle
-use Rattle.players.specs.Holds.{Plays, settingsOf, laterThan, dueOf, endsBy, marked, capped, blockOf, played}
-use Rattle.players.specs.Calls.{bring, cycle as cycle-call, one, numbered, After, isZero}
+use Rattle.players.specs.Holds.{Plays, laterThan, dueOf, endsBy, marked, capped, blockOf, played}
+use Rattle.players.specs.Calls.{bring, keyboard, cycle as cycle-call, one, numbered, After, isZero}
 use Rattle.players.specs.History.{at}
 use Rattle.players.proofs.Lists.{length-keep}
 use Rattle.players.proofs.Loops.{length-over}
@@ -26,12 +26,13 @@ use Rattle.sounding.proofs.Steps.{length-each}
 use Rattle.turning.specs.Steps.{playsOf, laidOver, advanced}
 use Rattle.turning.specs.Turn as turn
 use Rattle.turning.specs.declared.Playing.{Playing}
-use Rattle.panel.specs.State.{voicesOf, holdsOf, endedOf}
+use Rattle.panel.specs.State.{voicesOf, holdsOf, settingsIn, endedOf}
 use Rattle.panel.specs.Calls.{playedOf, cycleOf, blockAfter}
 use Rattle.panel.specs.declared.Panel.{Panel}
 use Rattle.panel.specs.declared.Cycled.{Cycled}
 use Rattle.claims.specs.Claims.{afterOf, reachedOf, findsEnd, Refused, RefusalsChangeNothing}
 use Rattle.claims.proofs.Doors.{differ, Brings, takes, refuses, brings}
+use Rattle.claims.proofs.Keyboard.{Presses, keys-over, keys-faulty, keys-full, keys-taken, presses}
 
 -- ---- what is laid over an array is read back
 
@@ -52,21 +53,23 @@ plays-back old p =
 
 -- ---- the two ways of a cycle that is lent 320 samples
 
-pub holds-ended : (p : Panel) → holdsOf (endedOf p) ≡ record { waits = holdsOf p .waits; plays = marked (holdsOf p .plays) }
+pub holds-ended : (p : Panel) → holdsOf (endedOf p) ≡ record { waits = holdsOf p .waits; messages = holdsOf p .messages; plays = marked (holdsOf p .plays) }
 unfolding endedOf turn.stopped marked
 holds-ended p = refl
 
 pub holds-played : (p : Panel) → holdsOf (playedOf p)
     ≡ record {
       waits = laterThan (holdsOf p .plays .position) (holdsOf p .waits);
-      plays = capped (played (voicesOf (p .program)) (settingsOf (p .ceiling)) (dueOf (holdsOf p)) (holdsOf p .plays));
+      messages = [];
+      plays = capped (played (voicesOf (p .program)) (settingsIn p) (dueOf (holdsOf p)) (holdsOf p .plays));
     }
 unfolding playedOf turn.playedOf turn.keptOf advanced
 holds-played p =
     let later = laterThan (holdsOf p .plays .position) (holdsOf p .waits) in
     λ i. record {
       waits = take-append-seam later (drop (length later) (p .state .queue .lines)) i;
-      plays = plays-back (p .state .playing) (capped (played (voicesOf (p .program)) (settingsOf (p .ceiling)) (dueOf (holdsOf p)) (holdsOf p .plays))) i;
+      messages = [];
+      plays = plays-back (p .state .playing) (capped (played (voicesOf (p .program)) (settingsIn p) (dueOf (holdsOf p)) (holdsOf p .plays))) i;
     }
 
 pub reached-ended : (p : Panel) → reachedOf (endedOf p) ≡ reachedOf p
@@ -96,7 +99,7 @@ pub data Cycles (p : Panel) (b : List ℤ) (a : After Panel) : Type 0 where
   ends : numbered (cycle-call b) ≡ true → p .state .playing .ended ≡ false → endsBy (dueOf (holdsOf p)) (holdsOf p .plays) ≡ true
       → a ≡ record { player = endedOf p; answers = one 9 0; block = b } → Cycles p b a
   plays : numbered (cycle-call b) ≡ true → p .state .playing .ended ≡ false → endsBy (dueOf (holdsOf p)) (holdsOf p .plays) ≡ false
-      → a ≡ record { player = playedOf p; answers = one 0 0; block = blockOf (voicesOf (p .program)) (settingsOf (p .ceiling)) (dueOf (holdsOf p)) (holdsOf p .plays) }
+      → a ≡ record { player = playedOf p; answers = one 0 0; block = blockOf (voicesOf (p .program)) (settingsIn p) (dueOf (holdsOf p)) (holdsOf p .plays) }
       → Cycles p b a
 
 pub cycles : (p : Panel) (b : List ℤ) → Cycles p b (afterOf p (cycle-call b))
@@ -104,7 +107,7 @@ unfolding afterOf cycleOf blockAfter
 cycles p b = go (eqb (length b) samples) (p .state .playing .ended) (endsBy (dueOf (holdsOf p)) (holdsOf p .plays)) refl refl refl
   where
     sound : List ℤ
-    sound = blockOf (voicesOf (p .program)) (settingsOf (p .ceiling)) (dueOf (holdsOf p)) (holdsOf p .plays)
+    sound = blockOf (voicesOf (p .program)) (settingsIn p) (dueOf (holdsOf p)) (holdsOf p .plays)
 
     out : Bool → Bool → Bool → Cycled
     out w e d =
@@ -127,6 +130,13 @@ refusals-change-nothing p (bring d handed) t = go (brings p d handed)
     go : {ls : List Line} → Brings p ls (afterOf p (bring d handed)) → Refused p (bring d handed)
     go (takes l q e f x) = absurd (differ (sym (ap (λ (a : After Panel). isZero (a .answers)) x) ∙ t))
     go (refuses n l z x) = record { player = ap (λ (a : After Panel). a .player) x; block = ap (λ (a : After Panel). a .block) x }
+refusals-change-nothing p (keyboard bytes) t = go (presses p bytes)
+  where
+    go : Presses p bytes (afterOf p (keyboard bytes)) → Refused p (keyboard bytes)
+    go (keys-over e x) = record { player = ap (λ (a : After Panel). a .player) x; block = ap (λ (a : After Panel). a .block) x }
+    go (keys-faulty n e f z x) = record { player = ap (λ (a : After Panel). a .player) x; block = ap (λ (a : After Panel). a .block) x }
+    go (keys-full ms e f l x) = record { player = ap (λ (a : After Panel). a .player) x; block = ap (λ (a : After Panel). a .block) x }
+    go (keys-taken ms e f l x) = absurd (differ (sym (ap (λ (a : After Panel). isZero (a .answers)) x) ∙ t))
 refusals-change-nothing p (cycle-call b) t = go (cycles p b)
   where
     found : (w e d : Bool) → numbered (cycle-call b) ≡ w → p .state .playing .ended ≡ e → endsBy (dueOf (holdsOf p)) (holdsOf p .plays) ≡ d

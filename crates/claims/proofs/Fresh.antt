@@ -1,5 +1,5 @@
 -- A fresh start: the first check that fails, and the panel that comes with the number.
-use mathlib.Core.Path.{_≡_, refl, sym, ap, _∙_, subst}
+use mathlib.Core.Path.{_≡_, refl, sym, ap, _∙_, subst, subst⁻¹}
 use mathlib.Core.Bool.{Bool, true, false, cond, _&&_}
 use mathlib.Core.List.{List, [], _∷_}
 use Prim.Native.Nat.{ℕ, _≤_, _<_}
@@ -10,7 +10,7 @@ use lib.Dec.{leb, eqb}
 use borrow.Author.Tests.{leb-true, le-leb}
 use Rattle.answer.specs.Numbers.{numberOf, isTaken}
 use Rattle.answer.specs.declared.Answer.{Answer}
-use Rattle.answer.specs.declared.Answer.the-variants.{Taken, OutOfRange, Ended, BlockLength}
+use Rattle.answer.specs.declared.Answer.the-variants.{Taken, OutOfRange, Ended, BlockLength, NoInstrument}
 use Rattle.answer.specs.declared.Answer.the-variants as answer
 use Rattle.tokens.specs.declared.Token.{Token}
 use Rattle.tokens.specs.Spelling.{Bytes}
@@ -28,19 +28,23 @@ use Rattle.orchestra.proofs.Verdict.{every-verdict}
 use Rattle.players.specs.Lists.{All, each}
 use Rattle.players.specs.Cycle.{samples}
 use Rattle.loader.specs.Loading.{loadOf}
+use Rattle.loader_claims.specs.Claims.{StandsFor}
 use Rattle.loader_claims.proofs.Loaded.{loaded, taken-only}
+use Rattle.keyboard.specs.Keyboard.{noMessages}
 use Rattle.panel.specs.State.{startOf, holdsOf}
-use Rattle.panel.specs.Calls.{freshOf, noPanel, broughtOf, bringOf, cycleOf, blockAfter}
+use Rattle.panel.specs.Calls.{hasChosen, freshOf, noPanel, broughtOf, bringOf, playKeysOf, cycleOf, blockAfter}
 use Rattle.panel.specs.declared.Panel.{Panel}
 use Rattle.panel.specs.declared.Fresh.{Fresh}
 use Rattle.panel.specs.declared.Cycled.{Cycled}
 use Rattle.players.specs.Holds.{settingsOf}
 use Rattle.players.specs.Plain.{plainStart}
-use Rattle.players.specs.Calls.{Call, bring, cycle, one, After, Last, none as none-yet, traceFrom}
+use Rattle.players.specs.Results.{Some}
+use Rattle.players.specs.Calls.{Call, bring, keyboard, cycle, one, After, Last, none as none-yet, traceFrom}
 use Rattle.players.specs.History.{nowhere}
 use Rattle.claims.specs.Fresh.{Check, First, fails, holds, all, Tokens, Tree, checks}
 use Rattle.claims.specs.Claims.{afterOf, panel, reachedOf, Begun, endedAfter, AsEnded, FreshVerdict}
 use Rattle.claims.proofs.Doors.{differ, differ′}
+use Rattle.claims.proofs.Chosen.{chosen-there, there-chosen}
 
 -- only `Taken` is taken
 taken-is : (a : Answer) → isTaken a ≡ true → a ≡ answer.Taken
@@ -74,52 +78,70 @@ first-one all all = refl
 too-long : (bs : List ℕ) → longest < length bs → length bs ≤ longest → ⊥
 too-long bs lt le = omega (arith, lt, le)
 
-module _ (bs : List ℕ) (ceiling : ℕ) (law : (1 ≤ ceiling) × (ceiling ≤ 32767)) where
+module _ (bs : List ℕ) (ceiling chosen : ℕ) (law : (1 ≤ ceiling) × (ceiling ≤ 32767)) where
   abbrev names : Check
   names = record { number = 14; asks = Tree bs (λ is. nameRules is ≡ true) }
 
   abbrev rates : Check
   rates = record { number = 15; asks = Tree bs (λ is. rateRules is ≡ true) }
 
+  abbrev choice : Check
+  choice = record { number = 4; asks = Tree bs (λ is. Some (λ (i : Instrument). i .name ≡ chosen) is) }
+
   abbrev grammar : Check
   grammar = record { number = 13; asks = Tree bs (λ is. Unit {0}) }
 
-  measured-so : (ts : List Token) → orchestra.Sized bs ts → {n : ℕ} → First (grammar ∷ names ∷ rates ∷ []) n → First (checks bs ceiling) n
+  measured-so : (ts : List Token) → orchestra.Sized bs ts → {n : ℕ} → First (grammar ∷ names ∷ rates ∷ choice ∷ []) n → First (checks bs ceiling chosen) n
   measured-so ts s f =
       let is-tokens : Tokens bs (λ us. Unit {0}) = (ts, s .spells, tt) in
       let within : Tokens bs (λ us. measured us ≡ true) = (ts, s .spells, s .within) in
       holds law (holds (s .short) (holds is-tokens (holds within f)))
 
-  derived-so : (ts : List Token) (is : List Instrument) → orchestra.Sized bs ts → Orchestra is ts → {n : ℕ} → First (names ∷ rates ∷ []) n → First (checks bs ceiling) n
+  derived-so : (ts : List Token) (is : List Instrument) → orchestra.Sized bs ts → Orchestra is ts → {n : ℕ} → First (names ∷ rates ∷ choice ∷ []) n → First (checks bs ceiling chosen) n
   derived-so ts is s d f =
       let derived : Tree bs (λ js. Unit {0}) = (ts, is, s .spells, d, tt) in measured-so ts s (holds derived f)
 
-  by-verdict : (o : Outcome) → orchestra.Verdict bs o → First (checks bs ceiling) (numberOf (o .answer))
-  by-verdict o (orchestra.tooLong lt) = holds law (fails (too-long bs lt))
-  by-verdict o (orchestra.noTokens le e) = holds law (holds le (fails (λ (x : Tokens bs (λ ts. Unit {0})). e (x .0) (x .1))))
-  by-verdict o (orchestra.tooLarge ts le e m) =
+  -- an orchestra that is not accepted
+  by-verdict : (o : Outcome) → orchestra.Verdict bs o → isTaken (o .answer) ≡ false → First (checks bs ceiling chosen) (numberOf (o .answer))
+  by-verdict o (orchestra.tooLong lt) t = holds law (fails (too-long bs lt))
+  by-verdict o (orchestra.noTokens le e) t = holds law (holds le (fails (λ (x : Tokens bs (λ ts. Unit {0})). e (x .0) (x .1))))
+  by-verdict o (orchestra.tooLarge ts le e m) t =
       let is-tokens : Tokens bs (λ us. Unit {0}) = (ts, e, tt) in
       holds law (holds le (holds is-tokens (fails (λ (x : Tokens bs (λ ts. measured ts ≡ true)). differ (sym (x .2) ∙ ap measured (one-spelling bs (x .0) ts (x .1) e) ∙ m)))))
-  by-verdict o (orchestra.outside ts s f) =
+  by-verdict o (orchestra.outside ts s f) t =
       measured-so ts s
       (fails (λ (x : Tree bs (λ js. Unit {0})). f (x .1) (subst (Orchestra (x .1)) (one-spelling bs (x .0) ts (x .2) (s .spells)) (x .3))))
-  by-verdict o (orchestra.misnamed ts is s d n) =
+  by-verdict o (orchestra.misnamed ts is s d n) t =
       derived-so ts is s d
       (fails (λ (x : Tree bs (λ js. nameRules js ≡ true)). differ (sym (x .4) ∙ ap nameRules (unique (x .3) d (one-spelling bs (x .0) ts (x .2) (s .spells))) ∙ n)))
-  by-verdict o (orchestra.misrated ts is s d n r) =
+  by-verdict o (orchestra.misrated ts is s d n r) t =
       let named : Tree bs (λ js. nameRules js ≡ true) = (ts, is, s .spells, d, n) in
       derived-so ts is s d
       (holds named
       (fails (λ (x : Tree bs (λ js. rateRules js ≡ true)). differ (sym (x .4) ∙ ap rateRules (unique (x .3) d (one-spelling bs (x .0) ts (x .2) (s .spells))) ∙ r))))
-  by-verdict o (orchestra.accepted is a) =
+  by-verdict o (orchestra.accepted is a) t = absurd (differ t)
+
+  -- one that is, by its tree
+  by-tree : (is : List Instrument) (a : orchestra.Accepted bs is) → {n : ℕ} → First (choice ∷ []) n → First (checks bs ceiling chosen) n
+  by-tree is a f =
       let named : Tree bs (λ js. nameRules js ≡ true) = (a .tokens, is, a .sized .spells, a .derived, a .named) in
       let rated : Tree bs (λ js. rateRules js ≡ true) = (a .tokens, is, a .sized .spells, a .derived, a .rated) in
-      derived-so (a .tokens) is (a .sized) (a .derived) (holds named (holds rated all))
+      derived-so (a .tokens) is (a .sized) (a .derived) (holds named (holds rated f))
+
+  there-so : (is : List Instrument) → orchestra.Accepted bs is → Some (λ (i : Instrument). i .name ≡ chosen) is → First (checks bs ceiling chosen) 0
+  there-so is a s = let there : Tree bs (λ js. Some (λ (i : Instrument). i .name ≡ chosen) js) = (a .tokens, is, a .sized .spells, a .derived, s) in by-tree is a (holds there all)
+
+  absent-so : (is : List Instrument) → orchestra.Accepted bs is → (Some (λ (i : Instrument). i .name ≡ chosen) is → ⊥) → First (checks bs ceiling chosen) 4
+  absent-so is a n =
+      by-tree is a
+      (fails (λ (x : Tree bs (λ js. Some (λ (i : Instrument). i .name ≡ chosen) js)).
+      n (subst (Some (λ (i : Instrument). i .name ≡ chosen)) (unique (x .3) (a .derived) (one-spelling bs (x .0) (a .tokens) (x .2) (a .sized .spells))) (x .4))))
 
 -- a panel that has ended
 ended-after : (p : Panel) (c : Call) → p .state .playing .ended ≡ true → afterOf p c ≡ endedAfter p c
-unfolding afterOf bringOf broughtOf cycleOf blockAfter
+unfolding afterOf bringOf broughtOf playKeysOf cycleOf blockAfter
 ended-after p (bring d b) e = rw e refl
+ended-after p (keyboard b) e = rw e refl
 ended-after p (cycle b) e = go (eqb (length b) samples) (p .state .playing .ended) _ _ e
   where
     shape : Bool → Bool → Cycled → Cycled
@@ -143,79 +165,103 @@ all-ended (c ∷ cs) k z p e = (
   where
     still : (c : Call) → endedAfter p c .player .state .playing .ended ≡ true
     still (bring d b) = e
+    still (keyboard b) = e
     still (cycle b) = e
 
 -- ---- the two kinds of start
 
--- what a fresh start gives, by its ceiling and by its orchestra's answer
-out : List ℕ → ℕ → Bool → Bool → Fresh
-out bs ceiling law taken =
+-- what a fresh start gives, by its ceiling, by its orchestra's answer and by the choice
+out : List ℕ → ℕ → ℕ → Bool → Bool → Bool → Fresh
+out bs ceiling chosen law taken there =
     cond law
-    (cond taken (record { panel = startOf (loadOf bs .program) ceiling false; answer = loadOf bs .answer }) (noPanel (loadOf bs .program) (loadOf bs .answer)))
+    (cond taken (cond there (record { panel = startOf (loadOf bs .program) ceiling chosen false; answer = loadOf bs .answer }) (noPanel (loadOf bs .program) NoInstrument))
+    (noPanel (loadOf bs .program) (loadOf bs .answer)))
     (noPanel (loadOf [] .program) OutOfRange)
 
-module _ (bs : List ℕ) (ceiling : ℕ) (bytes : Bytes bs) where
-  -- the number
-  law-first : leb 1 ceiling ≡ true → leb ceiling 32767 ≡ true → First (checks bs ceiling) (numberOf (loadOf bs .answer))
-  unfolding loadOf
-  law-first l h = by-verdict bs ceiling (leb-true 1 ceiling l, leb-true ceiling 32767 h) (readOf bs) (every-verdict bs bytes)
+module _ (bs : List ℕ) (ceiling chosen : ℕ) (bytes : Bytes bs) where
+  module _ (l : leb 1 ceiling ≡ true) (h : leb ceiling 32767 ≡ true) where
+    law : (1 ≤ ceiling) × (ceiling ≤ 32767)
+    law = (leb-true 1 ceiling l, leb-true ceiling 32767 h)
 
-  number-is : (a b t : Bool) → leb 1 ceiling ≡ a → leb ceiling 32767 ≡ b → First (checks bs ceiling) (numberOf (out bs ceiling (a && b) t .answer))
+    -- the number of a refused orchestra
+    refused-first : isTaken (loadOf bs .answer) ≡ false → First (checks bs ceiling chosen) (numberOf (loadOf bs .answer))
+    unfolding loadOf
+    refused-first t = by-verdict bs ceiling chosen law (readOf bs) (every-verdict bs bytes) t
+
+    module _ (t : isTaken (loadOf bs .answer) ≡ true) where
+      tree-of : (is : List Instrument) × orchestra.Accepted bs is
+      tree-of = taken-only bs bytes (taken-is (loadOf bs .answer) t)
+
+      program-stands : StandsFor (tree-of .0) (loadOf bs .program)
+      program-stands = loaded bs (tree-of .0) (tree-of .1) .stands
+
+      taken-first : hasChosen (loadOf bs .program) chosen ≡ true → First (checks bs ceiling chosen) (numberOf (loadOf bs .answer))
+      taken-first c =
+          subst⁻¹ (λ (a : Answer). First (checks bs ceiling chosen) (numberOf a)) (taken-is (loadOf bs .answer) t)
+          (there-so bs ceiling chosen law (tree-of .0) (tree-of .1) (there-chosen (tree-of .0) (loadOf bs .program) program-stands chosen c))
+
+      absent-first : hasChosen (loadOf bs .program) chosen ≡ false → First (checks bs ceiling chosen) 4
+      absent-first c =
+          absent-so bs ceiling chosen law (tree-of .0) (tree-of .1) (λ s. differ (sym (chosen-there (tree-of .0) (loadOf bs .program) program-stands chosen s) ∙ c))
+
+  number-is : (a b t c : Bool) → leb 1 ceiling ≡ a → leb ceiling 32767 ≡ b → isTaken (loadOf bs .answer) ≡ t → hasChosen (loadOf bs .program) chosen ≡ c
+      → First (checks bs ceiling chosen) (numberOf (out bs ceiling chosen (a && b) t c .answer))
   unfolding out noPanel
-  number-is true true true l h = law-first l h
-  number-is true true false l h = law-first l h
-  number-is true false t l h = fails (λ (x : (1 ≤ ceiling) × (ceiling ≤ 32767)). differ (sym (le-leb ceiling 32767 (x .1)) ∙ h))
-  number-is false b t l h = fails (λ (x : (1 ≤ ceiling) × (ceiling ≤ 32767)). differ (sym (le-leb 1 ceiling (x .0)) ∙ l))
+  number-is true true true true l h q r = taken-first l h q r
+  number-is true true true false l h q r = absent-first l h q r
+  number-is true true false c l h q r = refused-first l h q
+  number-is true false t c l h q r = fails (λ (x : (1 ≤ ceiling) × (ceiling ≤ 32767)). differ (sym (le-leb ceiling 32767 (x .1)) ∙ h))
+  number-is false b t c l h q r = fails (λ (x : (1 ≤ ceiling) × (ceiling ≤ 32767)). differ (sym (le-leb 1 ceiling (x .0)) ∙ l))
 
-  number : First (checks bs ceiling) (numberOf (freshOf bs ceiling .answer))
+  number : First (checks bs ceiling chosen) (numberOf (freshOf bs ceiling chosen .answer))
   unfolding freshOf out
-  number = number-is (leb 1 ceiling) (leb ceiling 32767) (isTaken (loadOf bs .answer)) refl refl
+  number = number-is (leb 1 ceiling) (leb ceiling 32767) (isTaken (loadOf bs .answer)) (hasChosen (loadOf bs .program) chosen) refl refl refl refl
 
   -- the panel where it is 0
-  start-holds : holdsOf (startOf (loadOf bs .program) ceiling false) ≡ plainStart (settingsOf ceiling) []
-  unfolding startOf plainStart each
+  start-holds : holdsOf (startOf (loadOf bs .program) ceiling chosen false) ≡ plainStart (settingsOf ceiling chosen) []
+  unfolding startOf plainStart each noMessages
   start-holds = refl
 
-  start-reached : reachedOf (startOf (loadOf bs .program) ceiling false) ≡ nowhere
+  start-reached : reachedOf (startOf (loadOf bs .program) ceiling chosen false) ≡ nowhere
   unfolding startOf
   start-reached = refl
 
-  start-limit : startOf (loadOf bs .program) ceiling false .ceiling ≡ ceiling
+  begun-is : loadOf bs .answer ≡ Taken → hasChosen (loadOf bs .program) chosen ≡ true → Begun bs ceiling chosen (startOf (loadOf bs .program) ceiling chosen false)
   unfolding startOf
-  start-limit = refl
-
-  begun-is : loadOf bs .answer ≡ Taken → Begun bs ceiling (startOf (loadOf bs .program) ceiling false)
-  unfolding startOf
-  begun-is e =
+  begun-is e c =
       let x = taken-only bs bytes e in
+      let r = loaded bs (x .0) (x .1) .stands in
       record {
         tree = x .0;
         accepted = x .1;
-        stands = loaded bs (x .0) (x .1) .stands;
-        limit = start-limit;
+        stands = r;
+        there = there-chosen (x .0) (loadOf bs .program) r chosen c;
+        limit = refl;
+        choice = refl;
         holds = start-holds;
         reached = start-reached;
       }
 
   Kinds : Fresh → Type 0
-  Kinds f = (f .answer ≡ Taken → Begun bs ceiling (f .panel)) × ((f .answer ≡ Taken → ⊥) → f .panel .state .playing .ended ≡ true)
+  Kinds f = (f .answer ≡ Taken → Begun bs ceiling chosen (f .panel)) × ((f .answer ≡ Taken → ⊥) → f .panel .state .playing .ended ≡ true)
 
-  kinds-is : (a t : Bool) → isTaken (loadOf bs .answer) ≡ t → Kinds (out bs ceiling a t)
+  kinds-is : (a t c : Bool) → isTaken (loadOf bs .answer) ≡ t → hasChosen (loadOf bs .program) chosen ≡ c → Kinds (out bs ceiling chosen a t c)
   unfolding out noPanel Kinds startOf
-  kinds-is true true e = ((λ q. begun-is q), λ n. absurd (n (taken-is (loadOf bs .answer) e)))
-  kinds-is true false e = ((λ q. absurd (differ (sym (ap isTaken q) ∙ e))), λ n. refl)
-  kinds-is false t e = ((λ q. absurd (differ (sym (ap isTaken q)))), λ n. refl)
+  kinds-is true true true e r = ((λ q. begun-is q r), λ n. absurd (n (taken-is (loadOf bs .answer) e)))
+  kinds-is true true false e r = ((λ q. absurd (differ (sym (ap isTaken q)))), λ n. refl)
+  kinds-is true false c e r = ((λ q. absurd (differ (sym (ap isTaken q) ∙ e))), λ n. refl)
+  kinds-is false t c e r = ((λ q. absurd (differ (sym (ap isTaken q)))), λ n. refl)
 
-  kinds : Kinds (freshOf bs ceiling)
+  kinds : Kinds (freshOf bs ceiling chosen)
   unfolding freshOf out
-  kinds = kinds-is (leb 1 ceiling && leb ceiling 32767) (isTaken (loadOf bs .answer)) refl
+  kinds = kinds-is (leb 1 ceiling && leb ceiling 32767) (isTaken (loadOf bs .answer)) (hasChosen (loadOf bs .program) chosen) refl refl
 
 pub fresh-verdict : FreshVerdict
 unfolding Kinds
-fresh-verdict bs ceiling bytes =
+fresh-verdict bs ceiling chosen bytes =
     record {
-      given = number bs ceiling bytes;
-      only = λ n f. first-one (number bs ceiling bytes) f;
-      begun = kinds bs ceiling bytes .0;
-      noPanel = λ n cs. all-ended cs 0 none-yet (freshOf bs ceiling .panel) (kinds bs ceiling bytes .1 n);
+      given = number bs ceiling chosen bytes;
+      only = λ n f. first-one (number bs ceiling chosen bytes) f;
+      begun = kinds bs ceiling chosen bytes .0;
+      noPanel = λ n cs. all-ended cs 0 none-yet (freshOf bs ceiling chosen .panel) (kinds bs ceiling chosen bytes .1 n);
     }

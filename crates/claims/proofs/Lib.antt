@@ -1,5 +1,7 @@
 pub mod Ranged
 pub mod Doors
+pub mod Keyboard
+pub mod Chosen
 pub mod Cycles
 pub mod Past
 pub mod Answers

@@ -2,13 +2,13 @@
 use mathlib.Core.Path.{_≡_, refl, sym, ap, _∙_, subst, subst⁻¹}
 use mathlib.Core.Bool.{Bool, true, false, cond, _&&_}
 use mathlib.Core.List.{List, [], _∷_, _++_, append-nil}
-use Prim.Native.Nat.{ℕ, _≤_}
+use Prim.Native.Nat.{ℕ, _+_, _≤_}
 use native.Mathlib.Omega.{arith}
 use lib.IntN.{ℤ}
 use lib.ListN.{length, length-take, length-replicate}
 use lib.Dec.{eqb, leb}
 use borrow.Author.Tests.{le-leb}
-use Rattle.answer.specs.Numbers.{isTaken}
+use Rattle.answer.specs.Numbers.{numberOf, isTaken}
 use Rattle.float32.specs.Limit.{Within}
 use Rattle.score_line.specs.declared.Line.{Line}
 use Rattle.syntax.specs.Tree.{Instrument}
@@ -19,30 +19,35 @@ use Rattle.written_voices.specs.Voices.{nextBlock}
 use Rattle.sounding.specs.Voices.{Held}
 use Rattle.players.specs.Lists.{each, All}
 use Rattle.players.specs.Cycle.{Voices, farthest}
-use Rattle.players.specs.Holds.{Settings, settingsOf, Holds, behind, laterThan, dueOf, endsBy, marked, answerOf, capped, blockOf, played, cycled}
+use Rattle.players.specs.Holds.{Settings, Due, settingsOf, Holds, behind, withMessages, laterThan, dueOf, endsBy, marked, answerOf, capped, blockOf, played, cycled}
 use Rattle.players.specs.Plain.{plainStart}
-use Rattle.players.specs.Calls.{Door, reads, Call, bring, cycle, Answer, one, After, numbered, linesOf, takenOf, isZero, Last, none, cyclesWith, lastWith, momentOf, traceFrom, trace, afterAll}
+use Rattle.players.specs.Calls.{Door, reads, Call, bring, keyboard, cycle, wholeMessages, messagesIn, Answer, one, After, numbered, linesOf, takenOf, isZero, Last, none, cyclesWith, lastWith, momentOf, traceFrom, trace, afterAll}
 use Rattle.players.specs.Condition3.{PlainAlike, WithinCeiling}
 use Rattle.players.specs.History.{nowhere, at, History, unbegun, withCycle, withMoment, historyFrom}
 use Rattle.players.proofs.Lists.{cond-true, cond-false, all-append, all-map}
-use Rattle.players.proofs.Join.{behind-none}
 use Rattle.players.proofs.Count.{AllSteady, steady, Slow, within-limit, cap-none, slow-played, starting}
 use Rattle.players.proofs.Ceiling.{block-within}
 use Rattle.players.proofs.Alike.{AllFollow, plain-alike}
 use Rattle.waiting.specs.declared.Queue.{Queue}
+use Rattle.messages.specs.Writing as midi
+use Rattle.messages.specs.Reading.{blank, callOf}
+use Rattle.messages.specs.declared.Message.{Message}
+use Rattle.keyboard.specs.Keyboard.{noMessages, mostMessages, messagesIn as waitingMessages, behind as behindMessages}
 use Rattle.entrances.specs.Entrances.{emptyLine}
 use Rattle.turning.specs.Turn as turn
 use Rattle.loader.specs.declared.Program.{Program}
 use Rattle.loader.specs.Loading.{loadOf}
 use Rattle.loader_claims.specs.Claims.{StandsFor}
 use Rattle.loader_claims.proofs.Loaded.{loaded}
-use Rattle.panel.specs.State.{tableOf, voicesOf, holdsOf, startOf, withQueue, endedOf}
+use Rattle.panel.specs.State.{tableOf, voicesOf, holdsOf, settingsIn, startOf, withQueue, withMessages as panelWith, endedOf}
 use Rattle.panel.specs.Calls.{freshOf, playedOf}
 use Rattle.panel.specs.declared.Panel.{Panel}
 use Rattle.panel.specs.declared.Fresh.{Fresh}
 use Rattle.claims.specs.Claims.{afterOf, panel, reachedOf, Given, fresh, settings, past, panelAfter, CeilingBinds}
 use Rattle.claims.proofs.Ranged.{ranged, ranged-steady, reads-ranged}
 use Rattle.claims.proofs.Doors.{differ, differ′, Behind, Brings, takes, refuses, brings}
+use Rattle.claims.proofs.Keyboard.{waits-behind, length-behind, Presses, keys-over, keys-faulty, keys-full, keys-taken, presses}
+use Rattle.claims.proofs.Chosen.{chosen-there}
 use Rattle.claims.proofs.Cycles.{holds-ended, holds-played, reached-ended, reached-played, played-long, Cycles, off, over-before, ends, plays, cycles}
 
 -- the history that a panel's own fields tell
@@ -56,11 +61,13 @@ reads-steady d handed =
 
 -- ---- what the panel keeps true of itself
 
-module _ (program : Program) (ceiling : ℕ) (is : List Instrument) (r : StandsFor is program) where
+module _ (program : Program) (ceiling chosen : ℕ) (is : List Instrument) (r : StandsFor is program) where
   pub record Kept (p : Panel) : Type 0 where
     pub has : p .program ≡ program
     pub locked : p .ceiling ≡ ceiling
+    pub choice : p .chosen ≡ chosen
     pub long : length (p .state .queue .lines) ≡ 64
+    pub listed : length (p .state .messages .list) ≡ 64
     pub slow : Slow (holdsOf p)
     pub good : Notes Sixteen (holdsOf p .plays .notes)
 
@@ -69,7 +76,7 @@ module _ (program : Program) (ceiling : ℕ) (is : List Instrument) (r : StandsF
   w = treeVoices is
 
   abbrev s : Settings
-  s = settingsOf ceiling
+  s = settingsOf ceiling chosen
 
   same : Alike Sixteen (voicesOf program) w
   same = alike is (tableOf program) (program .code) (program .vals) r
@@ -77,16 +84,26 @@ module _ (program : Program) (ceiling : ℕ) (is : List Instrument) (r : StandsF
   few : (p : Panel) → Kept p → length (holdsOf p .waits) ≤ 64
   few p k = omega (arith, length-take (p .state .queue .count) (p .state .queue .lines), k .long)
 
-  -- ---- lines behind
+  brief : (p : Panel) → Kept p → length (holdsOf p .messages) ≤ 64
+  brief p k = omega (arith, length-take (p .state .messages .count) (p .state .messages .list), k .listed)
 
-  slow-behind : (h : Holds Held) (ls : List Line) → AllSteady ls → Slow h → Slow (behind ls h)
-  unfolding behind
-  slow-behind h ls t x = record { few = x .few; lines = all-append _ (h .waits) ls (x .lines) t; tempo = x .tempo }
+  -- ---- lines and note messages behind
+
+  -- what is held, with so many lines and note messages behind
+  abbrev with : List Line → List Message → Panel → History Held
+  with ls ms p = record { holds = withMessages ms (behind ls (holdsOf p)); reached = reachedOf p }
+
+  slow-behind : (h : Holds Held) (ls : List Line) → AllSteady ls → Slow h → AllSteady (h .waits ++ ls)
+  slow-behind h ls t x = all-append _ (h .waits) ls (x .lines) t
 
   own-takes : (p : Panel) (ls : List Line) (q : Queue) → Behind (p .state .queue) ls q
-      → own (withQueue p q) ≡ record { holds = behind ls (holdsOf p); reached = reachedOf p }
-  unfolding behind withQueue
-  own-takes p ls q b = λ i. record { holds = record { waits = b .waits i; plays = holdsOf p .plays }; reached = cond (b .ran i) (at (b .last i)) nowhere }
+      → own (withQueue p q) ≡ with ls [] p
+  unfolding behind withMessages withQueue
+  own-takes p ls q b =
+      λ i. record {
+        holds = record { waits = b .waits i; messages = sym (append-nil (holdsOf p .messages)) i; plays = holdsOf p .plays };
+        reached = cond (b .ran i) (at (b .last i)) nowhere;
+      }
 
   kept-takes : (p : Panel) (ls : List Line) (q : Queue) → Behind (p .state .queue) ls q → AllSteady ls → Kept p → Kept (withQueue p q)
   unfolding withQueue
@@ -94,18 +111,47 @@ module _ (program : Program) (ceiling : ℕ) (is : List Instrument) (r : StandsF
       record {
         has = k .has;
         locked = k .locked;
+        choice = k .choice;
         long = b .long;
-        slow = subst⁻¹ Slow (ap (λ (h : History Held). h .holds) (own-takes p ls q b)) (slow-behind (holdsOf p) ls t (k .slow));
+        listed = k .listed;
+        slow = record { few = k .slow .few; lines = subst⁻¹ AllSteady (b .waits) (slow-behind (holdsOf p) ls t (k .slow)); tempo = k .slow .tempo };
         good = k .good;
       }
 
-  own-none : (p : Panel) → own p ≡ record { holds = behind [] (holdsOf p); reached = reachedOf p }
-  own-none p = λ i. record { holds = sym (behind-none (holdsOf p)) i; reached = reachedOf p }
+  own-presses : (p : Panel) (ms : List Message) → own (panelWith p (behindMessages (p .state .messages) ms)) ≡ with [] ms p
+  unfolding behind withMessages panelWith
+  own-presses p ms =
+      λ i. record {
+        holds = record { waits = sym (append-nil (holdsOf p .waits)) i; messages = waits-behind (p .state .messages) ms i; plays = holdsOf p .plays };
+        reached = reachedOf p;
+      }
+
+  kept-presses : (p : Panel) (ms : List Message) → length (waitingMessages (p .state .messages)) + length ms ≤ mostMessages → Kept p
+      → Kept (panelWith p (behindMessages (p .state .messages) ms))
+  unfolding panelWith
+  kept-presses p ms l k =
+      record {
+        has = k .has;
+        locked = k .locked;
+        choice = k .choice;
+        long = k .long;
+        listed = length-behind (p .state .messages) ms (k .listed) l;
+        slow = record { few = k .slow .few; lines = k .slow .lines; tempo = k .slow .tempo };
+        good = k .good;
+      }
+
+  own-none : (p : Panel) → own p ≡ with [] [] p
+  unfolding behind withMessages
+  own-none p =
+      λ i. record {
+        holds = record { waits = sym (append-nil (holdsOf p .waits)) i; messages = sym (append-nil (holdsOf p .messages)) i; plays = holdsOf p .plays };
+        reached = reachedOf p;
+      }
 
   -- ---- a cycle of a history
 
   module _ (k : ℕ) (h : History Held) where
-    over-cycle : h .holds .plays .ended ≡ true → withCycle w (settings ceiling) k h ≡ h
+    over-cycle : h .holds .plays .ended ≡ true → withCycle w (settings ceiling chosen) k h ≡ h
     unfolding cycled answerOf
     over-cycle e =
         let n : answerOf (h .holds) ≡ 9 = cond-true _ _ e in
@@ -113,23 +159,23 @@ module _ (program : Program) (ceiling : ℕ) (is : List Instrument) (r : StandsF
         λ i. record { holds = c i; reached = cond (eqb (n i) 0) (at (h .holds .plays .position)) (h .reached) }
 
     end-cycle : h .holds .plays .ended ≡ false → endsBy (dueOf (h .holds)) (h .holds .plays) ≡ true
-        → withCycle w (settings ceiling) k h ≡ record { holds = record { waits = h .holds .waits; plays = marked (h .holds .plays) }; reached = h .reached }
+        → withCycle w (settings ceiling chosen) k h ≡ record { holds = record { waits = h .holds .waits; messages = h .holds .messages; plays = marked (h .holds .plays) }; reached = h .reached }
     unfolding cycled answerOf
     end-cycle e d =
         let n : answerOf (h .holds) ≡ 9 = cond-false _ _ e ∙ cond-true _ _ d in
-        let c : cycled w s (h .holds) ≡ record { waits = h .holds .waits; plays = marked (h .holds .plays) } = cond-false _ _ e ∙ cond-true _ _ d in
+        let c : cycled w s (h .holds) ≡ record { waits = h .holds .waits; messages = h .holds .messages; plays = marked (h .holds .plays) } = cond-false _ _ e ∙ cond-true _ _ d in
         λ i. record { holds = c i; reached = cond (eqb (n i) 0) (at (h .holds .plays .position)) (h .reached) }
 
     play-cycle : h .holds .plays .ended ≡ false → endsBy (dueOf (h .holds)) (h .holds .plays) ≡ false
-        → withCycle w (settings ceiling) k h
+        → withCycle w (settings ceiling chosen) k h
         ≡ record {
-          holds = record { waits = laterThan (h .holds .plays .position) (h .holds .waits); plays = played w s (dueOf (h .holds)) (h .holds .plays) };
+          holds = record { waits = laterThan (h .holds .plays .position) (h .holds .waits); messages = []; plays = played w s (dueOf (h .holds)) (h .holds .plays) };
           reached = at (h .holds .plays .position);
         }
     unfolding cycled answerOf
     play-cycle e d =
         let n : answerOf (h .holds) ≡ 0 = cond-false _ _ e ∙ cond-false _ _ d in
-        let c : cycled w s (h .holds) ≡ record { waits = laterThan (h .holds .plays .position) (h .holds .waits); plays = played w s (dueOf (h .holds)) (h .holds .plays) } =
+        let c : cycled w s (h .holds) ≡ record { waits = laterThan (h .holds .plays .position) (h .holds .waits); messages = []; plays = played w s (dueOf (h .holds)) (h .holds .plays) } =
         cond-false _ _ e ∙ cond-false _ _ d in
         λ i. record { holds = c i; reached = cond (eqb (n i) 0) (at (h .holds .plays .position)) (h .reached) }
 
@@ -148,32 +194,32 @@ module _ (program : Program) (ceiling : ℕ) (is : List Instrument) (r : StandsF
   -- ---- the panel's cycle
 
   module _ (p : Panel) (k : Kept p) where
-    abbrev due : List Line
+    abbrev due : Due
     due = dueOf (holdsOf p)
 
-    block-is : blockOf (voicesOf (p .program)) (settingsOf (p .ceiling)) due (holdsOf p .plays) ≡ blockOf w s due (holdsOf p .plays)
+    block-is : blockOf (voicesOf (p .program)) (settingsIn p) due (holdsOf p .plays) ≡ blockOf w s due (holdsOf p .plays)
     block-is =
-        (λ i. blockOf (voicesOf (k .has i)) (settingsOf (k .locked i)) due (holdsOf p .plays))
+        (λ i. blockOf (voicesOf (k .has i)) (settingsOf (k .locked i) (k .choice i)) due (holdsOf p .plays))
         ∙ block-same Sixteen same s due (holdsOf p .plays) (k .good)
 
     module _ (d : endsBy due (holdsOf p .plays) ≡ false) where
       near : holdsOf p .plays .position ≤ farthest
       near = within-limit due (holdsOf p .plays) d
 
-      plays-is : capped (played (voicesOf (p .program)) (settingsOf (p .ceiling)) due (holdsOf p .plays)) ≡ played w s due (holdsOf p .plays)
+      plays-is : capped (played (voicesOf (p .program)) (settingsIn p) due (holdsOf p .plays)) ≡ played w s due (holdsOf p .plays)
       plays-is =
-          (λ i. capped (played (voicesOf (k .has i)) (settingsOf (k .locked i)) due (holdsOf p .plays)))
-          ∙ cap-none (voicesOf program) s (holdsOf p) (few p k) (k .slow) near
+          (λ i. capped (played (voicesOf (k .has i)) (settingsOf (k .locked i) (k .choice i)) due (holdsOf p .plays)))
+          ∙ cap-none (voicesOf program) s (holdsOf p) (few p k) (brief p k) (k .slow) near
           ∙ played-same Sixteen same s due (holdsOf p .plays) (k .good)
 
       own-played : own (playedOf p)
           ≡ record {
-            holds = record { waits = laterThan (holdsOf p .plays .position) (holdsOf p .waits); plays = played w s due (holdsOf p .plays) };
+            holds = record { waits = laterThan (holdsOf p .plays .position) (holdsOf p .waits); messages = []; plays = played w s due (holdsOf p .plays) };
             reached = at (holdsOf p .plays .position);
           }
       own-played =
           λ i. record {
-            holds = (holds-played p ∙ (λ j. record { waits = laterThan (holdsOf p .plays .position) (holdsOf p .waits); plays = plays-is j })) i;
+            holds = (holds-played p ∙ (λ j. record { waits = laterThan (holdsOf p .plays .position) (holdsOf p .waits); messages = []; plays = plays-is j })) i;
             reached = reached-played p i;
           }
 
@@ -185,44 +231,57 @@ module _ (program : Program) (ceiling : ℕ) (is : List Instrument) (r : StandsF
       unfolding playedOf
       played-locked = refl
 
+      played-choice : playedOf p .chosen ≡ p .chosen
+      unfolding playedOf
+      played-choice = refl
+
+      played-listed : length (playedOf p .state .messages .list) ≡ length (p .state .messages .list)
+      unfolding playedOf turn.playedOf
+      played-listed = refl
+
       kept-played : Kept (playedOf p)
       kept-played =
           let e = ap (λ (h : History Held). h .holds) own-played in
           record {
             has = played-has ∙ k .has;
             locked = played-locked ∙ k .locked;
+            choice = played-choice ∙ k .choice;
             long = played-long p (k .long);
-            slow = subst⁻¹ Slow e (slow-played w s (holdsOf p) (few p k) (k .slow) near);
+            listed = played-listed ∙ k .listed;
+            slow = subst⁻¹ Slow e (slow-played w s (holdsOf p) (few p k) (brief p k) (k .slow) near);
             good = subst⁻¹ (λ (h : Holds Held). Notes Sixteen (h .plays .notes)) e (played-good Sixteen same s due (holdsOf p .plays) (k .good));
           }
 
-    own-ended : own (endedOf p) ≡ record { holds = record { waits = holdsOf p .waits; plays = marked (holdsOf p .plays) }; reached = reachedOf p }
+    own-ended : own (endedOf p) ≡ record { holds = record { waits = holdsOf p .waits; messages = holdsOf p .messages; plays = marked (holdsOf p .plays) }; reached = reachedOf p }
     own-ended = λ i. record { holds = holds-ended p i; reached = reached-ended p i }
 
     kept-ended : Kept (endedOf p)
     unfolding endedOf turn.stopped
-    kept-ended = record { has = k .has; locked = k .locked; long = k .long; slow = record { few = k .slow .few; lines = k .slow .lines; tempo = k .slow .tempo }; good = k .good }
+    kept-ended = record { has = k .has; locked = k .locked; choice = k .choice; long = k .long; listed = k .listed; slow = record { few = k .slow .few; lines = k .slow .lines; tempo = k .slow .tempo }; good = k .good }
 
   -- ---- one call
 
   module _ (n : ℕ) (z : Last) (p : Panel) where
     record Step (c : Call) : Type 0 where
       kept : Kept (afterOf p c .player)
-      next : own (afterOf p c .player) ≡ withMoment w (settings ceiling) (own p) (momentOf panel n z p c)
+      next : own (afterOf p c .player) ≡ withMoment w (settings ceiling chosen) (own p) (momentOf panel n z p c)
       answer : numbered c ≡ true → afterOf p c .answers ≡ one (answerOf (holdsOf p)) 0
       block : isZero (afterOf p c .answers) ≡ true → numbered c ≡ true → afterOf p c .block ≡ blockOf w s (dueOf (holdsOf p)) (holdsOf p .plays)
       over : holdsOf p .plays .ended ≡ true → takenOf (linesOf c) (afterOf p c .answers) ≡ []
 
     module _ (k : Kept p) where
+      -- what the history says of a call with these answers
+      abbrev told : Call → List Answer → History Held
+      told c given = with (takenOf (linesOf c) given) (cond (isZero given) (messagesIn c) []) p
+
       door-step : (d : Door) (handed : List ℕ) → Step (bring d handed)
       door-step d handed = go (brings p d handed)
         where
-          -- the history with the lines that answers say
-          told : List Answer → History Held
-          told given = record { holds = behind (takenOf (linesOf (bring d handed)) given) (holdsOf p); reached = reachedOf p }
+          c : Call
+          c = bring d handed
 
-          untaken : (n l : ℕ) → eqb n 0 ≡ false → takenOf (linesOf (bring d handed)) (one n l) ≡ []
-          untaken n l e = ap (λ (x : List Line). x ++ []) (cond-false _ _ e)
+          no-more : (n l : ℕ) → eqb n 0 ≡ false → takenOf (linesOf (bring d handed)) (one n l) ≡ []
+          no-more n l e = ap (λ (x : List Line). x ++ []) (cond-false _ _ e)
 
           go : Brings p (reads d handed .lines) (afterOf p (bring d handed)) → Step (bring d handed)
           go (takes l q e f x) =
@@ -231,8 +290,8 @@ module _ (program : Program) (ceiling : ℕ) (is : List Instrument) (r : StandsF
                 kept = subst⁻¹ (λ (a : After Panel). Kept (a .player)) x (kept-takes p (reads d handed .lines) q b (reads-steady d handed) k);
                 next =
                     ap (λ (a : After Panel). own (a .player)) x ∙ own-takes p (reads d handed .lines) q b
-                    ∙ ap (λ (xs : List Line). record { holds = behind xs (holdsOf p); reached = reachedOf p }) (sym (append-nil (reads d handed .lines)))
-                    ∙ ap (λ (a : After Panel). told (a .answers)) (sym x);
+                    ∙ ap (λ (xs : List Line). with xs [] p) (sym (append-nil (reads d handed .lines)))
+                    ∙ ap (λ (a : After Panel). told (bring d handed) (a .answers)) (sym x);
                 answer = λ u. absurd (differ′ u);
                 block = λ u. λ t. absurd (differ′ t);
                 over = λ u. absurd (differ (sym u ∙ e));
@@ -242,20 +301,57 @@ module _ (program : Program) (ceiling : ℕ) (is : List Instrument) (r : StandsF
                 kept = subst⁻¹ (λ (a : After Panel). Kept (a .player)) x k;
                 next =
                     ap (λ (a : After Panel). own (a .player)) x ∙ own-none p
-                    ∙ ap (λ (xs : List Line). record { holds = behind xs (holdsOf p); reached = reachedOf p }) (sym (untaken n l e))
-                    ∙ ap (λ (a : After Panel). told (a .answers)) (sym x);
+                    ∙ (λ i. with (cond (sym e i) (reads d handed .lines) [] ++ []) (cond (sym e i) [] []) p)
+                    ∙ ap (λ (a : After Panel). told (bring d handed) (a .answers)) (sym x);
                 answer = λ u. absurd (differ′ u);
                 block = λ u. λ t. absurd (differ′ t);
-                over = λ u. ap (λ (a : After Panel). takenOf (linesOf (bring d handed)) (a .answers)) x ∙ untaken n l e;
+                over = λ u. ap (λ (a : After Panel). takenOf (linesOf (bring d handed)) (a .answers)) x ∙ no-more n l e;
               }
 
-      no-line : (b : List ℤ) (given : List Answer) → takenOf (linesOf (cycle b)) given ≡ []
-      no-line b [] = refl
-      no-line b (a ∷ given) = go (eqb (a .number) 0)
+      -- a call that holds no line
+      no-line : (given : List Answer) → takenOf ([] ∷ []) given ≡ []
+      no-line [] = refl
+      no-line (a ∷ given) = go (eqb (a .number) 0)
         where
           go : (x : Bool) → cond {A = List Line} x [] [] ++ [] ≡ []
           go true = refl
           go false = refl
+
+      keyboard-step : (bytes : List ℕ) → Step (keyboard bytes)
+      keyboard-step bytes = go (presses p bytes)
+        where
+          refused : (n : ℕ) → eqb n 0 ≡ false → afterOf p (keyboard bytes) ≡ record { player = p; answers = one n 0; block = [] } → Step (keyboard bytes)
+          refused n e x =
+              record {
+                kept = subst⁻¹ (λ (a : After Panel). Kept (a .player)) x k;
+                next =
+                    ap (λ (a : After Panel). own (a .player)) x ∙ own-none p
+                    ∙ (λ i. with (sym (no-line (one n 0)) i) (cond (sym e i) (wholeMessages (callOf bytes)) []) p)
+                    ∙ ap (λ (a : After Panel). told (keyboard bytes) (a .answers)) (sym x);
+                answer = λ u. absurd (differ′ u);
+                block = λ u. λ t. absurd (differ′ t);
+                over = λ u. no-line (afterOf p (keyboard bytes) .answers);
+              }
+
+          go : Presses p bytes (afterOf p (keyboard bytes)) → Step (keyboard bytes)
+          go (keys-over e x) = refused 9 refl x
+          go (keys-faulty f e q z x) = refused (numberOf f) z x
+          go (keys-full ms e q l x) = refused 8 refl x
+          go (keys-taken ms e q l x) =
+              record {
+                kept = subst⁻¹ (λ (a : After Panel). Kept (a .player)) x (kept-presses p ms l k);
+                next =
+                    ap (λ (a : After Panel). own (a .player)) x ∙ own-presses p ms
+                    ∙ ap (λ (y : midi.Call). with [] (wholeMessages y) p) (sym q)
+                    ∙ ap (λ (a : After Panel). told (keyboard bytes) (a .answers)) (sym x);
+                answer = λ u. absurd (differ′ u);
+                block = λ u. λ t. absurd (differ′ t);
+                over = λ u. absurd (differ (sym u ∙ e));
+              }
+
+      no-message : (b : Bool) → cond {A = List Message} b [] [] ≡ []
+      no-message true = refl
+      no-message false = refl
 
       -- nine is not zero
       unsounded : (b : List ℤ) (m : ℕ) → eqb m 0 ≡ false → afterOf p (cycle b) .answers ≡ one m 0 → isZero (afterOf p (cycle b) .answers) ≡ true → ⊥
@@ -270,11 +366,11 @@ module _ (program : Program) (ceiling : ℕ) (is : List Instrument) (r : StandsF
                 kept = subst⁻¹ (λ (a : After Panel). Kept (a .player)) x k;
                 next =
                     ap (λ (a : After Panel). own (a .player)) x ∙ own-none p
-                    ∙ ap (λ (xs : List Line). record { holds = behind xs (holdsOf p); reached = reachedOf p }) (sym (no-line b (afterOf p (cycle b) .answers)))
+                    ∙ (λ i. with (sym (no-line (afterOf p (cycle b) .answers)) i) (sym (no-message (isZero (afterOf p (cycle b) .answers))) i) p)
                     ∙ sym (cond-false _ _ u);
                 answer = λ t. absurd (differ (sym t ∙ u));
                 block = λ t. λ y. absurd (differ (sym y ∙ u));
-                over = λ t. no-line b (afterOf p (cycle b) .answers);
+                over = λ t. no-line (afterOf p (cycle b) .answers);
               }
           go (over-before u e x) =
               record {
@@ -282,7 +378,7 @@ module _ (program : Program) (ceiling : ℕ) (is : List Instrument) (r : StandsF
                 next = ap (λ (a : After Panel). own (a .player)) x ∙ sym (over-cycle n (own p) e) ∙ sym (cond-true _ _ u);
                 answer = λ t. ap (λ (a : After Panel). a .answers) x ∙ ap (λ (m : ℕ). one m 0) (sym (nine n (own p) e));
                 block = λ t. absurd (unsounded b 9 refl (ap (λ (a : After Panel). a .answers) x) t);
-                over = λ t. no-line b (afterOf p (cycle b) .answers);
+                over = λ t. no-line (afterOf p (cycle b) .answers);
               }
           go (ends u e d x) =
               record {
@@ -290,7 +386,7 @@ module _ (program : Program) (ceiling : ℕ) (is : List Instrument) (r : StandsF
                 next = ap (λ (a : After Panel). own (a .player)) x ∙ own-ended p k ∙ sym (end-cycle n (own p) e d) ∙ sym (cond-true _ _ u);
                 answer = λ t. ap (λ (a : After Panel). a .answers) x ∙ ap (λ (m : ℕ). one m 0) (sym (nine-found n (own p) e d));
                 block = λ t. absurd (unsounded b 9 refl (ap (λ (a : After Panel). a .answers) x) t);
-                over = λ t. no-line b (afterOf p (cycle b) .answers);
+                over = λ t. no-line (afterOf p (cycle b) .answers);
               }
           go (plays u e d x) =
               record {
@@ -298,11 +394,12 @@ module _ (program : Program) (ceiling : ℕ) (is : List Instrument) (r : StandsF
                 next = ap (λ (a : After Panel). own (a .player)) x ∙ own-played p k d ∙ sym (play-cycle n (own p) e d) ∙ sym (cond-true _ _ u);
                 answer = λ t. ap (λ (a : After Panel). a .answers) x ∙ ap (λ (m : ℕ). one m 0) (sym (zero-found n (own p) e d));
                 block = λ t. λ y. ap (λ (a : After Panel). a .block) x ∙ block-is p k;
-                over = λ t. no-line b (afterOf p (cycle b) .answers);
+                over = λ t. no-line (afterOf p (cycle b) .answers);
               }
 
       step : (c : Call) → Step c
       step (bring d handed) = door-step d handed
+      step (keyboard bytes) = keyboard-step bytes
       step (cycle b) = cycle-step b
 
   -- ---- every list of calls
@@ -313,16 +410,16 @@ module _ (program : Program) (ceiling : ℕ) (is : List Instrument) (r : StandsF
   kept-all (c ∷ cs) p k = kept-all cs (afterOf p c .player) (step 0 none p k c .kept)
 
   pub own-all : (cs : List Call) (n : ℕ) (z : Last) (p : Panel) → Kept p
-      → own (afterAll panel p cs) ≡ historyFrom w (settings ceiling) (own p) (traceFrom panel n z p cs)
+      → own (afterAll panel p cs) ≡ historyFrom w (settings ceiling chosen) (own p) (traceFrom panel n z p cs)
   unfolding afterAll historyFrom traceFrom
   own-all [] n z p k = refl
   own-all (c ∷ cs) n z p k =
       let m = momentOf panel n z p c in
       let x = step n z p k c in
       own-all cs (cyclesWith m) (lastWith m) (afterOf p c .player) (x .kept)
-      ∙ ap (λ (h : History Held). historyFrom w (settings ceiling) h (traceFrom panel (cyclesWith m) (lastWith m) (afterOf p c .player) cs)) (x .next)
+      ∙ ap (λ (h : History Held). historyFrom w (settings ceiling chosen) h (traceFrom panel (cyclesWith m) (lastWith m) (afterOf p c .player) cs)) (x .next)
 
-  follows : (cs : List Call) (n : ℕ) (z : Last) (p : Panel) → Kept p → AllFollow panel w (settings ceiling) (own p) (traceFrom panel n z p cs)
+  follows : (cs : List Call) (n : ℕ) (z : Last) (p : Panel) → Kept p → AllFollow panel w (settings ceiling chosen) (own p) (traceFrom panel n z p cs)
   unfolding traceFrom
   follows [] n z p k = tt
   follows (c ∷ cs) n z p k =
@@ -334,7 +431,7 @@ module _ (program : Program) (ceiling : ℕ) (is : List Instrument) (r : StandsF
           counts = ap (λ (h : History Held). h .holds .plays .counts) (x .next);
           over = x .over;
         },
-        subst (λ (h : History Held). AllFollow panel w (settings ceiling) h (traceFrom panel (cyclesWith m) (lastWith m) (afterOf p c .player) cs)) (x .next)
+        subst (λ (h : History Held). AllFollow panel w (settings ceiling chosen) h (traceFrom panel (cyclesWith m) (lastWith m) (afterOf p c .player) cs)) (x .next)
             (follows cs (cyclesWith m) (lastWith m) (afterOf p c .player) (x .kept)),
       )
 
@@ -350,83 +447,91 @@ module _ (program : Program) (ceiling : ℕ) (is : List Instrument) (r : StandsF
       is-numbered (plays u e d x) = u
 
   module _ (low : 1 ≤ ceiling) (high : ceiling ≤ 32767) where
-    -- a door has no block
+    -- a door has no block, nor has the keyboard
     no-block : (p : Panel) (d : Door) (handed : List ℕ) → All (Within ceiling) (afterOf p (bring d handed) .block)
     unfolding afterOf
     no-block p d handed = tt
 
+    no-key-block : (p : Panel) (bytes : List ℕ) → All (Within ceiling) (afterOf p (keyboard bytes) .block)
+    unfolding afterOf
+    no-key-block p bytes = tt
+
     within : (p : Panel) → Kept p → (c : Call) → isZero (afterOf p c .answers) ≡ true → All (Within ceiling) (afterOf p c .block)
     within p k (bring d handed) t = no-block p d handed
+    within p k (keyboard bytes) t = no-key-block p bytes
     within p k (cycle b) t = subst⁻¹ (All (Within ceiling)) (sounded p k b t) (block-within w s low high (dueOf (holdsOf p)) (holdsOf p .plays))
 
-    all-within : (cs : List Call) (n : ℕ) (z : Last) (p : Panel) → Kept p → All (WithinCeiling (settings ceiling)) (traceFrom panel n z p cs)
+    all-within : (cs : List Call) (n : ℕ) (z : Last) (p : Panel) → Kept p → All (WithinCeiling (settings ceiling chosen)) (traceFrom panel n z p cs)
     unfolding traceFrom
     all-within [] n z p k = tt
     all-within (c ∷ cs) n z p k = ((λ t. within p k c t), all-within cs _ _ (afterOf p c .player) (step n z p k c .kept))
 
 -- ---- a fresh panel
 
-module _ (orchestra : List ℕ) (is : List Instrument) (ceiling : ℕ) (g : Given orchestra is ceiling) where
+module _ (orchestra : List ℕ) (is : List Instrument) (ceiling chosen : ℕ) (g : Given orchestra is ceiling chosen) where
   abbrev program : Program
   program = loadOf orchestra .program
 
   pub stands : StandsFor is program
   stands = loaded orchestra is (g .accepted) .stands
 
-  fresh-is : fresh orchestra ceiling ≡ startOf program ceiling false
+  fresh-is : fresh orchestra ceiling chosen ≡ startOf program ceiling chosen false
   unfolding freshOf
   fresh-is =
       ap (λ (x : Fresh). x .panel)
       (cond-true _ _ (ap (λ (t : Bool). t && leb ceiling 32767) (le-leb 1 ceiling (g .low)) ∙ le-leb ceiling 32767 (g .high))
-      ∙ cond-true _ _ (ap isTaken (loaded orchestra is (g .accepted) .taken)))
+      ∙ cond-true _ _ (ap isTaken (loaded orchestra is (g .accepted) .taken))
+      ∙ cond-true _ _ (chosen-there is program stands chosen (g .there)))
 
-  start-own : own (startOf program ceiling false) ≡ unbegun (settingsOf ceiling)
-  unfolding startOf plainStart each
+  start-own : own (startOf program ceiling chosen false) ≡ unbegun (settingsOf ceiling chosen)
+  unfolding startOf plainStart each noMessages
   start-own = refl
 
-  start-kept : Kept program ceiling is stands (startOf program ceiling false)
-  unfolding startOf each
+  start-kept : Kept program ceiling chosen is stands (startOf program ceiling chosen false)
+  unfolding startOf each noMessages
   start-kept =
       record {
         has = refl;
         locked = refl;
+        choice = refl;
         long = length-replicate 64 emptyLine;
+        listed = length-replicate 64 blank;
         slow = record { few = omega arith; lines = tt; tempo = starting };
         good = tt;
       }
 
-  pub fresh-kept : Kept program ceiling is stands (fresh orchestra ceiling)
-  fresh-kept = subst⁻¹ (Kept program ceiling is stands) fresh-is start-kept
+  pub fresh-kept : Kept program ceiling chosen is stands (fresh orchestra ceiling chosen)
+  fresh-kept = subst⁻¹ (Kept program ceiling chosen is stands) fresh-is start-kept
 
-  fresh-own : own (fresh orchestra ceiling) ≡ unbegun (settingsOf ceiling)
+  fresh-own : own (fresh orchestra ceiling chosen) ≡ unbegun (settingsOf ceiling chosen)
   fresh-own = ap own fresh-is ∙ start-own
 
-  pub kept-after : (cs : List Call) → Kept program ceiling is stands (panelAfter orchestra is ceiling cs)
-  kept-after cs = kept-all program ceiling is stands cs (fresh orchestra ceiling) fresh-kept
+  pub kept-after : (cs : List Call) → Kept program ceiling chosen is stands (panelAfter orchestra is ceiling chosen cs)
+  kept-after cs = kept-all program ceiling chosen is stands cs (fresh orchestra ceiling chosen) fresh-kept
 
-  pub past-is : (cs : List Call) → own (panelAfter orchestra is ceiling cs) ≡ past orchestra is ceiling cs
+  pub past-is : (cs : List Call) → own (panelAfter orchestra is ceiling chosen cs) ≡ past orchestra is ceiling chosen cs
   past-is cs =
-      own-all program ceiling is stands cs 0 none (fresh orchestra ceiling) fresh-kept
-      ∙ ap (λ (x : History Held). historyFrom (treeVoices is) (settings ceiling) x (trace panel (fresh orchestra ceiling) cs)) fresh-own
+      own-all program ceiling chosen is stands cs 0 none (fresh orchestra ceiling chosen) fresh-kept
+      ∙ ap (λ (x : History Held). historyFrom (treeVoices is) (settings ceiling chosen) x (trace panel (fresh orchestra ceiling chosen) cs)) fresh-own
 
-  follows-past : (cs : List Call) → AllFollow panel (treeVoices is) (settings ceiling) (unbegun (settingsOf ceiling)) (trace panel (fresh orchestra ceiling) cs)
+  follows-past : (cs : List Call) → AllFollow panel (treeVoices is) (settings ceiling chosen) (unbegun (settingsOf ceiling chosen)) (trace panel (fresh orchestra ceiling chosen) cs)
   follows-past cs =
-      subst (λ (h : History Held). AllFollow panel (treeVoices is) (settings ceiling) h (trace panel (fresh orchestra ceiling) cs)) fresh-own
-      (follows program ceiling is stands cs 0 none (fresh orchestra ceiling) fresh-kept)
+      subst (λ (h : History Held). AllFollow panel (treeVoices is) (settings ceiling chosen) h (trace panel (fresh orchestra ceiling chosen) cs)) fresh-own
+      (follows program ceiling chosen is stands cs 0 none (fresh orchestra ceiling chosen) fresh-kept)
 
 -- what a cycle leaves, and condition 3, with the notes' values by place
-pub block-by-place : (orchestra : List ℕ) (is : List Instrument) (ceiling : ℕ) → Given orchestra is ceiling → (cs : List Call) (lent : List ℤ)
-    → isZero (afterOf (panelAfter orchestra is ceiling cs) (cycle lent) .answers) ≡ true
-    → afterOf (panelAfter orchestra is ceiling cs) (cycle lent) .block
-    ≡ nextBlock (treeVoices is) (settings ceiling) (settingsOf ceiling) (trace panel (fresh orchestra ceiling) cs)
-block-by-place orchestra is ceiling g cs lent t =
-    sounded (loadOf orchestra .program) ceiling is (stands orchestra is ceiling g) (panelAfter orchestra is ceiling cs) (kept-after orchestra is ceiling g cs) lent t
-    ∙ ap (λ (h : History Held). blockOf (treeVoices is) (settingsOf ceiling) (dueOf (h .holds)) (h .holds .plays)) (past-is orchestra is ceiling g cs)
+pub block-by-place : (orchestra : List ℕ) (is : List Instrument) (ceiling chosen : ℕ) → Given orchestra is ceiling chosen → (cs : List Call) (lent : List ℤ)
+    → isZero (afterOf (panelAfter orchestra is ceiling chosen cs) (cycle lent) .answers) ≡ true
+    → afterOf (panelAfter orchestra is ceiling chosen cs) (cycle lent) .block
+    ≡ nextBlock (treeVoices is) (settings ceiling chosen) (settingsOf ceiling chosen) (trace panel (fresh orchestra ceiling chosen) cs)
+block-by-place orchestra is ceiling chosen g cs lent t =
+    sounded (loadOf orchestra .program) ceiling chosen is (stands orchestra is ceiling chosen g) (panelAfter orchestra is ceiling chosen cs) (kept-after orchestra is ceiling chosen g cs) lent t
+    ∙ ap (λ (h : History Held). blockOf (treeVoices is) (settingsOf ceiling chosen) (dueOf (h .holds)) (h .holds .plays)) (past-is orchestra is ceiling chosen g cs)
 
-pub by-place : (orchestra : List ℕ) (is : List Instrument) (ceiling : ℕ) → Given orchestra is ceiling → PlainAlike panel (treeVoices is) (settings ceiling) (fresh orchestra ceiling)
-by-place orchestra is ceiling g = plain-alike panel (treeVoices is) (settings ceiling) (fresh orchestra ceiling) (follows-past orchestra is ceiling g)
+pub by-place : (orchestra : List ℕ) (is : List Instrument) (ceiling chosen : ℕ) → Given orchestra is ceiling chosen → PlainAlike panel (treeVoices is) (settings ceiling chosen) (fresh orchestra ceiling chosen)
+by-place orchestra is ceiling chosen g = plain-alike panel (treeVoices is) (settings ceiling chosen) (fresh orchestra ceiling chosen) (follows-past orchestra is ceiling chosen g)
 
 pub ceiling-binds : CeilingBinds
 unfolding CeilingBinds
-ceiling-binds orchestra is ceiling g cs =
-    all-within (loadOf orchestra .program) ceiling is (stands orchestra is ceiling g) (g .low) (g .high) cs 0 none (fresh orchestra ceiling) (fresh-kept orchestra is ceiling g)
+ceiling-binds orchestra is ceiling chosen g cs =
+    all-within (loadOf orchestra .program) ceiling chosen is (stands orchestra is ceiling chosen g) (g .low) (g .high) cs 0 none (fresh orchestra ceiling chosen) (fresh-kept orchestra is ceiling chosen g)

@@ -19,7 +19,7 @@ use Rattle.written_voices.proofs.Written.{every-piece, every-past}
 use Rattle.sounding.specs.Voices.{Held}
 use Rattle.players.specs.Lists.{All}
 use Rattle.players.specs.Holds.{Settings, settingsOf}
-use Rattle.players.specs.Calls.{Door, reads, Call, bring, cycle, Answer, one, linesOf, takenOf, Last, none, latest, Moment, takenIn, cyclesWith, lastWith, momentOf, traceFrom, trace, allTaken, afterAll}
+use Rattle.players.specs.Calls.{Door, reads, Call, bring, keyboard, cycle, Answer, one, linesOf, takenOf, Last, none, latest, Moment, takenIn, cyclesWith, lastWith, momentOf, traceFrom, trace, allTaken, afterAll}
 use Rattle.players.specs.Condition3.{above, inTime, InTime, AsPlain, PlainAlike}
 use Rattle.players.specs.History.{Reached, History}
 use Rattle.players.proofs.Lists.{cond-true, all-append, all-map}
@@ -95,36 +95,37 @@ module _ (is : List Instrument) where
       let x = decided is (own p) (bring d handed) in
       subst⁻¹ (λ (a : List Answer). AllTakable (takenOf (linesOf (bring d handed)) a)) (given is p r long (bring d handed) (x .number) (x .line) (x .verdict))
       (door-fits p d handed (x .number) (x .line) (x .verdict))
+  call-fits p r long (keyboard bytes) = none-taken (afterOf p (keyboard bytes) .answers)
   call-fits p r long (cycle b) = none-taken (afterOf p (cycle b) .answers)
 
 -- ---- every list of calls
 
-module _ (orchestra : List ℕ) (is : List Instrument) (ceiling : ℕ) (g : Given orchestra is ceiling) where
-  all-fitting : (cs : List Call) (n : ℕ) (z : Last) (p : Panel) → Kept (loadOf orchestra .program) ceiling is (stands orchestra is ceiling g) p
+module _ (orchestra : List ℕ) (is : List Instrument) (ceiling chosen : ℕ) (g : Given orchestra is ceiling chosen) where
+  all-fitting : (cs : List Call) (n : ℕ) (z : Last) (p : Panel) → Kept (loadOf orchestra .program) ceiling chosen is (stands orchestra is ceiling chosen g) p
       → AllTakable is (allTaken (traceFrom panel n z p cs))
   unfolding traceFrom allTaken afterAll
   all-fitting [] n z p k = tt
   all-fitting (c ∷ cs) n z p k =
       let m = momentOf panel n z p c in
       all-append (λ (l : Line). written.Fits is l (l .event)) (takenIn m) (allTaken (traceFrom panel (cyclesWith m) (lastWith m) (afterOf p c .player) cs))
-      (call-fits is p (subst⁻¹ (StandsFor is) (k .has) (stands orchestra is ceiling g)) (k .long) c)
-      (all-fitting cs (cyclesWith m) (lastWith m) (afterOf p c .player) (kept-all (loadOf orchestra .program) ceiling is (stands orchestra is ceiling g) (c ∷ []) p k))
+      (call-fits is p (subst⁻¹ (StandsFor is) (k .has) (stands orchestra is ceiling chosen g)) (k .long) c)
+      (all-fitting cs (cyclesWith m) (lastWith m) (afterOf p c .player) (kept-all (loadOf orchestra .program) ceiling chosen is (stands orchestra is ceiling chosen g) (c ∷ []) p k))
 
 pub lines-fit : LinesFit
 unfolding LinesFit
-lines-fit orchestra is ceiling g cs = all-fitting orchestra is ceiling g cs 0 none (fresh orchestra ceiling) (fresh-kept orchestra is ceiling g)
+lines-fit orchestra is ceiling chosen g cs = all-fitting orchestra is ceiling chosen g cs 0 none (fresh orchestra ceiling chosen) (fresh-kept orchestra is ceiling chosen g)
 
 -- ---- every cycle of sound
 
 pub cycle-by-tree : CycleByTree
 unfolding CycleByTree LinesFit
-cycle-by-tree orchestra is ceiling g cs =
-    let e = past-is orchestra is ceiling g cs in
-    let ms = trace panel (fresh orchestra ceiling) cs in (
+cycle-by-tree orchestra is ceiling chosen g cs =
+    let e = past-is orchestra is ceiling chosen g cs in
+    let ms = trace panel (fresh orchestra ceiling chosen) cs in (
       record { holds = ap (λ (h : History Held). h .holds) e; reached = ap (λ (h : History Held). h .reached) e },
       λ lent t.
-          block-by-place orchestra is ceiling g cs lent t
-          ∙ every-past Panel is (settings ceiling) (settingsOf ceiling) ms (g .accepted .named) (lines-fit orchestra is ceiling g cs),
+          block-by-place orchestra is ceiling chosen g cs lent t
+          ∙ every-past Panel is (settings ceiling chosen) (settingsOf ceiling chosen) ms (g .accepted .named) (lines-fit orchestra is ceiling chosen g cs),
     )
 
 -- ---- condition 3
@@ -147,10 +148,10 @@ module _ (is : List Instrument) (s : ℕ → Settings) (ls : List Line) (w : (n 
 
 pub condition-3 : Condition3
 unfolding Condition3 PlainAlike LinesFit
-condition-3 orchestra is ceiling g cs i =
-    let ms = trace panel (fresh orchestra ceiling) cs in
+condition-3 orchestra is ceiling chosen g cs away i =
+    let ms = trace panel (fresh orchestra ceiling chosen) cs in
     let ls = allTaken ms in
-    let s = settings ceiling in
-    let w : (n : ℕ) → PlaysAsWritten is s ls n = λ n. every-piece is s ls n (g .accepted .named) (lines-fit orchestra is ceiling g cs) in
+    let s = settings ceiling chosen in
+    let w : (n : ℕ) → PlaysAsWritten is s ls n = λ n. every-piece is s ls n (g .accepted .named) (lines-fit orchestra is ceiling chosen g cs) in
     all-map (AsPlain panel (treeVoices is) s ls) (AsPlain panel (writtenVoices is) s ls) (as-written is s ls w) ms
-    (by-place orchestra is ceiling g cs (all-map (InTime panel (writtenVoices is) s ls) (InTime panel (treeVoices is) s ls) (timely is s ls w) ms i))
+    (by-place orchestra is ceiling chosen g cs away (all-map (InTime panel (writtenVoices is) s ls) (InTime panel (treeVoices is) s ls) (timely is s ls w) ms i))

@@ -16,16 +16,22 @@ use Rattle.voices.specs.Tree.{treeVoices}
 use Rattle.sounding.specs.Voices.{Held}
 use Rattle.written_voices.specs.Voices.{writtenVoices, Fits, nextBlock}
 use Rattle.players.specs.Lists.{All}
+use Rattle.players.specs.Results.{Some}
+use Rattle.messages.specs.Message.{none as noStatus}
+use Rattle.messages.specs.Writing.{whole, Says}
+use Rattle.messages.specs.declared.Message.{Message}
+use Rattle.keyboard.specs.Keyboard.{messagesIn}
+use Rattle.keyboard.specs.declared.Messages.{Messages}
 use Rattle.players.specs.Holds.{Settings, settingsOf, dueOf, endsBy}
 use Rattle.players.specs.Plain.{plainStart}
-use Rattle.players.specs.Calls.{Door, hasTime, reads, Call, bring, cycle, numbered, one, After, Player, isZero, Moment, trace, allTaken, afterAll}
+use Rattle.players.specs.Calls.{Door, hasTime, reads, Call, bring, keyboard, cycle, numbered, one, After, Player, isZero, Moment, trace, allTaken, afterAll}
 use Rattle.players.specs.Condition3.{PlainAlike, WithinCeiling}
 use Rattle.players.specs.History.{Reached, nowhere, at, History, historyOf}
 use Rattle.waiting.specs.Admission.{waitingIn}
 use Rattle.waiting.specs.declared.Queue.{Queue}
 use Rattle.loader_claims.specs.Claims.{StandsFor}
-use Rattle.panel.specs.State.{holdsOf, withQueue, endedOf}
-use Rattle.panel.specs.Calls.{freshOf, bringOf, cycleOf, blockAfter}
+use Rattle.panel.specs.State.{holdsOf, withQueue, withMessages, endedOf}
+use Rattle.panel.specs.Calls.{freshOf, bringOf, playKeysOf, cycleOf, blockAfter}
 use Rattle.panel.specs.declared.Panel.{Panel}
 use Rattle.claims.specs.Verdict.{Verdict}
 use Rattle.claims.specs.Fresh.{First, checks}
@@ -36,6 +42,9 @@ unfoldable pub afterOf : Panel → Call → After Panel
 afterOf p (bring d handed) =
     let r = bringOf p d handed in
     record { player = r .panel; answers = one (numberOf (r .answer)) (r .line); block = [] }
+afterOf p (keyboard bytes) =
+    let r = playKeysOf p bytes in
+    record { player = r .panel; answers = one (numberOf (r .answer)) 0; block = [] }
 afterOf p (cycle b) =
     let r = cycleOf p (length b) in
     record { player = r .panel; answers = one (numberOf (r .answer)) 0; block = blockAfter p b }
@@ -49,33 +58,37 @@ panel = record { after = afterOf; counts = λ (p : Panel). holdsOf p .plays .cou
 
 -- ---- a fresh start
 
--- the panel of an accepted orchestra: nothing waits, nothing plays, no cycle has run, and its program stands for the tree
-pub record Begun (orchestra : List ℕ) (ceiling : ℕ) (p : Panel) : Type 0 where
+-- the panel of an accepted orchestra: nothing waits, nothing plays, no cycle has run, its program stands for the tree, and the chosen
+-- instrument is there
+pub record Begun (orchestra : List ℕ) (ceiling chosen : ℕ) (p : Panel) : Type 0 where
   pub tree : List Instrument
   pub accepted : Accepted orchestra tree
   pub stands : StandsFor tree (p .program)
+  pub there : Some (λ (i : Instrument). i .name ≡ chosen) tree
   pub limit : p .ceiling ≡ ceiling
-  pub holds : holdsOf p ≡ plainStart (settingsOf ceiling) []
+  pub choice : p .chosen ≡ chosen
+  pub holds : holdsOf p ≡ plainStart (settingsOf ceiling chosen) []
   pub reached : reachedOf p ≡ nowhere
 
 -- what a call leaves of a panel that has ended: 9, or 10 for a block of another length, and nothing changes
 abbrev pub endedAfter : Panel → Call → After Panel
 endedAfter p (bring d b) = record { player = p; answers = one 9 0; block = [] }
+endedAfter p (keyboard b) = record { player = p; answers = one 9 0; block = [] }
 endedAfter p (cycle b) = record { player = p; answers = one (cond (numbered (cycle b)) 9 10) 0; block = b }
 
 abbrev pub AsEnded : Moment Panel → Type 0
 AsEnded m = m .after ≡ endedAfter (m .before) (m .call)
 
--- For all bytes and all ceilings: the number is that of the first check that fails, and of no other; 0 comes with a begun panel, and
+-- For all bytes, ceilings and choices: the number is that of the first check that fails, and of no other; 0 comes with a begun panel, and
 -- every other number with a panel on which every list of calls is refused and changes nothing.
-pub record FreshStart (orchestra : List ℕ) (ceiling : ℕ) : Type 1 where
-  pub given : First (checks orchestra ceiling) (numberOf (freshOf orchestra ceiling .answer))
-  pub only : (n : ℕ) → First (checks orchestra ceiling) n → numberOf (freshOf orchestra ceiling .answer) ≡ n
-  pub begun : freshOf orchestra ceiling .answer ≡ Taken → Begun orchestra ceiling (freshOf orchestra ceiling .panel)
-  pub noPanel : (freshOf orchestra ceiling .answer ≡ Taken → ⊥) → (cs : List Call) → All AsEnded (trace panel (freshOf orchestra ceiling .panel) cs)
+pub record FreshStart (orchestra : List ℕ) (ceiling chosen : ℕ) : Type 1 where
+  pub given : First (checks orchestra ceiling chosen) (numberOf (freshOf orchestra ceiling chosen .answer))
+  pub only : (n : ℕ) → First (checks orchestra ceiling chosen) n → numberOf (freshOf orchestra ceiling chosen .answer) ≡ n
+  pub begun : freshOf orchestra ceiling chosen .answer ≡ Taken → Begun orchestra ceiling chosen (freshOf orchestra ceiling chosen .panel)
+  pub noPanel : (freshOf orchestra ceiling chosen .answer ≡ Taken → ⊥) → (cs : List Call) → All AsEnded (trace panel (freshOf orchestra ceiling chosen .panel) cs)
 
 abbrev pub FreshVerdict : Type 1
-FreshVerdict = (orchestra : List ℕ) (ceiling : ℕ) → Bytes orchestra → FreshStart orchestra ceiling
+FreshVerdict = (orchestra : List ℕ) (ceiling chosen : ℕ) → Bytes orchestra → FreshStart orchestra ceiling chosen
 
 -- ---- every call on every panel
 
@@ -92,13 +105,26 @@ TakenCalls =
     (p : Panel) (d : Door) (handed : List ℕ) → length (p .state .queue .lines) ≡ 64 → isZero (afterOf p (bring d handed) .answers) ≡ true
     → Takes p (reads d handed .lines) (afterOf p (bring d handed) .player)
 
+-- what the keyboard leaves that answers 0: the note messages wait behind the others, and nothing else of the panel changes
+pub record TakesKeys (p : Panel) (ms : List Message) (p′ : Panel) : Type 0 where
+  pub messages : Messages
+  pub left : p′ ≡ withMessages p messages
+  pub waits : messagesIn messages ≡ messagesIn (p .state .messages) ++ ms
+
+unfoldable pub TakenKeys : Type 0
+TakenKeys =
+    (p : Panel) (bytes : List ℕ) (ms : List Message) → Says noStatus bytes (whole ms) → isZero (afterOf p (keyboard bytes) .answers) ≡ true
+    → TakesKeys p ms (afterOf p (keyboard bytes) .player)
+
 -- a cycle call that finds the end
 abbrev pub findsEnd : Panel → Call → Bool
 findsEnd p (bring d handed) = false
+findsEnd p (keyboard bytes) = false
 findsEnd p (cycle b) = numbered (cycle b) && not (p .state .playing .ended) && endsBy (dueOf (holdsOf p)) (holdsOf p .plays)
 
 abbrev pub blockIn : Call → List ℤ
 blockIn (bring d handed) = []
+blockIn (keyboard bytes) = []
 blockIn (cycle b) = b
 
 -- Condition 1: a refusal changes neither the panel nor a lent block, save that the cycle call that finds the end marks it.
@@ -118,26 +144,27 @@ DoorsAlike =
 
 -- ---- every list of calls on a fresh panel
 
--- an accepted orchestra, as this tree, and a lawful ceiling
-pub record Given (orchestra : List ℕ) (is : List Instrument) (ceiling : ℕ) : Type 0 where
+-- an accepted orchestra, as this tree, a lawful ceiling, and a chosen instrument that is there
+pub record Given (orchestra : List ℕ) (is : List Instrument) (ceiling chosen : ℕ) : Type 0 where
   pub accepted : Accepted orchestra is
   pub low : 1 ≤ ceiling
   pub high : ceiling ≤ 32767
+  pub there : Some (λ (i : Instrument). i .name ≡ chosen) is
 
-abbrev pub fresh : List ℕ → ℕ → Panel
-fresh orchestra ceiling = freshOf orchestra ceiling .panel
+abbrev pub fresh : List ℕ → ℕ → ℕ → Panel
+fresh orchestra ceiling chosen = freshOf orchestra ceiling chosen .panel
 
 -- the settings of each cycle: constant until they can be changed
-abbrev pub settings : ℕ → ℕ → Settings
-settings ceiling k = settingsOf ceiling
+abbrev pub settings : ℕ → ℕ → ℕ → Settings
+settings ceiling chosen k = settingsOf ceiling chosen
 
-module _ (orchestra : List ℕ) (is : List Instrument) (ceiling : ℕ) where
+module _ (orchestra : List ℕ) (is : List Instrument) (ceiling chosen : ℕ) where
   -- what a list of calls leaves by its history, and the panel after it
   abbrev pub past : List Call → History Held
-  past cs = historyOf (treeVoices is) (settings ceiling) (trace panel (fresh orchestra ceiling) cs)
+  past cs = historyOf (treeVoices is) (settings ceiling chosen) (trace panel (fresh orchestra ceiling chosen) cs)
 
   abbrev pub panelAfter : List Call → Panel
-  panelAfter cs = afterAll panel (fresh orchestra ceiling) cs
+  panelAfter cs = afterAll panel (fresh orchestra ceiling chosen) cs
 
   -- Condition 2, every cycle of sound: whatever was handed in, timed or not, late or not, the panel holds what its history says,
   pub record HoldsPast (cs : List Call) : Type 0 where
@@ -149,7 +176,7 @@ module _ (orchestra : List ℕ) (is : List Instrument) (ceiling : ℕ) where
   BlockByPast cs lent =
       isZero (afterOf (panelAfter cs) (cycle lent) .answers) ≡ true
       → afterOf (panelAfter cs) (cycle lent) .block
-      ≡ nextBlock (writtenVoices is) (settings ceiling) (settingsOf ceiling) (trace panel (fresh orchestra ceiling) cs)
+      ≡ nextBlock (writtenVoices is) (settings ceiling chosen) (settingsOf ceiling chosen) (trace panel (fresh orchestra ceiling chosen) cs)
 
   -- Each call answers once, with the number that its history gives, and is given each number exactly then.
   pub record Answered (cs : List Call) (c : Call) : Type 0 where
@@ -163,27 +190,27 @@ module _ (orchestra : List ℕ) (is : List Instrument) (ceiling : ℕ) where
 
 unfoldable pub CycleByTree : Type 0
 CycleByTree =
-    (orchestra : List ℕ) (is : List Instrument) (ceiling : ℕ) → Given orchestra is ceiling → (cs : List Call) →
-    HoldsPast orchestra is ceiling cs × ((lent : List ℤ) → BlockByPast orchestra is ceiling cs lent)
+    (orchestra : List ℕ) (is : List Instrument) (ceiling chosen : ℕ) → Given orchestra is ceiling chosen → (cs : List Call) →
+    HoldsPast orchestra is ceiling chosen cs × ((lent : List ℤ) → BlockByPast orchestra is ceiling chosen cs lent)
 
 unfoldable pub CallVerdict : Type 0
 CallVerdict =
-    (orchestra : List ℕ) (is : List Instrument) (ceiling : ℕ) → Given orchestra is ceiling → (cs : List Call) (c : Call) →
-    Answered orchestra is ceiling cs c × VerdictGiven orchestra is ceiling cs c
+    (orchestra : List ℕ) (is : List Instrument) (ceiling chosen : ℕ) → Given orchestra is ceiling chosen → (cs : List Call) (c : Call) →
+    Answered orchestra is ceiling chosen cs c × VerdictGiven orchestra is ceiling chosen cs c
 
 -- Each line taken has no more values than its instrument has fields, and a control line's symbol has 16 bits.
 unfoldable pub LinesFit : Type 0
 LinesFit =
-    (orchestra : List ℕ) (is : List Instrument) (ceiling : ℕ) → Given orchestra is ceiling → (cs : List Call) →
-    All (λ (l : Line). Fits is l (l .event)) (allTaken (trace panel (fresh orchestra ceiling) cs))
+    (orchestra : List ℕ) (is : List Instrument) (ceiling chosen : ℕ) → Given orchestra is ceiling chosen → (cs : List Call) →
+    All (λ (l : Line). Fits is l (l .event)) (allTaken (trace panel (fresh orchestra ceiling chosen) cs))
 
--- Condition 3, first half and second half: the plain player's notes are those of the orchestra as it is written, their values by symbol.
+-- Condition 3, first half, which excludes the keyboard, and second half, which binds it: the plain player's notes are those of the orchestra as it is written, their values by symbol.
 unfoldable pub Condition3 : Type 0
 Condition3 =
-    (orchestra : List ℕ) (is : List Instrument) (ceiling : ℕ) → Given orchestra is ceiling →
-    PlainAlike panel (writtenVoices is) (settings ceiling) (fresh orchestra ceiling)
+    (orchestra : List ℕ) (is : List Instrument) (ceiling chosen : ℕ) → Given orchestra is ceiling chosen →
+    PlainAlike panel (writtenVoices is) (settings ceiling chosen) (fresh orchestra ceiling chosen)
 
 unfoldable pub CeilingBinds : Type 0
 CeilingBinds =
-    (orchestra : List ℕ) (is : List Instrument) (ceiling : ℕ) → Given orchestra is ceiling → (cs : List Call) →
-    All (WithinCeiling (settings ceiling)) (trace panel (fresh orchestra ceiling) cs)
+    (orchestra : List ℕ) (is : List Instrument) (ceiling chosen : ℕ) → Given orchestra is ceiling chosen → (cs : List Call) →
+    All (WithinCeiling (settings ceiling chosen)) (trace panel (fresh orchestra ceiling chosen) cs)

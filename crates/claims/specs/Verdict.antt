@@ -14,8 +14,12 @@ use Rattle.score_line.specs.declared.Event.{Event}
 use Rattle.score_line.specs.declared.Event.the-variants.{Instr, Control, End, Tempo}
 use Rattle.score_line.specs.declared.Line.{Line}
 use Rattle.syntax.specs.Tree.{Instrument}
+use Rattle.messages.specs.Message.{none as noStatus}
+use Rattle.messages.specs.Writing.{Says}
+use Rattle.messages.specs.Writing as midi
+use Rattle.messages.specs.declared.Message.{Message}
 use Rattle.players.specs.Holds.{dueOf, endsBy}
-use Rattle.players.specs.Calls.{Door, mustBeTimed, hasTime, reads, Call, bring, cycle, numbered}
+use Rattle.players.specs.Calls.{Door, mustBeTimed, hasTime, reads, Call, bring, keyboard, cycle, numbered}
 use Rattle.players.specs.History.{Reached, nowhere, at, History}
 
 -- ---- one line
@@ -38,9 +42,12 @@ tooLate nowhere w = false
 tooLate (at position) (Timed useIfLate t) = leb (ticksIn t) position && not useIfLate
 tooLate (at position) Untimed = false
 
--- the most lines that wait
+-- the most lines that wait, and the most note messages
 abbrev pub mostLines : ℕ
 mostLines = 64
+
+abbrev pub mostMessages : ℕ
+mostMessages = 64
 
 module _ (is : List Instrument) (d : Door) (reached : Reached) where
   -- a line that is taken when so many wait: 6, 4, 7 and 8 do not hold of it
@@ -100,6 +107,18 @@ module _ {S : Type 0} (is : List Instrument) (h : History S) where
       -- 0: every line fits
       taken : (ls : List Line) → IsRead ls → AllFit is d (h .reached) waiting ls → AtDoor 0 0
 
+  -- how many note messages are taken and have not acted
+  abbrev pub waitingMessages : ℕ
+  waitingMessages = length (h .holds .messages)
+
+  -- the answers at the keyboard: 9; the first of 1 and 2 in reading; 8
+  pub data AtKeyboard (bytes : List ℕ) : ℕ → ℕ → Type 0 where
+    keysOver : ended ≡ true → AtKeyboard bytes 9 0
+    keysCut : ended ≡ false → Says noStatus bytes (midi.fault answer.CutShort) → AtKeyboard bytes 1 0
+    keysNotCarried : ended ≡ false → Says noStatus bytes (midi.fault answer.NotCarried) → AtKeyboard bytes 2 0
+    keysFull : (ms : List Message) → ended ≡ false → Says noStatus bytes (midi.whole ms) → mostMessages < waitingMessages + length ms → AtKeyboard bytes 8 0
+    keysTaken : (ms : List Message) → ended ≡ false → Says noStatus bytes (midi.whole ms) → waitingMessages + length ms ≤ mostMessages → AtKeyboard bytes 0 0
+
   -- the answers to a cycle call: 10, then 9, and only step 1 ends a piece
   pub data AtCycle (block : List ℤ) : ℕ → ℕ → Type 0 where
     otherLength : numbered (cycle block) ≡ false → AtCycle block 10 0
@@ -109,4 +128,5 @@ module _ {S : Type 0} (is : List Instrument) (h : History S) where
 
   abbrev pub Verdict : Call → ℕ → ℕ → Type 0
   Verdict (bring d handed) = AtDoor d handed
+  Verdict (keyboard bytes) = AtKeyboard bytes
   Verdict (cycle block) = AtCycle block

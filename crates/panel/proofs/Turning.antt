@@ -8,13 +8,13 @@ use lib.ListN.{length}
 use borrow.Author.Tests.{eq-eqb, ne-eqb}
 use Rattle.answer.specs.Numbers.{isTaken}
 use Rattle.answer.specs.declared.Answer.the-variants.{Taken, Ended, BlockLength}
-use Rattle.players.specs.Holds.{settingsOf, dueOf, bandOf, blockOf}
+use Rattle.players.specs.Holds.{dueOf, bandOf, blockOf}
 use Rattle.players.proofs.Lists.{cond-true, cond-false}
 use Rattle.turning.specs.Turn as turn
 use Rattle.turning.specs.declared.State.{State}
 use Rattle.turning.proofs.Turning.{ended-law, has-stopped, has-played}
 use Rattle.turning.proofs.Samples.{length-mix, whole-block}
-use Rattle.panel.specs.State.{voicesOf, holdsOf, withState, endedOf}
+use Rattle.panel.specs.State.{voicesOf, holdsOf, settingsIn, withState, endedOf}
 use Rattle.panel.specs.Calls.{playedOf, cycleOf, blockAfter}
 use Rattle.panel.specs.declared.Panel.{Panel}
 use Rattle.panel.specs.declared.Cycled.{Cycled}
@@ -28,18 +28,18 @@ module _ (p : Panel) (n : ℕ) where
   unfolding cycleOf
   cycle-ended h e = sym (cond-true _ _ (eq-eqb n 320 h) ∙ cond-true _ _ e)
 
-  module _ (h : n ≡ 320) (e : p .state .playing .ended ≡ false) (s : State) (is : s ≡ turn.turned (voicesOf (p .program)) (settingsOf (p .ceiling)) (p .state)) where
+  module _ (h : n ≡ 320) (e : p .state .playing .ended ≡ false) (s : State) (is : s ≡ turn.turned (voicesOf (p .program)) (settingsIn p) (p .state)) where
     pub cycle-ends : s .playing .ended ≡ true → record { panel = withState p s; answer = Ended } ≡ cycleOf p n
     unfolding cycleOf endedOf
     cycle-ends t =
-        ap (λ (x : State). record { panel = withState p x; answer = Ended }) (has-stopped _ _ _ s is t)
-        ∙ sym (cond-true _ _ (eq-eqb n 320 h) ∙ cond-false _ _ e ∙ cond-true _ _ (ended-law _ _ _ s is ∙ t))
+        ap (λ (x : State). record { panel = withState p x; answer = Ended }) (has-stopped _ _ _ _ s is t)
+        ∙ sym (cond-true _ _ (eq-eqb n 320 h) ∙ cond-false _ _ e ∙ cond-true _ _ (ended-law _ _ _ _ s is ∙ t))
 
     pub cycle-plays : s .playing .ended ≡ false → record { panel = withState p s; answer = Taken } ≡ cycleOf p n
     unfolding cycleOf playedOf
     cycle-plays t =
-        ap (λ (x : State). record { panel = withState p x; answer = Taken }) (has-played _ _ _ s is t)
-        ∙ sym (cond-true _ _ (eq-eqb n 320 h) ∙ cond-false _ _ e ∙ cond-false _ _ (ended-law _ _ _ s is ∙ t))
+        ap (λ (x : State). record { panel = withState p x; answer = Taken }) (has-played _ _ _ _ s is t)
+        ∙ sym (cond-true _ _ (eq-eqb n 320 h) ∙ cond-false _ _ e ∙ cond-false _ _ (ended-law _ _ _ _ s is ∙ t))
 
 -- ---- the lent block
 
@@ -48,15 +48,15 @@ module _ (p : Panel) (lent : List ℤ) (x : Cycled) (q : x ≡ cycleOf p (length
   unfolding blockAfter
   block-stays t = sym (cond-false _ _ (ap (λ (y : Cycled). isTaken (y .answer)) (sym q) ∙ t))
 
-  module _ (s : State) (is : s ≡ turn.turned (voicesOf (p .program)) (settingsOf (p .ceiling)) (p .state))
-      (left : List ℤ) (r : left ≡ turn.blockAfter (voicesOf (p .program)) (settingsOf (p .ceiling)) (p .state) lent) where
+  module _ (s : State) (is : s ≡ turn.turned (voicesOf (p .program)) (settingsIn p) (p .state))
+      (left : List ℤ) (r : left ≡ turn.blockAfter (voicesOf (p .program)) (settingsIn p) (p .state) lent) where
     pub block-ends : s .playing .ended ≡ true → isTaken (x .answer) ≡ false → left ≡ blockAfter p lent
     unfolding turn.blockAfter
-    block-ends d t = r ∙ cond-true _ _ (ended-law _ _ _ s is ∙ d) ∙ block-stays t
+    block-ends d t = r ∙ cond-true _ _ (ended-law _ _ _ _ s is ∙ d) ∙ block-stays t
 
     pub block-plays : s .playing .ended ≡ false → isTaken (x .answer) ≡ true → length lent ≡ 320 → left ≡ blockAfter p lent
     unfolding turn.blockAfter blockAfter blockOf
     block-plays d t h =
-        r ∙ cond-false _ _ (ended-law _ _ _ s is ∙ d)
-        ∙ whole-block (p .ceiling) (bandOf (voicesOf (p .program)) (settingsOf (p .ceiling)) (dueOf (holdsOf p)) (holdsOf p .plays) .mix) lent (length-mix _ _ _ _ _ _ ∙ sym h)
+        r ∙ cond-false _ _ (ended-law _ _ _ _ s is ∙ d)
+        ∙ whole-block (p .ceiling) (bandOf (voicesOf (p .program)) (settingsIn p) (dueOf (holdsOf p)) (holdsOf p .plays) .mix) lent (length-mix _ _ _ _ _ _ ∙ sym h)
         ∙ sym (cond-true _ _ (ap (λ (y : Cycled). isTaken (y .answer)) (sym q) ∙ t))

@@ -7,31 +7,42 @@ use lib.ListN.{length}
 use lib.Dec.{eqb, leb}
 use Rattle.answer.specs.Numbers.{isTaken}
 use Rattle.answer.specs.declared.Answer.{Answer}
-use Rattle.answer.specs.declared.Answer.the-variants.{Taken, OutOfRange, Ended, BlockLength}
+use Rattle.answer.specs.declared.Answer.the-variants.{Taken, OutOfRange, NoInstrument, Ended, BlockLength}
 use Rattle.score.specs.Score.{Score}
 use Rattle.players.specs.Cycle.{samples}
-use Rattle.players.specs.Holds.{settingsOf, dueOf, blockOf}
+use Rattle.players.specs.Holds.{dueOf, blockOf}
 use Rattle.players.specs.Calls.{Door, mustBeTimed, reads}
 use Rattle.turning.specs.Turn as turn
 use Rattle.entrances.specs.Entrances.{broughtIn}
-use Rattle.panel.specs.State.{tableOf, voicesOf, holdsOf, withState, withQueue, endedOf, startOf}
+use Rattle.messages.specs.Reading.{callOf}
+use Rattle.keyboard.specs.Keyboard.{pressedIn}
+use Rattle.sounding.specs.Voices.{foundIn}
+use Rattle.panel.specs.State.{tableOf, voicesOf, holdsOf, settingsIn, withState, withQueue, withMessages, endedOf, startOf}
 use Rattle.panel.specs.declared.Panel.{Panel}
 use Rattle.loader.specs.declared.Program.{Program}
 use Rattle.loader.specs.Loading.{loadOf as loadedFrom}
 use Rattle.panel.specs.declared.Fresh.{Fresh}
 use Rattle.panel.specs.declared.Brought.{Brought}
+use Rattle.panel.specs.declared.Played.{Played}
 use Rattle.panel.specs.declared.Cycled.{Cycled}
 
 -- a refused start: the answer beside a panel that has ended
 unfoldable pub noPanel : Program → Answer → Fresh
-noPanel program a = record { panel = startOf program 1 true; answer = a }
+noPanel program a = record { panel = startOf program 1 0 true; answer = a }
 
--- the ceiling is from 1 to 32,767, another gives 3 before the orchestra is looked at; then the orchestra's answer
-unfoldable pub freshOf : List ℕ → ℕ → Fresh
-freshOf orchestra ceiling =
+-- the chosen instrument is there
+unfoldable pub hasChosen : Program → ℕ → Bool
+hasChosen program chosen = foundIn chosen (tableOf program) .there
+
+-- the ceiling is from 1 to 32,767, another gives 3 before the orchestra is looked at; then the orchestra's answer; then 4 where the chosen
+-- instrument is not there
+unfoldable pub freshOf : List ℕ → ℕ → ℕ → Fresh
+freshOf orchestra ceiling chosen =
     let r = loadedFrom orchestra in
     cond (leb 1 ceiling && leb ceiling 32767)
-    (cond (isTaken (r .answer)) (record { panel = startOf (r .program) ceiling false; answer = r .answer }) (noPanel (r .program) (r .answer)))
+    (cond (isTaken (r .answer))
+    (cond (hasChosen (r .program) chosen) (record { panel = startOf (r .program) ceiling chosen false; answer = r .answer }) (noPanel (r .program) NoInstrument))
+    (noPanel (r .program) (r .answer)))
     (noPanel (loadedFrom [] .program) OutOfRange)
 
 -- ---- a call that brings lines: 9 first
@@ -47,10 +58,18 @@ broughtOf p timed s =
 unfoldable pub bringOf : Panel → Door → List ℕ → Brought
 bringOf p d handed = broughtOf p (mustBeTimed d) (reads d handed)
 
+-- ---- bytes at the keyboard: 9 first
+
+-- their note messages wait behind the others, all of them or none
+unfoldable pub playKeysOf : Panel → List ℕ → Played
+playKeysOf p bytes =
+    let r = pressedIn (p .state .messages) (callOf bytes) in
+    cond (p .state .playing .ended) (record { panel = p; answer = Ended }) (record { panel = withMessages p (r .messages); answer = r .answer })
+
 -- ---- the cycle: 10, then 9, then steps 2 to 8
 
 unfoldable pub playedOf : Panel → Panel
-playedOf p = withState p (turn.playedOf (voicesOf (p .program)) (settingsOf (p .ceiling)) (p .state))
+playedOf p = withState p (turn.playedOf (voicesOf (p .program)) (settingsIn p) (p .state))
 
 unfoldable pub cycleOf : Panel → ℕ → Cycled
 cycleOf p lent =
@@ -64,4 +83,4 @@ cycleOf p lent =
 unfoldable pub blockAfter : Panel → List ℤ → List ℤ
 blockAfter p block =
     cond (isTaken (cycleOf p (length block) .answer))
-    (blockOf (voicesOf (p .program)) (settingsOf (p .ceiling)) (dueOf (holdsOf p)) (holdsOf p .plays)) block
+    (blockOf (voicesOf (p .program)) (settingsIn p) (dueOf (holdsOf p)) (holdsOf p .plays)) block

@@ -4,10 +4,13 @@ use mathlib.Core.List.{List}
 use Prim.Native.Nat.{ℕ}
 use lib.ListN.{take, replicate}
 use lib.Ieee.{binary32, ofBits}
+use Rattle.synth.specs.Notes.{newNote}
 use Rattle.synth.specs.declared.Note.{Note}
 use Rattle.waiting.specs.declared.Queue.{Queue}
 use Rattle.players.specs.Cycle.{Voices}
-use Rattle.players.specs.Holds.{Holds, sixty}
+use Rattle.players.specs.Holds.{Settings, settingsOf, Holds, sixty}
+use Rattle.keyboard.specs.Keyboard.{noMessages}
+use Rattle.keyboard.specs.declared.Messages.{Messages}
 use Rattle.entrances.specs.Entrances.{emptyLine}
 use Rattle.sounding.specs.Voices.{Held, voices}
 use Rattle.sounding.specs.declared.Instrument.{Instrument}
@@ -28,32 +31,42 @@ voicesOf g = voices (tableOf g) (g .code) (g .vals)
 abbrev pub holdsOf : Panel → Holds Held
 holdsOf p = turn.holdsOf (p .state)
 
--- the panel in another state: its ceiling and its program stay
+-- what its fresh start fixed
+abbrev pub settingsIn : Panel → Settings
+settingsIn p = settingsOf (p .ceiling) (p .chosen)
+
+-- the panel in another state: its ceiling, its chosen instrument and its program stay
 abbrev pub withState : Panel → State → Panel
-withState p s = record { state = s; ceiling = p .ceiling; program = p .program }
+withState p s = record { state = s; ceiling = p .ceiling; chosen = p .chosen; program = p .program }
 
 -- the panel with other waiting lines
 unfoldable pub withQueue : Panel → Queue → Panel
-withQueue p q = withState p (record { queue = q; playing = p .state .playing })
+withQueue p q = withState p (record { queue = q; messages = p .state .messages; playing = p .state .playing })
+
+-- the panel with other waiting note messages
+unfoldable pub withMessages : Panel → Messages → Panel
+withMessages p m = withState p (record { queue = p .state .queue; messages = m; playing = p .state .playing })
 
 -- the panel marked as ended
 unfoldable pub endedOf : Panel → Panel
-endedOf p = withState p (record { queue = p .state .queue; playing = turn.stopped (p .state .playing) })
+endedOf p = withState p (record { queue = p .state .queue; messages = p .state .messages; playing = turn.stopped (p .state .playing) })
 
 -- ---- a fresh start
 
 unfoldable pub emptyNote : Note
 emptyNote =
-    record { values = replicate 16 (ofBits binary32 0); labelled = false; label = 0; instrument = 0; endless = false; end = 0 }
+    newNote (replicate 16 (ofBits binary32 0)) false 0 0 false 0 false 0 0 false
 
--- no line waits, no note sounds, position 0, the starting tempo, none missed; ended only where the start is refused
-unfoldable pub startOf : Program → ℕ → Bool → Panel
-startOf program ceiling ended =
+-- no line and no note message waits, no note sounds, position 0, the starting tempo, none missed; ended only where the start is refused
+unfoldable pub startOf : Program → ℕ → ℕ → Bool → Panel
+startOf program ceiling chosen ended =
     record {
       state = record {
         queue = record { lines = replicate 64 emptyLine; count = 0; ran = false; last = 0 };
+        messages = noMessages;
         playing = record { notes = record { notes = replicate 16 emptyNote; count = 0 }; position = 0; tempo = sixty; missed = 0; ended = ended };
       };
       ceiling = ceiling;
+      chosen = chosen;
       program = program;
     }

@@ -1,9 +1,8 @@
-// The panel: its state by value, the fresh start, the four entrances and the cycle (document 01; M-100 for text).
+// The panel: its state by value, the fresh start, the entrances and the cycle (documents 01 and 02).
 use answer::Answer;
 use entrances::Handed;
 use loader::Program;
 use sounding::Notes;
-use synth::Note;
 use turning::Playing;
 use turning::State;
 use waiting::Queue;
@@ -14,12 +13,13 @@ ghost use Rattle.panel.specs.State.{startOf};
 ghost use Rattle.loader.specs.Loading.{loadOf as loadedFrom};
 ghost use Rattle.players.specs.Calls.{stick, unit, keypad, text};
 ghost use Rattle.entrances.specs.Entrances.{scoreIn};
-ghost use Rattle.panel.specs.Calls.{noPanel, freshOf, broughtOf, bringOf, cycleOf, blockAfter};
+ghost use Rattle.panel.specs.Calls.{noPanel, hasChosen, freshOf, broughtOf, bringOf, playKeysOf, cycleOf, blockAfter};
 
 // What the calls change, beside what a fresh start fixes.
 pub struct Panel {
     state: State,
     ceiling: u16,
+    chosen: u16,
     program: Program,
 }
 
@@ -33,6 +33,12 @@ pub struct Brought {
     pub panel: Panel,
     pub answer: Answer,
     pub line: usize,
+}
+
+// What a call at the keyboard leaves.
+pub struct Played {
+    pub panel: Panel,
+    pub answer: Answer,
 }
 
 pub struct Cycled {
@@ -67,18 +73,13 @@ fn bring(mut p: Panel, h: Handed) -> Brought
 }
 
 // A panel at its start.
-fn start(program: Program, ceiling: u16, ended: bool) -> Panel
-    ensures { λ r. ⌜ r ≡ startOf program ceiling ended ⌝ }
+fn start(program: Program, ceiling: u16, chosen: u16, ended: bool) -> Panel
+    ensures { λ r. ⌜ r ≡ startOf program ceiling chosen ended ⌝ }
 {
     let line = entrances::empty_line();
-    let note = Note {
-        values: [0.0f32; 16],
-        labelled: false,
-        label: 0,
-        instrument: 0,
-        endless: false,
-        end: 0,
-    };
+    let silence = [0.0f32; 16];
+    let note = synth::new_note(silence, false, 0, 0, false, 0, false, 0, 0, false);
+    let messages = keyboard::no_messages();
     let lines = [line; 64];
     let notes = [note; 16];
     Panel {
@@ -89,6 +90,7 @@ fn start(program: Program, ceiling: u16, ended: bool) -> Panel
                 ran: false,
                 last: 0,
             },
+            messages: messages,
             playing: Playing {
                 notes: Notes {
                     notes: notes,
@@ -101,6 +103,7 @@ fn start(program: Program, ceiling: u16, ended: bool) -> Panel
             },
         },
         ceiling: ceiling,
+        chosen: chosen,
         program: program,
     }
 }
@@ -119,17 +122,27 @@ fn no_panel(program: Program, answer: Answer) -> Fresh
     ensures { λ r. ⌜ r ≡ noPanel program answer ⌝ }
 {
     Fresh {
-        panel: start(program, 1, true),
+        panel: start(program, 1, 0, true),
         answer: answer,
     }
+}
+
+// Whether a program has the chosen instrument.
+fn has_chosen(program: Program, chosen: u16) -> bool
+    ensures { λ r. ⌜ r ≡ hasChosen program chosen ⌝ }
+{
+    let table = program.table;
+    let f = sounding::find(table, program.count, chosen);
+    f.there
 }
 
 impl Panel {
     pub const STARTING_TEMPO: f32 = 60.0;
 
-    // A fresh panel of an orchestra's bytes. A refusal, of the ceiling or of the orchestra, gives a panel that has ended.
-    pub fn fresh(orchestra: &[u8], ceiling: u32) -> Fresh
-        ensures { λ r. ⌜ r ≡ freshOf (now (orchestra .entry)) ceiling ⌝ }
+    // A fresh panel of an orchestra's bytes, with the instrument that is chosen for the keyboard. A refusal, of the ceiling, of the orchestra
+    // or of the choice, gives a panel that has ended.
+    pub fn fresh(orchestra: &[u8], ceiling: u32, chosen: u16) -> Fresh
+        ensures { λ r. ⌜ r ≡ freshOf (now (orchestra .entry)) ceiling chosen ⌝ }
     {
         if ceiling < 1 {
             return no_panel(unread(), Answer::OutOfRange);
@@ -143,8 +156,11 @@ impl Panel {
         if !answer::is_taken(answer) {
             return no_panel(program, answer);
         }
+        if !has_chosen(program, chosen) {
+            return no_panel(program, Answer::NoInstrument);
+        }
         Fresh {
-            panel: start(program, ceiling as u16, false),
+            panel: start(program, ceiling as u16, chosen, false),
             answer: answer,
         }
     }
@@ -177,6 +193,29 @@ impl Panel {
         bring(self, entrances::text(s))
     }
 
+    // Bytes at the keyboard: all its note messages, or none of them.
+    pub fn play_keys(mut self, bytes: &[u8]) -> Played
+        ensures { λ r. ⌜ r ≡ playKeysOf self (now (bytes .entry)) ⌝ }
+    {
+        if self.state.playing.ended {
+            return Played {
+                panel: self,
+                answer: Answer::Ended,
+            };
+        }
+        let mut state = self.state;
+        let waiting = state.messages;
+        let r = keyboard::press(waiting, bytes);
+        let left = r.messages;
+        let given = r.answer;
+        state.messages = left;
+        self.state = state;
+        Played {
+            panel: self,
+            answer: given,
+        }
+    }
+
     // A cycle of sound into a block of 320 samples.
     pub fn cycle(mut self, block: &mut [i16]) -> Cycled
         ensures panel { λ r. ⌜ r ≡ cycleOf self (length (now (block .entry))) ⌝ }
@@ -203,6 +242,7 @@ impl Panel {
             &self.program.vals,
             state,
             self.ceiling,
+            self.chosen,
             block,
         );
         self.state = next;
@@ -228,6 +268,12 @@ impl Panel {
         ensures { λ r. ⌜ r ≡ self .state .queue .count ⌝ }
     {
         self.state.queue.count
+    }
+
+    pub fn waiting_messages(self) -> usize
+        ensures { λ r. ⌜ r ≡ self .state .messages .count ⌝ }
+    {
+        self.state.messages.count
     }
 
     pub fn sounding_notes(self) -> usize

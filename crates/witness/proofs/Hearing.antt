@@ -25,6 +25,7 @@ use Rattle.timebase.specs.Time as timebase-time
 use Rattle.score.specs.Score.{Score, scoreOf}
 use Rattle.players.specs.Lists.{All}
 use Rattle.players.specs.Plain.{plainStart, answerAt, blockAt}
+use Rattle.players.specs.Results.{here as some-here}
 use Rattle.players.specs.Calls.{stick, bring, cycle, Answer, one, numbered, linesOf, takenOf, isZero, none, Moment, lastWith, momentOf, traceFrom, allTaken, afterAll}
 use Rattle.players.specs.Condition3.{inTime, InTime, AsPlain, PlainAlike}
 use Rattle.players.specs.History.{historyFrom}
@@ -34,12 +35,12 @@ use Rattle.claims.specs.Verdict.{here, taken, Verdict}
 use Rattle.claims.specs.Claims.{afterOf, panel, Given, settings, past, Condition3, CallVerdict}
 use Rattle.claims.proofs.Written.{condition-3}
 use Rattle.claims.proofs.Answers.{call-verdict}
-use Rattle.witness.specs.Growing.{ceiling, bytes, tree, line}
+use Rattle.witness.specs.Growing.{ceiling, chosen, bytes, tree, line}
 use Rattle.witness.specs.Calls.{score, lent, calls, started, loaded, cycled, moments, Heard}
 use Rattle.witness.proofs.Sounding.{growing-sounds}
 
-given : Given bytes tree ceiling
-given = record { accepted = growing-sounds .accepted; low = omega arith; high = omega arith }
+given : Given bytes tree ceiling chosen
+given = record { accepted = growing-sounds .accepted; low = omega arith; high = omega arith; there = some-here refl }
 
 -- what the score holds, computed
 abbrev read-as : Score
@@ -57,7 +58,7 @@ room : 0 < 64
 room = omega arith
 
 -- its line fits: it is timed, its instrument is there, it is not late, and there is room
-verdict : Verdict tree (past bytes tree ceiling []) (bring stick score) 0 0
+verdict : Verdict tree (past bytes tree ceiling chosen []) (bring stick score) 0 0
 unfolding historyFrom traceFrom plainStart
 verdict =
     taken (line ∷ []) (refl, score-read .0, score-read .1)
@@ -65,7 +66,7 @@ verdict =
 
 taken-whole : afterOf started (bring stick score) .answers ≡ one 0 0
 unfolding CallVerdict afterAll
-taken-whole = call-verdict bytes tree ceiling given [] (bring stick score) .1 0 0 verdict
+taken-whole = call-verdict bytes tree ceiling chosen given [] (bring stick score) .1 0 0 verdict
 
 -- no line comes by a cycle call
 pub no-line : (given : List Answer) → takenOf ([] ∷ []) given ≡ []
@@ -85,27 +86,27 @@ lines-taken =
     λ i. stick-line i ++ (no-line (afterOf loaded (cycle lent) .answers) i ++ (no-line (afterOf cycled (cycle lent) .answers) i ++ []))
 
 -- the line came before any cycle, and it is timed
-in-time : All (InTime panel (writtenVoices tree) (settings ceiling) (line ∷ [])) moments
+in-time : All (InTime panel (writtenVoices tree) (settings ceiling chosen) (line ∷ [])) moments
 unfolding traceFrom
 in-time = (
-  subst⁻¹ (All (inTime panel (writtenVoices tree) (settings ceiling) (line ∷ []) none)) stick-line (tt, tt),
+  subst⁻¹ (All (inTime panel (writtenVoices tree) (settings ceiling chosen) (line ∷ []) none)) stick-line (tt, tt),
   (
-    subst⁻¹ (All (inTime panel (writtenVoices tree) (settings ceiling) (line ∷ []) none)) (no-line (afterOf loaded (cycle lent) .answers)) tt,
-    (subst⁻¹ (All (inTime panel (writtenVoices tree) (settings ceiling) (line ∷ []) (lastWith (momentOf panel 0 none loaded (cycle lent))))) (no-line (afterOf cycled (cycle lent) .answers)) tt, tt),
+    subst⁻¹ (All (inTime panel (writtenVoices tree) (settings ceiling chosen) (line ∷ []) none)) (no-line (afterOf loaded (cycle lent) .answers)) tt,
+    (subst⁻¹ (All (inTime panel (writtenVoices tree) (settings ceiling chosen) (line ∷ []) (lastWith (momentOf panel 0 none loaded (cycle lent))))) (no-line (afterOf cycled (cycle lent) .answers)) tt, tt),
   ),
 )
 
 -- the claims of condition 3, of these calls
-as-plain : All (AsPlain panel (writtenVoices tree) (settings ceiling) (line ∷ [])) moments
+as-plain : All (AsPlain panel (writtenVoices tree) (settings ceiling chosen) (line ∷ [])) moments
 unfolding Condition3 PlainAlike
 as-plain =
-    subst (λ (ls : List Line). All (AsPlain panel (writtenVoices tree) (settings ceiling) ls) moments) lines-taken
-    (condition-3 bytes tree ceiling given calls (subst⁻¹ (λ (ls : List Line). All (InTime panel (writtenVoices tree) (settings ceiling) ls) moments) lines-taken in-time))
+    subst (λ (ls : List Line). All (AsPlain panel (writtenVoices tree) (settings ceiling chosen) ls) moments) lines-taken
+    (condition-3 bytes tree ceiling chosen given calls (tt, (tt, (tt, tt))) (subst⁻¹ (λ (ls : List Line). All (InTime panel (writtenVoices tree) (settings ceiling chosen) ls) moments) lines-taken in-time))
 
 -- a cycle's answer and block are the plain player's
-module _ {b : List ℤ} (m : Moment Panel) (a : AsPlain panel (writtenVoices tree) (settings ceiling) (line ∷ []) m) where
-  sounds : numbered (m .call) ≡ true → answerAt (writtenVoices tree) (settings ceiling) (line ∷ []) (m .cycles) ≡ 0
-      → blockAt (writtenVoices tree) (settings ceiling) (line ∷ []) (m .cycles) ≡ b → (m .after .answers ≡ one 0 0) × (m .after .block ≡ b)
+module _ {b : List ℤ} (m : Moment Panel) (a : AsPlain panel (writtenVoices tree) (settings ceiling chosen) (line ∷ []) m) where
+  sounds : numbered (m .call) ≡ true → answerAt (writtenVoices tree) (settings ceiling chosen) (line ∷ []) (m .cycles) ≡ 0
+      → blockAt (writtenVoices tree) (settings ceiling chosen) (line ∷ []) (m .cycles) ≡ b → (m .after .answers ≡ one 0 0) × (m .after .block ≡ b)
   sounds n e f =
       let x : m .after .answers ≡ one 0 0 = a .answer n ∙ ap (λ (y : ℕ). one y 0) e in
       (x, a .block n (ap isZero x) ∙ f)

@@ -2,3 +2,4 @@ pub mod Sounding
 pub mod Hearing
 pub mod Rich
 pub mod Walking
+pub mod Keys

@@ -36,8 +36,8 @@ use Rattle.meaning.specs.Placed.{value, assigned, outputs, pass, fresh, birth, 
 use Rattle.score_line.specs.declared.Line.{Line}
 use Rattle.players.specs.Lists.{keep, fold, each, All}
 use Rattle.players.proofs.Lists.{all-append}
-use Rattle.players.specs.Cycle.{Voices, isDue, insert, ordered, anyEnd, lastTempo, limited, joinedBy, goesOn, born, started, controlledBy, controlled, runFrom, runAll}
-use Rattle.players.specs.Holds.{sixty, dueAt, laterThan, endsBy, answerOf, startedOf, bandOf, blockOf, played, cycled}
+use Rattle.players.specs.Cycle.{Voices, isDue, insert, ordered, anyEnd, lastTempo, limited, joinedBy, goesOn, born, started, controlledBy, controlled, afterMessages, runFrom, runAll}
+use Rattle.players.specs.Holds.{sixty, dueAt, laterThan, endsBy, answerOf, startedOf, soundsOf, bandOf, blockOf, played, cycled}
 use Rattle.players.specs.Plain.{plainStart, plainAt, answerAt, blockAt}
 use Rattle.players.specs.Calls.{stick, unit, keypad, text}
 use Rattle.float32.specs.Limit.{held, sampleOf}
@@ -49,7 +49,7 @@ use Rattle.voices.specs.Tree.{silent, instrumentOf, importsOf, noSymbol, treeVo
 use Rattle.written_voices.specs.Voices.{writtenVoices, Fits, PlaysAsWritten}
 use Rattle.written_voices.proofs.Written.{every-piece}
 use Rattle.claims.specs.Claims.{settings}
-use Rattle.witness.specs.Growing.{ceiling}
+use Rattle.witness.specs.Growing.{ceiling, chosen}
 use Rattle.witness.specs.Rich.{bytes, tree, rest, onStick, asText, inUnit, onKeypad, before, control, end, lines, IsRead, Later, Gives, Rich}
 
 abbrev tokens : List Token
@@ -93,9 +93,9 @@ unfolding plainAt plainStart ticksIn ofBits le lt eq
 in-time v = (omega arith, omega arith)
 
 -- the cycles of the plain player
-played-out : Gives (treeVoices tree) 0 (pos 8192) × Gives (treeVoices tree) 1 (pos 16384) × (plainAt (treeVoices tree) (settings ceiling) lines 1 .plays .counts .missed ≡ 1)
-    × (answerAt (treeVoices tree) (settings ceiling) lines 2 ≡ 9)
-unfolding answerAt answerOf blockAt blockOf limited bandOf startedOf runAll runFrom started controlled dueAt laterThan plainAt cycled plainStart sixty endsBy anyEnd played goesOn lastTempo cycleIn cycleOf keep fold each isDue insert ordered joinedBy born controlledBy ticksIn treeVoices instrumentOf importsOf silent sampleOf held binaryOf cycle kPass aPasses pass outputs assigned value fresh birth put putIn namedBy named placeFrom add mul round ofBits lt le eq code.named truth ne
+played-out : Gives (treeVoices tree) 0 (pos 8192) × Gives (treeVoices tree) 1 (pos 16384) × (plainAt (treeVoices tree) (settings ceiling chosen) lines 1 .plays .counts .missed ≡ 1)
+    × (answerAt (treeVoices tree) (settings ceiling chosen) lines 2 ≡ 9)
+unfolding answerAt answerOf blockAt blockOf limited bandOf soundsOf startedOf afterMessages runAll runFrom started controlled dueAt laterThan plainAt cycled plainStart sixty endsBy anyEnd played goesOn lastTempo cycleIn cycleOf keep fold each isDue insert ordered joinedBy born controlledBy ticksIn treeVoices instrumentOf importsOf silent sampleOf held binaryOf cycle kPass aPasses pass outputs assigned value fresh birth put putIn namedBy named placeFrom add mul round ofBits lt le eq code.named truth ne
 played-out = ((refl, refl), (refl, refl), refl, refl)
 
 -- with the notes' values by place
@@ -137,8 +137,8 @@ fitting : AllFits lines
 unfolding instrumentOf
 fitting = all-append (λ (l : Line). Fits tree l (l .event)) before (control ∷ end ∷ []) (one-value, rests-fitting 16) (sixteen-bits, (tt, tt))
 
-as-written : (n : ℕ) → PlaysAsWritten tree (settings ceiling) lines n
-as-written n = every-piece tree (settings ceiling) lines n (accepted .named) fitting
+as-written : (n : ℕ) → PlaysAsWritten tree (settings ceiling chosen) lines n
+as-written n = every-piece tree (settings ceiling chosen) lines n (accepted .named) fitting
 
 gives : (k : ℕ) (x : ℤ) → Gives (treeVoices tree) k x → Gives (writtenVoices tree) k x
 gives k x h = (sym (as-written k .answers) ∙ h .0, sym (as-written k .blocks) ∙ h .1)

@@ -17,8 +17,8 @@ use Rattle.orchestra.specs.Verdict.{Sized, Accepted}
 use Rattle.meaning.specs.Placed.{value, assigned, outputs, pass, fresh, birth, kPass, aPasses, cycle}
 use Rattle.score_line.specs.declared.Line.{Line}
 use Rattle.players.specs.Lists.{keep, fold, each, All}
-use Rattle.players.specs.Cycle.{isDue, insert, ordered, anyEnd, lastTempo, limited, joinedBy, goesOn, born, started, controlledBy, controlled, runFrom, runAll}
-use Rattle.players.specs.Holds.{sixty, dueAt, laterThan, endsBy, answerOf, startedOf, bandOf, blockOf, played, cycled}
+use Rattle.players.specs.Cycle.{isDue, insert, ordered, anyEnd, lastTempo, limited, joinedBy, goesOn, born, started, controlledBy, controlled, afterMessages, runFrom, runAll}
+use Rattle.players.specs.Holds.{sixty, dueAt, laterThan, endsBy, answerOf, startedOf, soundsOf, bandOf, blockOf, played, cycled}
 use Rattle.players.specs.Plain.{plainStart, plainAt, answerAt, blockAt}
 use Rattle.float32.specs.Limit.{held, sampleOf}
 use Rattle.float32.specs.Operators.{binaryOf}
@@ -27,7 +27,7 @@ use Rattle.voices.specs.Tree.{silent, instrumentOf, importsOf, treeVoices}
 use Rattle.written_voices.specs.Voices.{writtenVoices, Fits, PlaysAsWritten}
 use Rattle.written_voices.proofs.Written.{every-piece}
 use Rattle.claims.specs.Claims.{settings}
-use Rattle.witness.specs.Growing.{bytes, tree, line, ceiling, low, Sounds}
+use Rattle.witness.specs.Growing.{bytes, tree, line, ceiling, chosen, low, Sounds}
 
 -- instr s1 ( ) { ksig s2 ; s2 = s2 + 0.25 ; output ( s2 ) ; }
 abbrev tokens : List Token
@@ -50,7 +50,7 @@ accepted = record { tokens = tokens; sized = sized; derived = derived; named = r
 
 -- with the notes' values by place
 by-place : Sounds (treeVoices tree)
-unfolding answerAt answerOf blockAt blockOf limited bandOf startedOf runAll runFrom started controlled dueAt laterThan plainAt cycled plainStart sixty endsBy anyEnd played goesOn lastTempo cycleIn cycleOf keep fold each isDue insert ordered joinedBy born controlledBy ticksIn treeVoices instrumentOf importsOf silent sampleOf held binaryOf cycle kPass aPasses pass outputs assigned value fresh birth put putIn namedBy named placeFrom add mul round ofBits lt le eq
+unfolding answerAt answerOf blockAt blockOf limited bandOf soundsOf startedOf afterMessages runAll runFrom started controlled dueAt laterThan plainAt cycled plainStart sixty endsBy anyEnd played goesOn lastTempo cycleIn cycleOf keep fold each isDue insert ordered joinedBy born controlledBy ticksIn treeVoices instrumentOf importsOf silent sampleOf held binaryOf cycle kPass aPasses pass outputs assigned value fresh birth put putIn namedBy named placeFrom add mul round ofBits lt le eq
 by-place = record { accepted = accepted; first = (refl, refl); second = (refl, refl); held = refl }
 
 no-values : 0 ≤ 0
@@ -60,8 +60,8 @@ fitting : All (λ (l : Line). Fits tree l (l .event)) (line ∷ [])
 unfolding instrumentOf
 fitting = (no-values, tt)
 
-as-written : (c n : ℕ) → PlaysAsWritten tree (settings c) (line ∷ []) n
-as-written c n = every-piece tree (settings c) (line ∷ []) n (accepted .named) fitting
+as-written : (c n : ℕ) → PlaysAsWritten tree (settings c chosen) (line ∷ []) n
+as-written c n = every-piece tree (settings c chosen) (line ∷ []) n (accepted .named) fitting
 
 pub growing-sounds : Sounds (writtenVoices tree)
 growing-sounds =

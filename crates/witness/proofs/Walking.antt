@@ -12,9 +12,10 @@ use Rattle.syntax.specs.Names.{named, namedBy, has, apart, knownIn, known, each
 use Rattle.syntax.specs.Placed.{placeFrom, putIn, put}
 use Rattle.meaning.specs.Placed.{value, assigned, outputs, pass, fresh as freshValues, birth, kPass, aPasses, cycle as noteCycle}
 use Rattle.players.specs.Lists.{keep, fold, each, All}
-use Rattle.players.specs.Cycle.{isDue, insert, ordered, anyEnd, lastTempo, limited, joinedBy, goesOn, born, started, controlledBy, controlled, runFrom, runAll}
-use Rattle.players.specs.Holds.{Counts, behind, sixty, dueAt, laterThan, endsBy, answerOf, startedOf, bandOf, blockOf, played, cycled}
+use Rattle.players.specs.Cycle.{isDue, insert, ordered, anyEnd, lastTempo, limited, joinedBy, goesOn, born, started, controlledBy, controlled, afterMessages, runFrom, runAll}
+use Rattle.players.specs.Holds.{Counts, behind, withMessages, sixty, dueAt, laterThan, endsBy, answerOf, startedOf, soundsOf, bandOf, blockOf, played, cycled}
 use Rattle.players.specs.Plain.{plainStart, plainAt, answerAt, blockAt}
+use Rattle.players.specs.Results.{here as some-here}
 use Rattle.float32.specs.Limit.{held, sampleOf}
 use Rattle.float32.specs.Builtins.{truth}
 use Rattle.float32.specs.Operators.{binaryOf}
@@ -32,14 +33,14 @@ use Rattle.claims.specs.Claims.{afterOf, panel, fresh, Given, settings, past, C
 use Rattle.claims.proofs.Written.{condition-3}
 use Rattle.claims.proofs.Answers.{call-verdict}
 use Rattle.sounding.specs.Voices.{Held}
-use Rattle.witness.specs.Growing.{ceiling}
+use Rattle.witness.specs.Growing.{ceiling, chosen}
 use Rattle.witness.specs.Calls.{lent}
 use Rattle.witness.specs.Rich.{bytes, tree, tone, rest, control, end, onStick, inUnit, onKeypad, before, lines, calls, moments, p1, p2, p3, p4, answersOf, Walked}
 use Rattle.witness.proofs.Hearing.{no-line}
 use Rattle.witness.proofs.Rich.{rich}
 
-given : Given bytes tree ceiling
-given = record { accepted = rich .accepted; low = omega arith; high = omega arith }
+given : Given bytes tree ceiling chosen
+given = record { accepted = rich .accepted; low = omega arith; high = omega arith; there = some-here refl }
 
 -- ---- the stick
 
@@ -65,77 +66,77 @@ rests-fit (suc n) k h = (
   rests-fit n (suc k) (omega arith),
 )
 
-on-stick : Verdict tree (past bytes tree ceiling []) (bring stick onStick) 0 0
+on-stick : Verdict tree (past bytes tree ceiling chosen []) (bring stick onStick) 0 0
 unfolding historyFrom traceFrom plainStart
 on-stick =
     taken before (refl, rich .stick .0, rich .stick .1)
     (record { timed = λ q. refl; playable = here refl one-field; early = refl; room = omega arith }, rests-fit 16 1 (omega arith))
 
-stick-answer : afterOf (fresh bytes ceiling) (bring stick onStick) .answers ≡ one 0 0
+stick-answer : afterOf (fresh bytes ceiling chosen) (bring stick onStick) .answers ≡ one 0 0
 unfolding CallVerdict afterAll
-stick-answer = call-verdict bytes tree ceiling given [] (bring stick onStick) .1 0 0 on-stick
+stick-answer = call-verdict bytes tree ceiling chosen given [] (bring stick onStick) .1 0 0 on-stick
 
-stick-lines : takenOf (linesOf (bring stick onStick)) (afterOf (fresh bytes ceiling) (bring stick onStick) .answers) ≡ before
+stick-lines : takenOf (linesOf (bring stick onStick)) (afterOf (fresh bytes ceiling chosen) (bring stick onStick) .answers) ≡ before
 stick-lines = ap (takenOf (linesOf (bring stick onStick))) stick-answer ∙ ap (λ (ls : List Line). ls ++ []) (rich .stick .1)
 
 -- ---- histories
 
 after-stick : History Held
-after-stick = record { holds = behind before (plainStart (settings ceiling 0) []); reached = nowhere }
+after-stick = record { holds = withMessages [] (behind before (plainStart (settings ceiling chosen 0) [])); reached = nowhere }
 
 after-first : History Held
-after-first = withCycle (treeVoices tree) (settings ceiling) 0 after-stick
+after-first = withCycle (treeVoices tree) (settings ceiling chosen) 0 after-stick
 
 after-unit : History Held
-after-unit = record { holds = behind (control ∷ []) (after-first .holds); reached = after-first .reached }
+after-unit = record { holds = withMessages [] (behind (control ∷ []) (after-first .holds)); reached = after-first .reached }
 
 -- cycle 0 plays; then nothing waits, and the control line and the end fit
 computed : Verdict tree after-stick (cycle lent) 0 0 × Verdict tree after-first (bring unit inUnit) 0 0 × Verdict tree after-unit (bring keypad onKeypad) 0 0
-unfolding after-unit after-first after-stick behind answerAt answerOf blockAt blockOf limited bandOf startedOf runAll runFrom started controlled dueAt laterThan plainAt cycled plainStart sixty endsBy anyEnd played goesOn lastTempo cycleIn cycleOf keep fold each isDue insert ordered joinedBy born controlledBy ticksIn treeVoices instrumentOf importsOf silent sampleOf held binaryOf noteCycle kPass aPasses pass outputs assigned value freshValues birth put putIn namedBy named placeFrom add mul round ofBits lt le eq code.named truth ne
+unfolding after-unit after-first after-stick behind withMessages answerAt answerOf blockAt blockOf limited bandOf soundsOf startedOf afterMessages runAll runFrom started controlled dueAt laterThan plainAt cycled plainStart sixty endsBy anyEnd played goesOn lastTempo cycleIn cycleOf keep fold each isDue insert ordered joinedBy born controlledBy ticksIn treeVoices instrumentOf importsOf silent sampleOf held binaryOf noteCycle kPass aPasses pass outputs assigned value freshValues birth put putIn namedBy named placeFrom add mul round ofBits lt le eq code.named truth ne
 computed = (
   plays refl refl refl,
   taken (control ∷ []) (refl, rich .unit .0, rich .unit .1) (record { timed = λ q. refl; playable = tt; early = refl; room = omega arith }, tt),
   taken (end ∷ []) (refl, rich .keypad .0, rich .keypad .1) (record { timed = λ q. refl; playable = tt; early = refl; room = omega arith }, tt),
 )
 
-past-stick : past bytes tree ceiling (bring stick onStick ∷ []) ≡ after-stick
+past-stick : past bytes tree ceiling chosen (bring stick onStick ∷ []) ≡ after-stick
 unfolding historyFrom traceFrom after-stick
-past-stick = λ i. record { holds = behind (stick-lines i) (plainStart (settings ceiling 0) []); reached = nowhere }
+past-stick = λ i. record { holds = withMessages (cond (isZero (stick-answer i)) [] []) (behind (stick-lines i) (plainStart (settings ceiling chosen 0) [])); reached = nowhere }
 
 first-answer : afterOf p1 (cycle lent) .answers ≡ one 0 0
 unfolding CallVerdict afterAll
 first-answer =
-    call-verdict bytes tree ceiling given (bring stick onStick ∷ []) (cycle lent) .1 0 0
+    call-verdict bytes tree ceiling chosen given (bring stick onStick ∷ []) (cycle lent) .1 0 0
     (subst⁻¹ (λ (h : History Held). Verdict tree h (cycle lent) 0 0) past-stick (computed .0))
 
-past-first : past bytes tree ceiling (bring stick onStick ∷ cycle lent ∷ []) ≡ after-first
+past-first : past bytes tree ceiling chosen (bring stick onStick ∷ cycle lent ∷ []) ≡ after-first
 unfolding historyFrom traceFrom after-first after-stick
 past-first =
-    λ i. withCycle (treeVoices tree) (settings ceiling) 0 (record { holds = behind (stick-lines i) (plainStart (settings ceiling 0) []); reached = nowhere })
+    λ i. withCycle (treeVoices tree) (settings ceiling chosen) 0 (record { holds = withMessages (cond (isZero (stick-answer i)) [] []) (behind (stick-lines i) (plainStart (settings ceiling chosen 0) [])); reached = nowhere })
 
 -- ---- the unit
 
 unit-answer : afterOf p2 (bring unit inUnit) .answers ≡ one 0 0
 unfolding CallVerdict afterAll
 unit-answer =
-    call-verdict bytes tree ceiling given (bring stick onStick ∷ cycle lent ∷ []) (bring unit inUnit) .1 0 0
+    call-verdict bytes tree ceiling chosen given (bring stick onStick ∷ cycle lent ∷ []) (bring unit inUnit) .1 0 0
     (subst⁻¹ (λ (h : History Held). Verdict tree h (bring unit inUnit) 0 0) past-first (computed .1))
 
 unit-lines : takenOf (linesOf (bring unit inUnit)) (afterOf p2 (bring unit inUnit) .answers) ≡ control ∷ []
 unit-lines = ap (takenOf (linesOf (bring unit inUnit))) unit-answer ∙ ap (λ (ls : List Line). ls ++ []) (rich .unit .1)
 
-past-unit : past bytes tree ceiling (bring stick onStick ∷ cycle lent ∷ bring unit inUnit ∷ []) ≡ after-unit
+past-unit : past bytes tree ceiling chosen (bring stick onStick ∷ cycle lent ∷ bring unit inUnit ∷ []) ≡ after-unit
 unfolding historyFrom traceFrom after-unit after-first after-stick
 past-unit =
-    λ i. let h = withCycle (treeVoices tree) (settings ceiling) 0 (record { holds = behind (stick-lines i) (plainStart (settings ceiling 0) []); reached = nowhere }) in
-    record { holds = behind (unit-lines i) (h .holds); reached = h .reached }
+    λ i. let h = withCycle (treeVoices tree) (settings ceiling chosen) 0 (record { holds = withMessages (cond (isZero (stick-answer i)) [] []) (behind (stick-lines i) (plainStart (settings ceiling chosen 0) [])); reached = nowhere }) in
+    record { holds = withMessages (cond (isZero (unit-answer i)) [] []) (behind (unit-lines i) (h .holds)); reached = h .reached }
 
 -- ---- the keypad
 
 keypad-answer : afterOf p3 (bring keypad onKeypad) .answers ≡ one 0 0
 unfolding CallVerdict afterAll
 keypad-answer =
-    call-verdict bytes tree ceiling given (bring stick onStick ∷ cycle lent ∷ bring unit inUnit ∷ []) (bring keypad onKeypad) .1 0 0
+    call-verdict bytes tree ceiling chosen given (bring stick onStick ∷ cycle lent ∷ bring unit inUnit ∷ []) (bring keypad onKeypad) .1 0 0
     (subst⁻¹ (λ (h : History Held). Verdict tree h (bring keypad onKeypad) 0 0) past-unit (computed .2))
 
 keypad-lines : takenOf (linesOf (bring keypad onKeypad)) (afterOf p3 (bring keypad onKeypad) .answers) ≡ end ∷ []
@@ -153,7 +154,7 @@ lines-taken =
     ++ (no-line (afterOf p4 (cycle lent) .answers) i ++ (no-line (afterOf p5 (cycle lent) .answers) i ++ [])))))
 
 abbrev Timely : Last → List Line → Type 0
-Timely z ls = All (inTime panel (writtenVoices tree) (settings ceiling) lines z) ls
+Timely z ls = All (inTime panel (writtenVoices tree) (settings ceiling chosen) lines z) ls
 
 rests-timely : (n : ℕ) → Timely none (replicate n rest)
 rests-timely zero = tt
@@ -169,7 +170,7 @@ last-is = ap (λ (a : List Answer). cond (numbered (cycle lent) && isZero a) (la
 none-timely : (z : Last) (given : List Answer) → Timely z (takenOf ([] ∷ []) given)
 none-timely z given = subst⁻¹ (Timely z) (no-line given) tt
 
-in-time : All (InTime panel (writtenVoices tree) (settings ceiling) lines) moments
+in-time : All (InTime panel (writtenVoices tree) (settings ceiling chosen) lines) moments
 unfolding traceFrom p5
 in-time = (
   subst⁻¹ (Timely none) stick-lines (tt, rests-timely 16),
@@ -187,20 +188,20 @@ in-time = (
   ),
 )
 
-as-plain : All (AsPlain panel (writtenVoices tree) (settings ceiling) lines) moments
+as-plain : All (AsPlain panel (writtenVoices tree) (settings ceiling chosen) lines) moments
 unfolding Condition3 PlainAlike
 as-plain =
-    subst (λ (ls : List Line). All (AsPlain panel (writtenVoices tree) (settings ceiling) ls) moments) lines-taken
-    (condition-3 bytes tree ceiling given calls (subst⁻¹ (λ (ls : List Line). All (InTime panel (writtenVoices tree) (settings ceiling) ls) moments) lines-taken in-time))
+    subst (λ (ls : List Line). All (AsPlain panel (writtenVoices tree) (settings ceiling chosen) ls) moments) lines-taken
+    (condition-3 bytes tree ceiling chosen given calls (tt, (tt, (tt, (tt, (tt, (tt, tt)))))) (subst⁻¹ (λ (ls : List Line). All (InTime panel (writtenVoices tree) (settings ceiling chosen) ls) moments) lines-taken in-time))
 
 -- ---- what is heard
 
-module _ (m : Moment Panel) (a : AsPlain panel (writtenVoices tree) (settings ceiling) lines m) where
-  answers : (n : ℕ) → numbered (m .call) ≡ true → answerAt (writtenVoices tree) (settings ceiling) lines (m .cycles) ≡ n → m .after .answers ≡ one n 0
+module _ (m : Moment Panel) (a : AsPlain panel (writtenVoices tree) (settings ceiling chosen) lines m) where
+  answers : (n : ℕ) → numbered (m .call) ≡ true → answerAt (writtenVoices tree) (settings ceiling chosen) lines (m .cycles) ≡ n → m .after .answers ≡ one n 0
   answers n q e = a .answer q ∙ ap (λ (y : ℕ). one y 0) e
 
-  sounds : {b : List ℤ} → numbered (m .call) ≡ true → answerAt (writtenVoices tree) (settings ceiling) lines (m .cycles) ≡ 0
-      → blockAt (writtenVoices tree) (settings ceiling) lines (m .cycles) ≡ b → m .after .block ≡ b
+  sounds : {b : List ℤ} → numbered (m .call) ≡ true → answerAt (writtenVoices tree) (settings ceiling chosen) lines (m .cycles) ≡ 0
+      → blockAt (writtenVoices tree) (settings ceiling chosen) lines (m .cycles) ≡ b → m .after .block ≡ b
   sounds q e f = a .block q (ap isZero (answers 0 q e)) ∙ f
 
 pub walked : Walked

@@ -11,7 +11,7 @@ use Rattle.players.specs.Condition3.{InTime}
 use Rattle.written_voices.specs.Voices.{writtenVoices}
 use Rattle.panel.specs.declared.Panel.{Panel}
 use Rattle.claims.specs.Claims.{afterOf, panel, fresh, settings}
-use Rattle.witness.specs.Growing.{ceiling, bytes, tree, line}
+use Rattle.witness.specs.Growing.{ceiling, chosen, bytes, tree, line}
 
 -- the score with that one line
 abbrev pub score : List ℕ
@@ -26,7 +26,7 @@ calls = bring stick score ∷ cycle lent ∷ cycle lent ∷ []
 
 -- the panel at its fresh start, after the stick, and after the first cycle
 abbrev pub started : Panel
-started = fresh bytes ceiling
+started = fresh bytes ceiling chosen
 
 abbrev pub loaded : Panel
 loaded = afterOf started (bring stick score) .player
@@ -41,6 +41,6 @@ moments = trace panel started calls
 pub record Heard : Type 0 where
   pub taken-whole : afterOf started (bring stick score) .answers ≡ one 0 0
   pub lines : allTaken moments ≡ line ∷ []
-  pub in-time : All (InTime panel (writtenVoices tree) (settings ceiling) (line ∷ [])) moments
+  pub in-time : All (InTime panel (writtenVoices tree) (settings ceiling chosen) (line ∷ [])) moments
   pub first : (afterOf loaded (cycle lent) .answers ≡ one 0 0) × (afterOf loaded (cycle lent) .block ≡ replicate samples (pos 8192))
   pub second : (afterOf cycled (cycle lent) .answers ≡ one 0 0) × (afterOf cycled (cycle lent) .block ≡ replicate samples (pos 16384))

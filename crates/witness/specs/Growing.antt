@@ -54,13 +54,17 @@ ceiling = 32767
 abbrev pub low : ℕ
 low = 10000
 
+-- the instrument that is chosen for the keyboard
+abbrev pub chosen : ℕ
+chosen = 1
+
 -- The orchestra is accepted with that tree. The plain player of the line, with these notes, answers 0 with a block of 8,192 in cycle 0 and of
 -- 16,384 in cycle 1: not silence, not the first block again.
 pub record Sounds {S : Type 0} (v : Voices S) : Type 0 where
   pub accepted : Accepted bytes tree
-  pub first : (answerAt v (settings ceiling) (line ∷ []) 0 ≡ 0)
-      × (blockAt v (settings ceiling) (line ∷ []) 0 ≡ replicate samples (pos 8192))
-  pub second : (answerAt v (settings ceiling) (line ∷ []) 1 ≡ 0)
-      × (blockAt v (settings ceiling) (line ∷ []) 1 ≡ replicate samples (pos 16384))
+  pub first : (answerAt v (settings ceiling chosen) (line ∷ []) 0 ≡ 0)
+      × (blockAt v (settings ceiling chosen) (line ∷ []) 0 ≡ replicate samples (pos 8192))
+  pub second : (answerAt v (settings ceiling chosen) (line ∷ []) 1 ≡ 0)
+      × (blockAt v (settings ceiling chosen) (line ∷ []) 1 ≡ replicate samples (pos 16384))
   -- at a ceiling of 10,000 the second cycle is held there
-  pub held : blockAt v (settings low) (line ∷ []) 1 ≡ replicate samples (pos low)
+  pub held : blockAt v (settings low chosen) (line ∷ []) 1 ≡ replicate samples (pos low)

@@ -1,3 +1,4 @@
 pub mod Growing
 pub mod Calls
 pub mod Rich
+pub mod Keys

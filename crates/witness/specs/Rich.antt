@@ -25,7 +25,7 @@ use Rattle.written_voices.specs.Voices.{writtenVoices}
 use Rattle.panel.specs.State.{holdsOf}
 use Rattle.panel.specs.declared.Panel.{Panel}
 use Rattle.claims.specs.Claims.{afterOf, panel, fresh, settings}
-use Rattle.witness.specs.Growing.{ceiling}
+use Rattle.witness.specs.Growing.{ceiling, chosen}
 use Rattle.witness.specs.Calls.{lent}
 
 -- instr s1 ( s2 ) { ivar s3 ; asig s4 ; imports ksig s5 ;
@@ -122,11 +122,11 @@ IsRead d handed ls = (reads d handed .answer ≡ Taken) × (reads d handed .line
 
 -- above the plain player's position at the start of cycle 0, which has answered 0 when these lines come
 abbrev pub Later : {S : Type 0} → Voices S → Line → Type 0
-Later v l = above (plainAt v (settings ceiling) lines 0 .plays .position) (l .when)
+Later v l = above (plainAt v (settings ceiling chosen) lines 0 .plays .position) (l .when)
 
 -- a cycle of the plain player: its answer and its block
 abbrev pub Gives : {S : Type 0} → Voices S → ℕ → ℤ → Type 0
-Gives v k x = (answerAt v (settings ceiling) lines k ≡ 0) × (blockAt v (settings ceiling) lines k ≡ replicate samples x)
+Gives v k x = (answerAt v (settings ceiling chosen) lines k ≡ 0) × (blockAt v (settings ceiling chosen) lines k ≡ replicate samples x)
 
 -- the piece, and what its plain player does with these notes
 pub record Rich {S : Type 0} (v : Voices S) : Type 0 where
@@ -141,9 +141,9 @@ pub record Rich {S : Type 0} (v : Voices S) : Type 0 where
   pub first : Gives v 0 (pos 8192)
   pub second : Gives v 1 (pos 16384)
   -- the seventeenth note
-  pub missed : plainAt v (settings ceiling) lines 1 .plays .counts .missed ≡ 1
+  pub missed : plainAt v (settings ceiling chosen) lines 1 .plays .counts .missed ≡ 1
   -- the end is found in cycle 2
-  pub over : answerAt v (settings ceiling) lines 2 ≡ 9
+  pub over : answerAt v (settings ceiling chosen) lines 2 ≡ 9
 
 -- ---- by the panel's own calls
 
@@ -151,14 +151,14 @@ abbrev pub calls : List Call
 calls = bring stick onStick ∷ cycle lent ∷ bring unit inUnit ∷ bring keypad onKeypad ∷ cycle lent ∷ cycle lent ∷ []
 
 abbrev pub moments : List (Moment Panel)
-moments = trace panel (fresh bytes ceiling) calls
+moments = trace panel (fresh bytes ceiling chosen) calls
 
 abbrev pub answersOf : List (Moment Panel) → List (List Answer)
 answersOf ms = each (λ (m : Moment Panel). m .after .answers) ms
 
 -- the panel after some of them
 abbrev pub p1 : Panel
-p1 = afterOf (fresh bytes ceiling) (bring stick onStick) .player
+p1 = afterOf (fresh bytes ceiling chosen) (bring stick onStick) .player
 
 abbrev pub p2 : Panel
 p2 = afterOf p1 (cycle lent) .player
@@ -172,7 +172,7 @@ p4 = afterOf p3 (bring keypad onKeypad) .player
 -- Condition 3's premise is met with lines that come behind a cycle, and so each cycle is the plain player's.
 pub record Walked : Type 0 where
   pub taken : allTaken moments ≡ lines
-  pub inTime : All (InTime panel (writtenVoices tree) (settings ceiling) lines) moments
+  pub inTime : All (InTime panel (writtenVoices tree) (settings ceiling chosen) lines) moments
   pub answers : answersOf moments ≡ one 0 0 ∷ one 0 0 ∷ one 0 0 ∷ one 0 0 ∷ one 0 0 ∷ one 9 0 ∷ []
   pub first : afterOf p1 (cycle lent) .block ≡ replicate samples (pos 8192)
   pub missed : holdsOf p2 .plays .counts .missed ≡ 1

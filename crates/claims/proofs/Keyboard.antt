@@ -1,0 +1,117 @@
+-- What a call at the keyboard leaves, of every panel.
+use mathlib.Core.Path.{_≡_, refl, sym, ap, _∙_}
+use mathlib.Core.Bool.{Bool, true, false, cond}
+use mathlib.Core.List.{List, [], _++_}
+use Prim.Native.Nat.{ℕ, _+_, _≤_, _<_}
+use native.Mathlib.Omega.{arith}
+use lib.ListN.{length, drop, length-append}
+use lib.Seq.{take-append-seam}
+use lib.Dec.{eqb, leb}
+use borrow.Author.Tests.{leb-true, leb-false}
+use Rattle.answer.specs.Numbers.{numberOf, isTaken}
+use Rattle.answer.specs.declared.Answer.{Answer}
+use Rattle.answer.specs.declared.Answer.the-variants as answer
+use Rattle.messages.specs.Writing.{Call, whole, fault}
+use Rattle.messages.specs.Reading.{callOf}
+use Rattle.messages.specs.declared.Message.{Message}
+use Rattle.messages.proofs.Meaning.{one-meaning}
+use Rattle.messages.proofs.Faults.{Kind, is-whole, is-cut, is-not-carried, every-kind}
+use Rattle.players.specs.Calls.{keyboard, one, After, isZero}
+use Rattle.players.proofs.Loops.{length-over}
+use Rattle.keyboard.specs.Keyboard.{mostMessages, messagesIn, behind, pressedIn}
+use Rattle.keyboard.specs.declared.Messages.{Messages}
+use Rattle.keyboard.specs.declared.Pressed.{Pressed}
+use Rattle.panel.specs.State.{withMessages}
+use Rattle.panel.specs.Calls.{playKeysOf}
+use Rattle.panel.specs.declared.Panel.{Panel}
+use Rattle.panel.specs.declared.Played.{Played}
+use Rattle.claims.specs.Claims.{afterOf, TakesKeys, TakenKeys}
+use Rattle.claims.proofs.Doors.{differ}
+
+-- ---- note messages behind those that wait
+
+pub waits-behind : (w : Messages) (ms : List Message) → messagesIn (behind w ms) ≡ messagesIn w ++ ms
+unfolding behind
+waits-behind w ms = take-append-seam (messagesIn w ++ ms) (drop (length (messagesIn w ++ ms)) (w .list))
+
+pub length-behind : (w : Messages) (ms : List Message) → length (w .list) ≡ 64 → length (messagesIn w) + length ms ≤ 64 → length (behind w ms .list) ≡ 64
+unfolding behind
+length-behind w ms long h = length-over (messagesIn w ++ ms) (w .list) (omega (arith, length-append (messagesIn w) ms)) ∙ long
+
+-- ---- what the call leaves
+
+pub data Presses (p : Panel) (bytes : List ℕ) (a : After Panel) : Type 0 where
+  keys-over : p .state .playing .ended ≡ true → a ≡ record { player = p; answers = one 9 0; block = [] } → Presses p bytes a
+  keys-faulty : (f : Answer) → p .state .playing .ended ≡ false → callOf bytes ≡ fault f → eqb (numberOf f) 0 ≡ false
+      → a ≡ record { player = p; answers = one (numberOf f) 0; block = [] } → Presses p bytes a
+  keys-full : (ms : List Message) → p .state .playing .ended ≡ false → callOf bytes ≡ whole ms → mostMessages < length (messagesIn (p .state .messages)) + length ms
+      → a ≡ record { player = p; answers = one 8 0; block = [] } → Presses p bytes a
+  keys-taken : (ms : List Message) → p .state .playing .ended ≡ false → callOf bytes ≡ whole ms → length (messagesIn (p .state .messages)) + length ms ≤ mostMessages
+      → a ≡ record { player = withMessages p (behind (p .state .messages) ms); answers = one 0 0; block = [] } → Presses p bytes a
+
+pub presses : (p : Panel) (bytes : List ℕ) → Presses p bytes (afterOf p (keyboard bytes))
+unfolding afterOf playKeysOf pressedIn withMessages
+presses p bytes = by-end (p .state .playing .ended) refl
+  where
+    w : Messages
+    w = p .state .messages
+
+    out : Bool → Pressed → Played
+    out e r = cond e (record { panel = p; answer = answer.Ended }) (record { panel = withMessages p (r .messages); answer = r .answer })
+
+    left : Bool → Pressed → After Panel
+    left e r = record { player = out e r .panel; answers = one (numberOf (out e r .answer)) 0; block = [] }
+
+    by-room : (ms : List Message) → p .state .playing .ended ≡ false → callOf bytes ≡ whole ms → (b : Bool) → leb (length (messagesIn w) + length ms) mostMessages ≡ b
+        → Presses p bytes (left false (cond b (record { messages = behind w ms; answer = answer.Taken }) (record { messages = w; answer = answer.NoRoom })))
+    by-room ms e q true l = keys-taken ms e q (leb-true (length (messagesIn w) + length ms) mostMessages l) refl
+    by-room ms e q false l = keys-full ms e q (leb-false (length (messagesIn w) + length ms) mostMessages l) refl
+
+    by-call : p .state .playing .ended ≡ false → {c : Call} → callOf bytes ≡ c → Kind c → Presses p bytes (left false (pressedIn w c))
+    by-call e q (is-whole ms) = by-room ms e q (leb (length (messagesIn w) + length ms) mostMessages) refl
+    by-call e q is-cut = keys-faulty answer.CutShort e q refl refl
+    by-call e q is-not-carried = keys-faulty answer.NotCarried e q refl refl
+
+    by-end : (b : Bool) → p .state .playing .ended ≡ b → Presses p bytes (left b (pressedIn w (callOf bytes)))
+    by-end true e = keys-over e refl
+    by-end false e = by-call e refl (every-kind bytes)
+
+pub whole-same : {ms ns : List Message} → whole ms ≡ whole ns → ms ≡ ns
+whole-same {ms} {ns} e = ap list e
+  where
+    list : Call → List Message
+    list (whole xs) = xs
+    list (fault a) = []
+
+pub fault-same : {f g : Answer} → fault f ≡ fault g → f ≡ g
+fault-same {f} {g} e = ap answer-of e
+  where
+    answer-of : Call → Answer
+    answer-of (whole xs) = answer.Taken
+    answer-of (fault a) = a
+
+pub no-fault : {ms : List Message} {f : Answer} → whole ms ≡ fault f → ⊥
+no-fault e = differ (ap is-whole-call e)
+  where
+    is-whole-call : Call → Bool
+    is-whole-call (whole xs) = true
+    is-whole-call (fault a) = false
+
+pub taken-keys : TakenKeys
+unfolding TakenKeys
+taken-keys p bytes ms s t = go (presses p bytes)
+  where
+    zero : {a : After Panel} → afterOf p (keyboard bytes) ≡ a → isZero (a .answers) ≡ true
+    zero x = ap (λ (b : After Panel). isZero (b .answers)) (sym x) ∙ t
+
+    go : Presses p bytes (afterOf p (keyboard bytes)) → TakesKeys p ms (afterOf p (keyboard bytes) .player)
+    go (keys-over e x) = absurd (differ (sym (zero x)))
+    go (keys-faulty f e q z x) = absurd (differ (sym (zero x) ∙ z))
+    go (keys-full ns e q l x) = absurd (differ (sym (zero x)))
+    go (keys-taken ns e q l x) =
+        let same : ns ≡ ms = whole-same (sym q ∙ one-meaning bytes (whole ms) s) in
+        record {
+          messages = behind (p .state .messages) ns;
+          left = ap (λ (a : After Panel). a .player) x;
+          waits = waits-behind (p .state .messages) ns ∙ ap (λ (l : List Message). messagesIn (p .state .messages) ++ l) same;
+        }

@@ -1,0 +1,215 @@
+-- The keyboard's piece by the panel's own calls: each answer and each block by its history, computed.
+use mathlib.Core.Path.{_≡_, refl, sym, ap, _∙_, subst, subst⁻¹}
+use mathlib.Core.Bool.{true, cond}
+use mathlib.Core.List.{List, [], _∷_}
+use native.Mathlib.Omega.{arith}
+use Prim.Native.Nat.{ℕ, _+_, _≤_}
+use lib.IntN.{ℤ, pos}
+use lib.ListN.{length, replicate}
+use lib.Ieee.{binary32, ofBits, ofInt, toBits, fits, size, add, mul, div, round, lt, le, eq}
+use Rattle.answer.specs.declared.Answer.the-variants.{Taken}
+use Rattle.tokens.specs.declared.Token.{Token}
+use Rattle.tokens.specs.declared.Token.the-variants.{Symbol, Sign}
+use Rattle.tokens.specs.Spelling.{allLawful, spelt, bytesOf}
+use Rattle.tokens.specs.Measures.{opened, since, bracketsKept, stretchesKept}
+use Rattle.syntax.specs.Names.{named, namedBy, has, apart, knownIn, known, eachKept}
+use Rattle.syntax.specs.Placed.{placeFrom, putIn, put}
+use Rattle.syntax.specs.Rates.{rateOf, rate, ratesKept, rateRules}
+use Rattle.syntax.specs.Grammar.{named as a·name}
+use Rattle.syntax.specs.Grammar.{none, out, one as one·name, more, some as some·fields, none as no·decls, is, Orchestra, last}
+use Rattle.orchestra.specs.Verdict.{Sized, Accepted}
+use Rattle.meaning.specs.Placed.{value, assigned, outputs, pass, fresh as freshValues, birth, kPass, aPasses, cycle as noteCycle}
+use Rattle.keys.specs.Keys.{shared, loudnessOf}
+use Rattle.messages.specs.Message as message
+use Rattle.messages.specs.Writing as midi
+use Rattle.messages.specs.Reading as reading
+use Rattle.messages.specs.declared.Message.{Message}
+use Rattle.messages.proofs.Meaning.{every-call}
+use Rattle.players.specs.Lists.{keep, fold, each}
+use Rattle.players.specs.Cycle.{isDue, insert, ordered, anyEnd, lastTempo, samples, limited, joinedBy, goesOn, isHeld, letGoOldest, started, controlled, pressed as born, afterMessage, afterMessages, runFrom, runAll}
+use Rattle.players.specs.Holds.{Holds, behind, withMessages, sixty, dueAt, laterThan, dueOf, endsBy, answerOf, startedOf, soundsOf, bandOf, blockOf, played, cycled, settingsOf}
+use Rattle.players.specs.Plain.{plainStart}
+use Rattle.players.specs.Results.{here as some-here}
+use Rattle.float32.specs.Limit.{held, sampleOf}
+use Rattle.timebase.specs.Time.{cycleOf, cycleIn}
+use Rattle.voices.specs.Tree.{silent, instrumentOf, importsOf, treeVoices}
+use Rattle.players.specs.Calls.{Call, keyboard, cycle, wholeMessages, Answer, one, isZero, takenOf, traceFrom, afterAll}
+use Rattle.players.specs.History.{History, nowhere, withCycle, historyFrom}
+use Rattle.claims.specs.Verdict.{keysTaken, plays, Verdict}
+use Rattle.claims.specs.Claims.{afterOf, Given, settings, past, panelAfter, CallVerdict}
+use Rattle.claims.proofs.Answers.{call-verdict}
+use Rattle.claims.proofs.Past.{block-by-place}
+use Rattle.sounding.specs.Voices.{Held}
+use Rattle.witness.specs.Growing.{ceiling, chosen}
+use Rattle.witness.specs.Calls.{lent}
+use Rattle.witness.specs.Keys.{bytes, tree, pressed, letGo, p0, p1, p2, p3, p4, Sounds, Pressed}
+
+tokens : List Token
+tokens =
+    Sign 1 ∷ Symbol 1 ∷ Sign 15 ∷ Symbol 2 ∷ Sign 19 ∷ Symbol 3 ∷ Sign 16 ∷ Sign 17 ∷ Sign 6 ∷ Sign 15 ∷ Symbol 3 ∷ Sign 16 ∷ Sign 20 ∷ Sign 18 ∷ []
+
+sized : Sized bytes tokens
+unfolding tokens allLawful spelt bytesOf opened since bracketsKept stretchesKept ofBits toBits fits size
+sized = record { short = omega arith; spells = record { listed = refl; spelt = refl }; within = refl }
+
+derived : Orchestra tree tokens
+unfolding tokens
+derived = last (is 1 (some·fields (more 2 (one·name 3))) no·decls (out (a·name 3) none))
+
+accepted : Accepted bytes tree
+unfolding named namedBy has apart knownIn known eachKept rateOf rate ratesKept rateRules
+accepted = record { tokens = tokens; sized = sized; derived = derived; named = refl; rated = refl }
+
+given : Given bytes tree ceiling chosen
+given = record { accepted = accepted; low = omega arith; high = omega arith; there = some-here refl }
+
+-- ---- the two messages
+
+abbrev on : Message
+on = record { on = true; channel = 0; key = 69; velocity = 64 }
+
+abbrev off : Message
+off = message.noteOff 0 69
+
+messages-are : (reading.callOf pressed ≡ midi.whole (on ∷ [])) × (reading.callOf letGo ≡ midi.whole (off ∷ []))
+unfolding reading.callOf reading.callFrom reading.stepped reading.begun reading.given reading.resumed message.dataBytes message.heard message.noteOn midi.before
+messages-are = (refl, refl)
+
+said-on : midi.Says message.none pressed (midi.whole (on ∷ []))
+said-on = subst (midi.Says message.none pressed) (messages-are .0) (every-call pressed)
+
+said-off : midi.Says message.none letGo (midi.whole (off ∷ []))
+said-off = subst (midi.Says message.none letGo) (messages-are .1) (every-call letGo)
+
+-- ---- histories
+
+-- one message behind
+after-message : Message → History Held → History Held
+after-message m h = record { holds = withMessages (m ∷ []) (behind [] (h .holds)); reached = h .reached }
+
+begin : History Held
+begin = record { holds = plainStart (settings ceiling chosen 0) []; reached = nowhere }
+
+h1 : History Held
+h1 = after-message on begin
+
+h2 : History Held
+h2 = withCycle (treeVoices tree) (settings ceiling chosen) 0 h1
+
+h3 : History Held
+h3 = after-message off h2
+
+h4 : History Held
+h4 = withCycle (treeVoices tree) (settings ceiling chosen) 1 h3
+
+-- the block of the next cycle
+abbrev block : History Held → List ℤ
+block h = blockOf (treeVoices tree) (settingsOf ceiling chosen) (dueOf (h .holds)) (h .holds .plays)
+
+one-more : 1 ≤ 64
+one-more = omega arith
+
+record Computed : Type 0 where
+  on : Verdict tree begin (keyboard pressed) 0 0
+  first : Verdict tree h1 (cycle lent) 0 0
+  off : Verdict tree h2 (keyboard letGo) 0 0
+  last : Verdict tree h3 (cycle lent) 0 0
+  gone : Verdict tree h4 (cycle lent) 0 0
+  first-block : block h1 ≡ replicate samples (pos 16384)
+  last-block : block h3 ≡ replicate samples (pos 16384)
+  gone-block : block h4 ≡ replicate samples (pos 0)
+
+computed : Computed
+unfolding h4 h3 h2 h1 begin after-message behind withMessages answerOf blockOf limited bandOf soundsOf startedOf afterMessages afterMessage born runAll runFrom started controlled dueAt laterThan cycled plainStart sixty endsBy anyEnd played goesOn isHeld letGoOldest lastTempo cycleIn cycleOf keep fold each isDue insert ordered joinedBy shared loudnessOf treeVoices instrumentOf importsOf silent sampleOf held noteCycle kPass aPasses pass outputs assigned value freshValues birth put putIn namedBy named placeFrom add mul div round ofBits ofInt lt le eq
+computed =
+    record {
+      on = keysTaken (on ∷ []) refl said-on one-more;
+      first = plays refl refl refl;
+      off = keysTaken (off ∷ []) refl said-off one-more;
+      last = plays refl refl refl;
+      gone = plays refl refl refl;
+      first-block = refl;
+      last-block = refl;
+      gone-block = refl;
+    }
+
+-- a keyboard call that is taken, in its history
+presses : {h h′ : History Held} → h ≡ h′ → {given : List Answer} → given ≡ one 0 0 → {c : midi.Call} {m : Message} → c ≡ midi.whole (m ∷ [])
+    → record { holds = withMessages (cond (isZero given) (wholeMessages c) []) (behind (takenOf ([] ∷ []) given) (h .holds)); reached = h .reached } ≡ after-message m h′
+unfolding after-message
+presses e a q =
+    (λ i. record { holds = withMessages (cond (isZero (a i)) (wholeMessages (q i)) []) (behind (takenOf ([] ∷ []) (a i)) (e i .holds)); reached = e i .reached })
+
+-- ---- one call after the other
+
+on-answer : afterOf p0 (keyboard pressed) .answers ≡ one 0 0
+unfolding CallVerdict afterAll historyFrom traceFrom begin
+on-answer = call-verdict bytes tree ceiling chosen given [] (keyboard pressed) .1 0 0 (computed .on)
+
+past-on : past bytes tree ceiling chosen (keyboard pressed ∷ []) ≡ h1
+unfolding historyFrom traceFrom h1 begin
+past-on = presses refl on-answer (messages-are .0)
+
+first-answer : afterOf p1 (cycle lent) .answers ≡ one 0 0
+unfolding CallVerdict afterAll
+first-answer =
+    call-verdict bytes tree ceiling chosen given (keyboard pressed ∷ []) (cycle lent) .1 0 0
+    (subst⁻¹ (λ (h : History Held). Verdict tree h (cycle lent) 0 0) past-on (computed .first))
+
+first-block : afterOf p1 (cycle lent) .block ≡ replicate samples (pos 16384)
+unfolding afterAll
+first-block = block-by-place bytes tree ceiling chosen given (keyboard pressed ∷ []) lent (ap isZero first-answer) ∙ ap block past-on ∙ computed .first-block
+
+past-first : past bytes tree ceiling chosen (keyboard pressed ∷ cycle lent ∷ []) ≡ h2
+unfolding historyFrom traceFrom h2
+past-first = ap (withCycle (treeVoices tree) (settings ceiling chosen) 0) past-on
+
+off-answer : afterOf p2 (keyboard letGo) .answers ≡ one 0 0
+unfolding CallVerdict afterAll
+off-answer =
+    call-verdict bytes tree ceiling chosen given (keyboard pressed ∷ cycle lent ∷ []) (keyboard letGo) .1 0 0
+    (subst⁻¹ (λ (h : History Held). Verdict tree h (keyboard letGo) 0 0) past-first (computed .off))
+
+abbrev calls : List Call
+calls = keyboard pressed ∷ cycle lent ∷ keyboard letGo ∷ []
+
+past-off : past bytes tree ceiling chosen calls ≡ h3
+unfolding historyFrom traceFrom h3
+past-off = presses past-first off-answer (messages-are .1)
+
+last-answer : afterOf p3 (cycle lent) .answers ≡ one 0 0
+unfolding CallVerdict afterAll
+last-answer =
+    call-verdict bytes tree ceiling chosen given calls (cycle lent) .1 0 0
+    (subst⁻¹ (λ (h : History Held). Verdict tree h (cycle lent) 0 0) past-off (computed .last))
+
+last-block : afterOf p3 (cycle lent) .block ≡ replicate samples (pos 16384)
+unfolding afterAll
+last-block = block-by-place bytes tree ceiling chosen given calls lent (ap isZero last-answer) ∙ ap block past-off ∙ computed .last-block
+
+past-last : past bytes tree ceiling chosen (keyboard pressed ∷ cycle lent ∷ keyboard letGo ∷ cycle lent ∷ []) ≡ h4
+unfolding historyFrom traceFrom h4
+past-last = ap (withCycle (treeVoices tree) (settings ceiling chosen) 1) past-off
+
+gone-answer : afterOf p4 (cycle lent) .answers ≡ one 0 0
+unfolding CallVerdict afterAll
+gone-answer =
+    call-verdict bytes tree ceiling chosen given (keyboard pressed ∷ cycle lent ∷ keyboard letGo ∷ cycle lent ∷ []) (cycle lent) .1 0 0
+    (subst⁻¹ (λ (h : History Held). Verdict tree h (cycle lent) 0 0) past-last (computed .gone))
+
+gone-block : afterOf p4 (cycle lent) .block ≡ replicate samples (pos 0)
+unfolding afterAll
+gone-block =
+    block-by-place bytes tree ceiling chosen given (keyboard pressed ∷ cycle lent ∷ keyboard letGo ∷ cycle lent ∷ []) lent (ap isZero gone-answer)
+    ∙ ap block past-last ∙ computed .gone-block
+
+pub key-heard : Pressed
+key-heard =
+    record {
+      accepted = accepted;
+      on = on-answer;
+      first = (first-answer, first-block);
+      off = off-answer;
+      last = (last-answer, last-block);
+      gone = (gone-answer, gone-block);
+    }
