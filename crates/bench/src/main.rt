@@ -1,17 +1,15 @@
 // 16 notes of one fixed tone for 1,000 cycles, and a checksum of the samples. The orchestra is bench/tone.orc.
+use answer::Answer;
+use panel::Cycled;
 use panel::Panel;
 
 const CYCLES: u32 = 1000;
-
-struct Heard {
-    panel: Panel,
-    sum: u32,
-}
 
 fn started() -> Panel {
     let f = Panel::fresh(
         b"\x01\xf0\x00\x00\x0f\xf0\x00\x01\x10\x11\x02\xf0\x00\x02\x14\x04\xf0\x00\x03\x14\xf0\x00\x02\x15\xf0\x00\x01\x23\xf2\x00\x00\x7d\x00\x14\xf0\x00\x03\x15\xf0\x00\x03\x20\xf0\x00\x02\x14\x07\x0f\xf0\x00\x03\x1f\xf2\x00\x00\x00\x01\x10\x11\xf0\x00\x03\x15\xf0\x00\x03\x21\xf2\x00\x00\x00\x01\x14\x12\x06\x0f\xf0\x00\x03\x22\x0f\xf2\x00\x00\x00\x01\x21\xf0\x00\x03\x10\x22\xf1\x3e\x80\x00\x00\x10\x14\x12\xff",
         32767,
+        0,
     );
     f.panel
 }
@@ -33,28 +31,20 @@ fn with_notes(panel: Panel) -> Panel {
     p
 }
 
-fn one_cycle(h: Heard) -> Heard {
-    let mut block = [0i16; 320];
-    let old = h.panel;
-    let r = Panel::cycle(old, &mut block);
-    let panel = r.panel;
-    Heard {
-        panel: panel,
-        sum: ports::checked_sum(h.sum, &block),
-    }
-}
-
 fn played(panel: Panel) -> u32 {
-    let mut h = Heard {
+    let mut r = Cycled {
         panel: panel,
-        sum: 0,
+        answer: Answer::Taken,
     };
+    let mut sum: u32 = 0;
     let mut left = CYCLES;
     while left > 0 {
-        h = one_cycle(h);
+        let mut block = [0i16; 320];
+        r = Panel::cycle(r.panel, &mut block);
+        sum = ports::checked_sum(sum, &block);
         left -= 1;
     }
-    h.sum
+    sum
 }
 
 fn main() {

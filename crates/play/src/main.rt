@@ -57,9 +57,9 @@ fn with_score(panel: Panel, path: &[u8], out: &[u8]) {
     with_buffer(panel, path, &buffer, n, out);
 }
 
-// A fresh start refuses a number outside its range only of the ceiling.
+// A fresh start refuses a number outside its range only of the ceiling. No keyboard plays here: the first instrument is chosen.
 fn with_orchestra(bytes: &[u8], ceiling: u32, path: &[u8], score: &[u8], out: &[u8]) {
-    let f = Panel::fresh(bytes, ceiling);
+    let f = Panel::fresh(bytes, ceiling, ports::first_instrument(bytes));
     let a = f.answer;
     if answer::is_taken(a) {
         let panel = f.panel;

@@ -30,6 +30,10 @@ pub record Put (old : List ℕ) (at : ℕ) (bytes : List ℕ) (new : List ℕ) (
   pub laid : new ≡ sets old at bytes
   pub behind : next ≡ at + min (length bytes) (length old - at)
 
+-- the number of two bytes that stand at a place, the most significant first; past the end there are zeros
+abbrev pub symbolAt : List ℕ → ℕ → ℕ
+symbolAt l at = getD l at 0 * 256 + getD l (at + 1) 0
+
 -- the number of four bytes that stand at a place, the most significant first; past the end there are zeros
 unfoldable pub wordAt : List ℕ → ℕ → ℕ
 wordAt l at = ((getD l at 0 * 256 + getD l (at + 1) 0) * 256 + getD l (at + 2) 0) * 256 + getD l (at + 3) 0

@@ -4,7 +4,7 @@ ghost use mathlib.Core.Path.{_≡_};
 ghost use mathlib.Core.List.{[], _∷_};
 ghost use Prim.Native.Nat.{_+_, _*_, _<_};
 ghost use lib.ListN.{length, getD};
-ghost use Rattle.ports.specs.Bytes.{bigEndian, littleEndian, sampleBits as bitsOf, joined, Put, wordAt, wordsOf, checksum};
+ghost use Rattle.ports.specs.Bytes.{bigEndian, littleEndian, sampleBits as bitsOf, joined, Put, symbolAt, wordAt, wordsOf, checksum};
 ghost use Rattle.ports.specs.Decimal.{digitsAfter, decimal};
 
 // ---- numbers in lent memory
@@ -42,6 +42,21 @@ pub fn word_at(s: &[u8], at: usize) -> u32
     let c = byte_after(s, at, 2);
     let d = byte_after(s, at, 3);
     appended(appended(appended(a as u32, b), c), d)
+}
+
+pub fn symbol_at(s: &[u8], at: usize) -> u16
+    ensures { λ r. ⌜ r ≡ symbolAt (now (s .entry)) at ⌝ }
+{
+    let a = byte_at(s, at);
+    let b = byte_after(s, at, 1);
+    (a as u16) * 256 + (b as u16)
+}
+
+// The name of an orchestra's first instrument: it stands behind the token instr and the byte that tells a symbol.
+pub fn first_instrument(orchestra: &[u8]) -> u16
+    ensures { λ r. ⌜ r ≡ symbolAt (now (orchestra .entry)) 2 ⌝ }
+{
+    symbol_at(orchestra, 2)
 }
 
 // Stores a byte, and answers the place after it.

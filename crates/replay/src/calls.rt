@@ -30,7 +30,7 @@ fn left(panel: Panel, present: bool, used: usize) -> Done {
 
 // Before the first fresh start: a refused one's panel stands in, and no call reaches it.
 pub fn no_panel() -> Session {
-    let f = Panel::fresh(b"", 0);
+    let f = Panel::fresh(b"", 0, 0);
     let panel = f.panel;
     Session {
         panel: panel,
@@ -51,8 +51,8 @@ fn word_of(n: usize) -> u32 {
     (n % 4294967296) as u32
 }
 
-fn fresh(bytes: &[u8], ceiling: u32, out: &mut [u8], used: usize) -> Done {
-    let f = Panel::fresh(bytes, ceiling);
+fn fresh(bytes: &[u8], ceiling: u32, chosen: u16, out: &mut [u8], used: usize) -> Done {
+    let f = Panel::fresh(bytes, ceiling, chosen);
     let a = f.answer;
     let panel = f.panel;
     let next = put_answer(out, used, a);
@@ -70,6 +70,15 @@ fn whole(r: Brought, out: &mut [u8], used: usize) -> Done {
 }
 
 fn single(r: Brought, out: &mut [u8], used: usize) -> Done {
+    let a = r.answer;
+    let after = r.panel;
+    let one = put_answer(out, used, a);
+    let next = put_missed(out, one, after);
+    left(after, true, next)
+}
+
+fn keys(panel: Panel, bytes: &[u8], out: &mut [u8], used: usize) -> Done {
+    let r = Panel::play_keys(panel, bytes);
     let a = r.answer;
     let after = r.panel;
     let one = put_answer(out, used, a);
@@ -236,6 +245,7 @@ fn on_panel(
         b'S' => whole(Panel::load_score(panel, bytes), out, used),
         b'T' => whole(Panel::load_text(panel, bytes), out, used),
         b'U' => single(Panel::receive_unit(panel, bytes), out, used),
+        b'M' => keys(panel, bytes, out, used),
         b'K' => keypad(panel, bytes, count, out, used),
         _ => cycle(panel, count, out, used),
     }
@@ -243,7 +253,7 @@ fn on_panel(
 
 fn needs_panel(code: u8) -> bool {
     match code {
-        b'S' | b'T' | b'U' | b'K' | b'C' => true,
+        b'S' | b'T' | b'U' | b'K' | b'M' | b'C' => true,
         _ => false,
     }
 }
@@ -252,7 +262,7 @@ fn dispatch(s: Session, r: Record, bytes: &[u8], out: &mut [u8], used: usize) ->
     let count = r.count as usize;
     let panel = s.panel;
     if r.code == b'F' {
-        return fresh(bytes, r.first, out, used);
+        return fresh(bytes, r.first, r.symbol, out, used);
     }
     if needs_panel(r.code) {
         if s.present {

@@ -1,4 +1,4 @@
-// The fields of a record: a code, then, as its kind has them, a first number, a count, that many items, and a room.
+// The fields of a record: a code, then, as its kind has them, a first number, a symbol, a count, that many items, and a room.
 use ports::Port;
 
 pub enum Fault {
@@ -13,6 +13,7 @@ pub struct Record {
     pub port: Port,
     pub code: u8,
     pub first: u32,
+    pub symbol: u16,
     pub count: u32,
     pub room: u32,
     pub fault: Fault,
@@ -39,7 +40,8 @@ fn dry(p: Port) -> Fault {
 
 fn is_known(code: u8) -> bool {
     match code {
-        b'F' | b'S' | b'T' | b'U' | b'K' | b'C' | b'D' | b'd' | b'E' | b'W' | b'w' | b'X' => true,
+        b'F' | b'S' | b'T' | b'U' | b'K' | b'M' | b'C' | b'D' | b'd' | b'E' | b'W' | b'w' | b'X' =>
+            true,
         _ => false,
     }
 }
@@ -126,11 +128,43 @@ fn number(p: Port, wanted: bool, most: u32, otherwise: u32, input: &mut [u8], ou
     }
 }
 
+struct Choice {
+    port: Port,
+    value: u16,
+    fault: Fault,
+}
+
+// A fresh start has the symbol of the chosen instrument; the other kinds have none.
+fn two_bytes(p: Port, wanted: bool, input: &mut [u8], out: &[u8]) -> Choice {
+    if !wanted {
+        return Choice {
+            port: p,
+            value: 0,
+            fault: Fault::Whole,
+        };
+    }
+    let mut two = [0u8; 2];
+    let q = ports::receive(p, input, out, &mut two, 2);
+    if q.dry {
+        return Choice {
+            port: q,
+            value: 0,
+            fault: dry(q),
+        };
+    }
+    Choice {
+        port: q,
+        value: ports::symbol_at(&two, 0),
+        fault: Fault::Whole,
+    }
+}
+
 fn stopped(p: Port, fault: Fault, ended: bool) -> Record {
     Record {
         port: p,
         code: 0,
         first: 0,
+        symbol: 0,
         count: 0,
         room: 0,
         fault: fault,
@@ -143,6 +177,7 @@ fn items(
     p: Port,
     code: u8,
     first: u32,
+    symbol: u16,
     count: u32,
     input: &mut [u8],
     out: &[u8],
@@ -159,6 +194,7 @@ fn items(
         port: port,
         code: code,
         first: first,
+        symbol: symbol,
         count: count,
         room: room.value,
         fault: fault,
@@ -166,13 +202,32 @@ fn items(
     }
 }
 
-// What follows the first number.
-fn counted(p: Port, code: u8, first: u32, input: &mut [u8], out: &[u8], data: &mut [u8]) -> Record {
+// What follows the symbol.
+fn counted(
+    p: Port,
+    code: u8,
+    first: u32,
+    symbol: u16,
+    input: &mut [u8],
+    out: &[u8],
+    data: &mut [u8],
+) -> Record {
     let count = number(p, code != b'w', most_count(code), 1, input, out);
     let fault = count.fault;
     let port = count.port;
     if is_whole(fault) {
-        return items(port, code, first, count.value, input, out, data);
+        return items(port, code, first, symbol, count.value, input, out, data);
+    }
+    stopped(port, fault, false)
+}
+
+// What follows the first number.
+fn named(p: Port, code: u8, first: u32, input: &mut [u8], out: &[u8], data: &mut [u8]) -> Record {
+    let s = two_bytes(p, code == b'F', input, out);
+    let fault = s.fault;
+    let port = s.port;
+    if is_whole(fault) {
+        return counted(port, code, first, s.value, input, out, data);
     }
     stopped(port, fault, false)
 }
@@ -183,7 +238,7 @@ fn body(p: Port, code: u8, input: &mut [u8], out: &[u8], data: &mut [u8]) -> Rec
     let fault = first.fault;
     let port = first.port;
     if is_whole(fault) {
-        return counted(port, code, first.value, input, out, data);
+        return named(port, code, first.value, input, out, data);
     }
     stopped(port, fault, false)
 }

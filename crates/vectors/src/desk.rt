@@ -29,7 +29,7 @@ fn left(d: Desk, panel: Panel, got: u64) -> Desk {
 
 // No piece yet: a refused start's panel stands in.
 pub fn bare() -> Desk {
-    let f = Panel::fresh(b"", 0);
+    let f = Panel::fresh(b"", 0, 0);
     let panel = f.panel;
     Desk {
         fresh: panel,
@@ -61,7 +61,7 @@ fn bytes_of(numbers: &[u32]) -> [u8; 512]
 // ---- calls on the panel
 
 fn piece(ceiling: u32, bytes: &[u8]) -> Desk {
-    let f = Panel::fresh(bytes, ceiling);
+    let f = Panel::fresh(bytes, ceiling, ports::first_instrument(bytes));
     let a = f.answer;
     let panel = f.panel;
     Desk {
@@ -71,11 +71,23 @@ fn piece(ceiling: u32, bytes: &[u8]) -> Desk {
     }
 }
 
-fn fresh(d: Desk, ceiling: u32, bytes: &[u8]) -> Desk {
-    let f = Panel::fresh(bytes, ceiling);
+fn begun(d: Desk, ceiling: u32, chosen: u16, bytes: &[u8]) -> Desk {
+    let f = Panel::fresh(bytes, ceiling, chosen);
     let a = f.answer;
     let panel = f.panel;
     left(d, panel, number(a))
+}
+
+fn fresh(d: Desk, ceiling: u32, bytes: &[u8]) -> Desk {
+    begun(d, ceiling, ports::first_instrument(bytes), bytes)
+}
+
+fn keyboard(d: Desk, bytes: &[u8]) -> Desk {
+    let panel = d.panel;
+    let r = Panel::play_keys(panel, bytes);
+    let a = r.answer;
+    let after = r.panel;
+    left(d, after, number(a))
 }
 
 fn stick(d: Desk, bytes: &[u8]) -> Desk {
@@ -229,6 +241,8 @@ enum Call {
     TextLine,
     Unit,
     Keypad,
+    Keyboard,
+    Choose,
     Cycle,
     Missed,
     Silent,
@@ -266,6 +280,12 @@ fn on_panel(text: &[u8], h: Head) -> Call {
     }
     if text::is_name(text, h, b"keypad") {
         return Call::Keypad;
+    }
+    if text::is_name(text, h, b"keyboard") {
+        return Call::Keyboard;
+    }
+    if text::is_name(text, h, b"choose") {
+        return Call::Choose;
     }
     if text::is_name(text, h, b"cycle") {
         return Call::Cycle;
@@ -318,6 +338,13 @@ fn ceiling_of(size: usize) -> u32 {
     (size % 4294967296) as u32
 }
 
+fn symbol_of(size: usize) -> u16 {
+    (size % 65536) as u16
+}
+
+// The ceiling where a case chooses an instrument.
+const HIGHEST: u32 = 32767;
+
 fn got(d: Desk, n: u64) -> Desk {
     let panel = d.panel;
     left(d, panel, n)
@@ -334,6 +361,8 @@ fn called(d: Desk, c: Call, size: usize, bytes: &[u8], numbers: &[u32]) -> Desk 
         Call::TextLine => typed_line(d, bytes),
         Call::Unit => unit(d, bytes),
         Call::Keypad => keypad(d, numbers),
+        Call::Keyboard => keyboard(d, bytes),
+        Call::Choose => begun(d, HIGHEST, symbol_of(size), bytes),
         Call::Cycle => cycle(d, size),
         Call::Missed => missed(d),
         Call::Silent => silent(d),
