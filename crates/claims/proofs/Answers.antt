@@ -1,7 +1,7 @@
 -- What each call answers, by its history.
 use mathlib.Core.Path.{_≡_, refl, sym, ap, _∙_, subst, subst⁻¹}
 use mathlib.Core.Bool.{Bool, true, false, not, cond, _&&_, _||_}
-use mathlib.Core.List.{List, [], _∷_, _++_, map}
+use mathlib.Core.List.{List, [], _∷_, _++_, map, append-nil}
 use Prim.Native.Nat.{ℕ, suc, _+_, _≤_, _<_}
 use native.Mathlib.Omega.{arith}
 use lib.IntN.{ℤ}
@@ -34,8 +34,9 @@ use Rattle.syntax.specs.Names.{has, titleOf}
 use Rattle.voices.specs.Tree.{instrumentOf, fieldsOf}
 use Rattle.voices.proofs.Lines.{fields-tree}
 use Rattle.sounding.specs.Voices.{Held, fieldsIn}
-use Rattle.players.specs.Holds.{dueOf, endsBy}
-use Rattle.players.specs.Calls.{Door, stick, unit, keypad, text, mustBeTimed, hasTime, reads, Call, bring, cycle, Answer, one, After, numbered, keyboard}
+use Rattle.players.specs.Lists.{each}
+use Rattle.players.specs.Holds.{behind, dueOf, endsBy}
+use Rattle.players.specs.Calls.{Door, stick, unit, keypad, text, mustBeTimed, hasTime, reads, Call, bring, burst, cycle, Answer, one, After, numbered, keyboard}
 use Rattle.players.specs.History.{Reached, nowhere, at, History}
 use Rattle.players.proofs.Lists.{cond-true, cond-false}
 use Rattle.waiting.specs.Waiting.{isLate}
@@ -47,15 +48,19 @@ use Rattle.waiting.specs.declared.Admitted.{Admitted}
 use Rattle.waiting.proofs.Admission.{admit-unfit, admit-late, admit-taken, admit-full, waiting-pushed, length-pushed}
 use Rattle.entrances.specs.Entrances.{lineIn, pushedAll, broughtIn}
 use Rattle.entrances.specs.declared.Pushed.{Pushed}
-use Rattle.panel.specs.State.{tableOf, withQueue}
-use Rattle.panel.specs.Calls.{broughtOf, bringOf}
+use Rattle.panel.specs.State.{tableOf, holdsOf, withQueue}
+use Rattle.bursts.specs.Bursts as bursts
+use Rattle.bursts.specs.Bursts.{Burst, units, mostUnits}
+use Rattle.bursts.proofs.Meaning as burst-kinds
+use Rattle.bursts.proofs.Meaning.{every-burst, every-kind as every-kind-of-burst}
+use Rattle.panel.specs.Calls.{broughtOf, bringOf, singly}
 use Rattle.panel.specs.declared.Panel.{Panel}
-use Rattle.panel.specs.declared.Brought.{Brought}
 use Rattle.loader.specs.declared.Program.{Program}
 use Rattle.loader_claims.specs.Claims.{StandsFor}
-use Rattle.claims.specs.Verdict.{HasFields, here, there, Playable, tooLate, mostLines, Fits, AllFit, Faulty, untimed, unplayable, late, full, Verdict, AtDoor, AtCycle, over, badText, cut, notCarried, outOfRange, tooManyValues, leftOver, faulty, taken, otherLength, overBefore, findsEnd, plays, AtKeyboard, mostMessages, keysOver, keysCut, keysNotCarried, keysFull, keysTaken}
-use Rattle.claims.specs.Claims.{afterOf, past, panelAfter, CallVerdict}
-use Rattle.claims.proofs.Doors.{differ, differ′}
+use Rattle.claims.specs.Verdict.{HasFields, here, there, Playable, tooLate, mostLines, Fits, AllFit, Faulty, untimed, unplayable, late, full, Verdict, AtDoor, AtCycle, over, badText, cut, notCarried, outOfRange, tooManyValues, leftOver, faulty, taken, otherLength, overBefore, findsEnd, plays, AtKeyboard, mostMessages, keysOver, keysCut, keysNotCarried, keysFull, keysTaken, withLines, InTurn, none, next, AtBurst, burstCut, burstTooLong, burstNoRoom, burstTaken, once}
+use Rattle.claims.specs.Claims.{unitAnswer, afterOf, reachedOf, BurstCall, BurstAsUnits, past, panelAfter, CallVerdict}
+use Rattle.claims.proofs.Doors.{differ, differ′, Brings, takes, refuses, brings}
+use Rattle.claims.proofs.Bursts.{unit-line, singly-answers, burst-as-units}
 use Rattle.messages.specs.Message.{none as noStatus}
 use Rattle.messages.specs.Writing as midi
 use Rattle.messages.specs.Writing.{Says}
@@ -87,16 +92,12 @@ answers-are p d b = go (p .state .playing .ended) (isTaken (reads d b .answer))
     r : Pushed
     r = pushedAll (mustBeTimed d) (tableOf (p .program)) (p .state .queue) (p .state .queue) 0 (reads d b .lines)
 
-    in-it : Bool → Pushed
-    in-it t = cond t r (record { queue = p .state .queue; answer = reads d b .answer; line = reads d b .line })
-
-    out : Bool → Bool → Brought
+    out : Bool → Bool → Pushed
     out e t =
-        cond e (record { panel = p; answer = answer.Ended; line = 0 })
-        (record { panel = withQueue p (in-it t .queue); answer = in-it t .answer; line = in-it t .line })
+        cond e (record { queue = p .state .queue; answer = answer.Ended; line = 0 })
+        (cond t r (record { queue = p .state .queue; answer = reads d b .answer; line = reads d b .line }))
 
-    go : (e t : Bool) → one (numberOf (out e t .answer)) (out e t .line)
-        ≡ cond e (one 9 0) (cond t (told r) (one (numberOf (reads d b .answer)) (reads d b .line)))
+    go : (e t : Bool) → told (out e t) ≡ cond e (one 9 0) (cond t (told r) (one (numberOf (reads d b .answer)) (reads d b .line)))
     go true t = refl
     go false true = refl
     go false false = refl
@@ -425,7 +426,7 @@ module _ (is : List Instrument) (p : Panel) (r : StandsFor is (p .program)) (lon
       go (plays w e y) (ends u f d x) = absurd (differ (sym d ∙ y))
       go (plays w e y) (goes-on u f d x) = ap (λ (a : After Panel). a .answers) x
 
-  at-door-given : (d : Door) (b : List ℕ) (n l : ℕ) → AtDoor is (own p) d b n l → afterOf p (bring d b) .answers ≡ one n l
+  pub at-door-given : (d : Door) (b : List ℕ) (n l : ℕ) → AtDoor is (own p) d b n l → afterOf p (bring d b) .answers ≡ one n l
   at-door-given d b n l (over e) = when-over d b e
   at-door-given d b n l (badText e q) = when-unread d b answer.BadText e q refl
   at-door-given d b n l (cut e q) = when-unread d b answer.CutShort e q refl
@@ -474,18 +475,93 @@ module _ (is : List Instrument) (p : Panel) (r : StandsFor is (p .program)) (lon
           let same = ap length (whole-same (said bytes q s)) in absurd (omega (arith, g, r, same))
       go (keysTaken ns e s g) (keys-taken ms f q r x) = answers x
 
-  pub given : (c : Call) (n l : ℕ) → Verdict is (own p) c n l → afterOf p c .answers ≡ one n l
-  given (bring d b) n l v = at-door-given d b n l v
-  given (keyboard bytes) n l v = at-keyboard-given bytes n l v
-  given (cycle b) n l v = at-cycle-given b n l v
+-- ---- the units of a burst, in turn
+
+-- the panel past a unit: its history has the unit's line where it was taken, and it keeps its program and its 64 places
+pub record Past (p : Panel) (u : List ℕ) (number : ℕ) (q : Panel) : Type 0 where
+  pub is-own : own q ≡ withLines (own p) (cond (eqb number 0) (reads unit u .lines) [])
+  pub has : q .program ≡ p .program
+  pub long : length (q .state .queue .lines) ≡ 64
+
+first-number : List Answer → ℕ
+first-number [] = 0
+first-number (a ∷ given) = a .number
+
+pub past-unit : (p : Panel) → length (p .state .queue .lines) ≡ 64 → (u : List ℕ) → Past p u (numberOf (bringOf p unit u .answer)) (bringOf p unit u .panel)
+unfolding afterOf first-number behind withQueue
+past-unit p long u = go (brings p unit u)
+  where
+    AsTold : After Panel → Type 0
+    AsTold a = Past p u (first-number (a .answers)) (a .player)
+
+    go : Brings p (reads unit u .lines) (afterOf p (bring unit u)) → AsTold (afterOf p (bring unit u))
+    go (takes l q e f x) =
+        let b = f long in
+        subst⁻¹ AsTold x
+        (record {
+          is-own = λ i. record { holds = record { waits = b .waits i; messages = holdsOf p .messages; plays = holdsOf p .plays }; reached = cond (b .ran i) (at (b .last i)) nowhere };
+          has = refl;
+          long = b .long;
+        })
+    go (refuses n l z x) =
+        subst⁻¹ AsTold x
+        (record {
+          is-own = λ i. record { holds = record { waits = (sym (append-nil (holdsOf p .waits)) ∙ ap (λ (t : Bool). holdsOf p .waits ++ cond t (reads unit u .lines) []) (sym z)) i; messages = holdsOf p .messages; plays = holdsOf p .plays }; reached = reachedOf p };
+          has = refl;
+          long = long;
+        })
+
+same-first : {a b : Answer} {xs ys : List Answer} → a ∷ xs ≡ b ∷ ys → a ≡ b
+same-first {a} e = ap first e
+  where
+    first : List Answer → Answer
+    first [] = a
+    first (x ∷ xs) = x
+
+in-turn-given : (is : List Instrument) (us : List (List ℕ)) (p : Panel) → StandsFor is (p .program) → length (p .state .queue .lines) ≡ 64
+    → (given : List Answer) → InTurn is (own p) us given → each unitAnswer (singly p us .numbers) ≡ given
+unfolding singly each afterOf
+in-turn-given is [] p r long given none = refl
+in-turn-given is (u ∷ us) p r long _ (next {number = number} {line = line} {given = given} v rest) =
+    let told-so : one (numberOf (bringOf p unit u .answer)) (bringOf p unit u .line) ≡ one number line = at-door-given is p r long unit u number line v in
+    let a = same-first told-so in
+    let y = past-unit p long u in
+    let number-same : numberOf (bringOf p unit u .answer) ≡ number = ap (λ (x : Answer). x .number) a in
+    let own-is : own (bringOf p unit u .panel) ≡ withLines (own p) (cond (eqb number 0) (reads unit u .lines) []) =
+    y .is-own ∙ ap (λ (n : ℕ). withLines (own p) (cond (eqb n 0) (reads unit u .lines) [])) number-same in
+    let others = in-turn-given is us (bringOf p unit u .panel) (subst⁻¹ (StandsFor is) (y .has) r) (y .long) given (subst⁻¹ (λ (h : History Held). InTurn is h us given) own-is rest) in
+    let alone : unitAnswer (numberOf (bringOf p unit u .answer)) ≡ record { number = number; line = line } =
+    (λ i. record { number = numberOf (bringOf p unit u .answer); line = sym (unit-line p u) i }) ∙ a in
+    λ i. alone i ∷ others i
+
+burst-is : (p : Panel) (bytes area : List ℕ) → BurstCall p bytes area
+unfolding BurstAsUnits
+burst-is p bytes area = burst-as-units p bytes area
+
+at-burst-given : (is : List Instrument) (p : Panel) → StandsFor is (p .program) → length (p .state .queue .lines) ≡ 64
+    → (bytes area : List ℕ) (given : List Answer) → AtBurst is (own p) bytes area given → afterOf p (burst bytes area) .answers ≡ given
+at-burst-given is p r long bytes area _ (burstCut s) = ap (λ (a : After Panel). a .answers) (burst-is p bytes area .cut s)
+at-burst-given is p r long bytes area _ (burstTooLong s) = ap (λ (a : After Panel). a .answers) (burst-is p bytes area .tooLong s)
+at-burst-given is p r long bytes area _ (burstNoRoom us s h) = ap (λ (a : After Panel). a .answers) (burst-is p bytes area .noRoom us s h)
+at-burst-given is p r long bytes area _ (burstTaken us given s h t) =
+    ap (λ (a : After Panel). a .answers) (burst-is p bytes area .taken us s h)
+    ∙ ap (λ (l : List Answer). one 0 0 ++ l) (sym (singly-answers us p) ∙ in-turn-given is us p r long given t)
+
+module _ (is : List Instrument) (p : Panel) (r : StandsFor is (p .program)) (long : length (p .state .queue .lines) ≡ 64) where
+  given : (c : Call) (told : List Answer) → Verdict is (own p) c told → afterOf p c .answers ≡ told
+  given (bring d b) _ (once v) = at-door-given is p r long d b _ _ v
+  given (burst bytes area) told v = at-burst-given is p r long bytes area told v
+  given (keyboard bytes) _ (once v) = at-keyboard-given is p r long bytes _ _ v
+  given (cycle b) _ (once v) = at-cycle-given is p r long b _ _ v
 
 -- ---- every call has a verdict
 
 module _ {S : Type 0} (is : List Instrument) (h : History S) where
-  pub record Decided (c : Call) : Type 0 where
+  -- one answer that a call has
+  pub record Found (P : ℕ → ℕ → Type 0) : Type 0 where
     pub number : ℕ
     pub line : ℕ
-    pub verdict : Verdict is h c number line
+    pub verdict : P number line
 
   module _ (d : Door) where
     data OneLine (n : ℕ) (l : Line) : Type 0 where
@@ -540,17 +616,17 @@ module _ {S : Type 0} (is : List Instrument) (h : History S) where
             let same : suc n + length before ≡ n + suc (length before) = omega arith in
             broken (l ∷ before) x later number (ap (λ (xs : List Line). l ∷ xs) e) (t, u) (subst (λ (k : ℕ). Faulty is d (h .reached) k x number) same f)
 
-    at-door : (handed : List ℕ) → Decided (bring d handed)
+    pub at-door : (handed : List ℕ) → Found (AtDoor is h d handed)
     unfolding Readable
     at-door handed = by-end (h .holds .plays .ended) refl
       where
         by-lines : h .holds .plays .ended ≡ false → reads d handed .answer ≡ answer.Taken → (ls : List Line) → reads d handed .lines ≡ ls
-            → Parted (length (h .holds .waits)) ls → Decided (bring d handed)
+            → Parted (length (h .holds .waits)) ls → Found (AtDoor is h d handed)
         by-lines e q ls s (whole t) = record { number = 0; line = 0; verdict = taken ls (e, q, s) t }
         by-lines e q ls s (broken before l later number x t f) =
             record { number = number; line = length before; verdict = faulty before l later (e, q, s ∙ x) t f }
 
-        by-reading : h .holds .plays .ended ≡ false → (a : kind.Answer) → reads d handed .answer ≡ a → Readable a → Decided (bring d handed)
+        by-reading : h .holds .plays .ended ≡ false → (a : kind.Answer) → reads d handed .answer ≡ a → Readable a → Found (AtDoor is h d handed)
         by-reading e answer.Taken q r = by-lines e q (reads d handed .lines) refl (parted (reads d handed .lines) (length (h .holds .waits)))
         by-reading e answer.CutShort q r = record { number = 1; line = reads d handed .line; verdict = cut e q }
         by-reading e answer.NotCarried q r = record { number = 2; line = reads d handed .line; verdict = notCarried e q }
@@ -571,39 +647,70 @@ module _ {S : Type 0} (is : List Instrument) (h : History S) where
         by-reading e answer.BadText q r = record { number = 18; line = reads d handed .line; verdict = badText e q }
         by-reading e answer.NoText q r = absurd r
 
-        by-end : (b : Bool) → h .holds .plays .ended ≡ b → Decided (bring d handed)
+        by-end : (b : Bool) → h .holds .plays .ended ≡ b → Found (AtDoor is h d handed)
         by-end true e = record { number = 9; line = 0; verdict = over e }
         by-end false e = by-reading e (reads d handed .answer) refl (reads-so d handed .readable)
 
-  at-keyboard : (bytes : List ℕ) → Decided (keyboard bytes)
+  at-keyboard : (bytes : List ℕ) → Found (AtKeyboard is h bytes)
   at-keyboard bytes = by-end (h .holds .plays .ended) refl
     where
-      by-room : (ms : List Message) → h .holds .plays .ended ≡ false → Says noStatus bytes (midi.whole ms) → (b : Bool) → leb (length (h .holds .messages) + length ms) mostMessages ≡ b → Decided (keyboard bytes)
+      by-room : (ms : List Message) → h .holds .plays .ended ≡ false → Says noStatus bytes (midi.whole ms) → (b : Bool) → leb (length (h .holds .messages) + length ms) mostMessages ≡ b → Found (AtKeyboard is h bytes)
       by-room ms e s true q = record { number = 0; line = 0; verdict = keysTaken ms e s (leb-true (length (h .holds .messages) + length ms) mostMessages q) }
       by-room ms e s false q = record { number = 8; line = 0; verdict = keysFull ms e s (leb-false (length (h .holds .messages) + length ms) mostMessages q) }
 
-      by-call : h .holds .plays .ended ≡ false → {c : midi.Call} → Says noStatus bytes c → Kind c → Decided (keyboard bytes)
+      by-call : h .holds .plays .ended ≡ false → {c : midi.Call} → Says noStatus bytes c → Kind c → Found (AtKeyboard is h bytes)
       by-call e s (is-whole ms) = by-room ms e s (leb (length (h .holds .messages) + length ms) mostMessages) refl
       by-call e s is-cut = record { number = 1; line = 0; verdict = keysCut e s }
       by-call e s is-not-carried = record { number = 2; line = 0; verdict = keysNotCarried e s }
 
-      by-end : (b : Bool) → h .holds .plays .ended ≡ b → Decided (keyboard bytes)
+      by-end : (b : Bool) → h .holds .plays .ended ≡ b → Found (AtKeyboard is h bytes)
       by-end true e = record { number = 9; line = 0; verdict = keysOver e }
       by-end false e = by-call e (every-call bytes) (every-kind bytes)
 
-  at-cycle : (block : List ℤ) → Decided (cycle block)
+  at-cycle : (block : List ℤ) → Found (AtCycle is h block)
   at-cycle block = go (numbered (cycle block)) (h .holds .plays .ended) (endsBy (dueOf (h .holds)) (h .holds .plays)) refl refl refl
     where
-      go : (w e x : Bool) → numbered (cycle block) ≡ w → h .holds .plays .ended ≡ e → endsBy (dueOf (h .holds)) (h .holds .plays) ≡ x → Decided (cycle block)
+      go : (w e x : Bool) → numbered (cycle block) ≡ w → h .holds .plays .ended ≡ e → endsBy (dueOf (h .holds)) (h .holds .plays) ≡ x → Found (AtCycle is h block)
       go true true x hw he hx = record { number = 9; line = 0; verdict = overBefore hw he }
       go true false true hw he hx = record { number = 9; line = 0; verdict = findsEnd hw he hx }
       go true false false hw he hx = record { number = 0; line = 0; verdict = plays hw he hx }
       go false e x hw he hx = record { number = 10; line = 0; verdict = otherLength hw }
 
-  pub decided : (c : Call) → Decided c
-  decided (bring d handed) = at-door d handed
-  decided (keyboard bytes) = at-keyboard bytes
-  decided (cycle block) = at-cycle block
+-- units in turn have answers
+record Answers {S : Type 0} (is : List Instrument) (h : History S) (us : List (List ℕ)) : Type 0 where
+  told : List Answer
+  so : InTurn is h us told
+
+in-turn : {S : Type 0} (is : List Instrument) (us : List (List ℕ)) (h : History S) → Answers is h us
+in-turn is [] h = record { told = []; so = none }
+in-turn is (u ∷ us) h =
+    let x = at-door is h unit u in
+    let y = in-turn is us (withLines h (cond (eqb (x .number) 0) (reads unit u .lines) [])) in
+    record { told = record { number = x .number; line = x .line } ∷ y .told; so = next (x .verdict) (y .so) }
+
+module _ {S : Type 0} (is : List Instrument) (h : History S) where
+  record Decided (c : Call) : Type 0 where
+    answers : List Answer
+    verdict : Verdict is h c answers
+
+  at-burst : (bytes area : List ℕ) → Decided (burst bytes area)
+  at-burst bytes area = by-kind (every-burst bytes) (every-kind-of-burst bytes)
+    where
+      by-room : (us : List (List ℕ)) → bursts.Says mostUnits bytes (units us) → (b : Bool) → leb (length us) (length area) ≡ b → Decided (burst bytes area)
+      by-room us s true q =
+          let y = in-turn is us h in record { answers = one 0 0 ++ y .told; verdict = burstTaken us (y .told) s (leb-true (length us) (length area) q) (y .so) }
+      by-room us s false q = record { answers = one 8 0; verdict = burstNoRoom us s (leb-false (length us) (length area) q) }
+
+      by-kind : {b : Burst} → bursts.Says mostUnits bytes b → burst-kinds.Kind b → Decided (burst bytes area)
+      by-kind s (burst-kinds.is-units us) = by-room us s (leb (length us) (length area)) refl
+      by-kind s burst-kinds.is-cut = record { answers = one 1 0; verdict = burstCut s }
+      by-kind s burst-kinds.is-too-many = record { answers = one 5 0; verdict = burstTooLong s }
+
+  decided : (c : Call) → Decided c
+  decided (bring d handed) = let x = at-door is h d handed in record { answers = one (x .number) (x .line); verdict = once (x .verdict) }
+  decided (burst bytes area) = at-burst bytes area
+  decided (keyboard bytes) = let x = at-keyboard is h bytes in record { answers = one (x .number) (x .line); verdict = once (x .verdict) }
+  decided (cycle block) = let x = at-cycle is h block in record { answers = one (x .number) (x .line); verdict = once (x .verdict) }
 
 -- ---- both directions
 
@@ -614,7 +721,7 @@ call-verdict orchestra is ceiling chosen g cs c =
     let k = kept-after orchestra is ceiling chosen g cs in
     let e = past-is orchestra is ceiling chosen g cs in
     let s : StandsFor is (p .program) = subst⁻¹ (StandsFor is) (k .has) (stands orchestra is ceiling chosen g) in
-    let exactly : (n l : ℕ) → Verdict is (past orchestra is ceiling chosen cs) c n l → afterOf p c .answers ≡ one n l = λ n l x.
-    given is p s (k .long) c n l (subst⁻¹ (λ (h : History Held). Verdict is h c n l) e x) in
+    let exactly : (told : List Answer) → Verdict is (past orchestra is ceiling chosen cs) c told → afterOf p c .answers ≡ told = λ told x.
+    given is p s (k .long) c told (subst⁻¹ (λ (h : History Held). Verdict is h c told) e x) in
     let x = decided is (past orchestra is ceiling chosen cs) c in
-    (record { number = x .number; line = x .line; answers = exactly (x .number) (x .line) (x .verdict); given = x .verdict }, exactly)
+    (record { answers = x .answers; told = exactly (x .answers) (x .verdict); given = x .verdict }, exactly)

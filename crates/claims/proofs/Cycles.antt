@@ -16,7 +16,7 @@ use Rattle.players.specs.Lists.{each, keep, over}
 use Rattle.players.specs.Cycle.{isDue, samples}
 use Rattle.players.specs.Cycle as cycle
 use Rattle.players.specs.Holds.{Plays, laterThan, dueOf, endsBy, marked, capped, blockOf, played}
-use Rattle.players.specs.Calls.{bring, keyboard, cycle as cycle-call, one, numbered, After, isZero}
+use Rattle.players.specs.Calls.{bring, burst, keyboard, cycle as cycle-call, one, numbered, After, isZero}
 use Rattle.players.specs.History.{at}
 use Rattle.players.proofs.Lists.{length-keep}
 use Rattle.players.proofs.Loops.{length-over}
@@ -32,6 +32,7 @@ use Rattle.panel.specs.declared.Panel.{Panel}
 use Rattle.panel.specs.declared.Cycled.{Cycled}
 use Rattle.claims.specs.Claims.{afterOf, reachedOf, findsEnd, Refused, RefusalsChangeNothing}
 use Rattle.claims.proofs.Doors.{differ, Brings, takes, refuses, brings}
+use Rattle.claims.proofs.Bursts.{Receives, received, unreceived, receives}
 use Rattle.claims.proofs.Keyboard.{Presses, keys-over, keys-faulty, keys-full, keys-taken, presses}
 
 -- ---- what is laid over an array is read back
@@ -94,12 +95,12 @@ played-long p h =
 -- ---- what the call leaves
 
 pub data Cycles (p : Panel) (b : List ℤ) (a : After Panel) : Type 0 where
-  off : numbered (cycle-call b) ≡ false → a ≡ record { player = p; answers = one 10 0; block = b } → Cycles p b a
-  over-before : numbered (cycle-call b) ≡ true → p .state .playing .ended ≡ true → a ≡ record { player = p; answers = one 9 0; block = b } → Cycles p b a
+  off : numbered (cycle-call b) ≡ false → a ≡ record { player = p; answers = one 10 0; block = b; area = [] } → Cycles p b a
+  over-before : numbered (cycle-call b) ≡ true → p .state .playing .ended ≡ true → a ≡ record { player = p; answers = one 9 0; block = b; area = [] } → Cycles p b a
   ends : numbered (cycle-call b) ≡ true → p .state .playing .ended ≡ false → endsBy (dueOf (holdsOf p)) (holdsOf p .plays) ≡ true
-      → a ≡ record { player = endedOf p; answers = one 9 0; block = b } → Cycles p b a
+      → a ≡ record { player = endedOf p; answers = one 9 0; block = b; area = [] } → Cycles p b a
   plays : numbered (cycle-call b) ≡ true → p .state .playing .ended ≡ false → endsBy (dueOf (holdsOf p)) (holdsOf p .plays) ≡ false
-      → a ≡ record { player = playedOf p; answers = one 0 0; block = blockOf (voicesOf (p .program)) (settingsIn p) (dueOf (holdsOf p)) (holdsOf p .plays) }
+      → a ≡ record { player = playedOf p; answers = one 0 0; block = blockOf (voicesOf (p .program)) (settingsIn p) (dueOf (holdsOf p)) (holdsOf p .plays); area = [] }
       → Cycles p b a
 
 pub cycles : (p : Panel) (b : List ℤ) → Cycles p b (afterOf p (cycle-call b))
@@ -115,7 +116,7 @@ cycles p b = go (eqb (length b) samples) (p .state .playing .ended) (endsBy (due
         (record { panel = p; answer = answer.BlockLength })
 
     go : (w e d : Bool) → eqb (length b) samples ≡ w → p .state .playing .ended ≡ e → endsBy (dueOf (holdsOf p)) (holdsOf p .plays) ≡ d
-        → Cycles p b (record { player = out w e d .panel; answers = one (numberOf (out w e d .answer)) 0; block = cond (isTaken (out w e d .answer)) sound b })
+        → Cycles p b (record { player = out w e d .panel; answers = one (numberOf (out w e d .answer)) 0; block = cond (isTaken (out w e d .answer)) sound b; area = [] })
     go true true d hw he hd = over-before hw he refl
     go true false true hw he hd = ends hw he hd refl
     go true false false hw he hd = plays hw he hd refl
@@ -129,13 +130,18 @@ refusals-change-nothing p (bring d handed) t = go (brings p d handed)
   where
     go : {ls : List Line} → Brings p ls (afterOf p (bring d handed)) → Refused p (bring d handed)
     go (takes l q e f x) = absurd (differ (sym (ap (λ (a : After Panel). isZero (a .answers)) x) ∙ t))
-    go (refuses n l z x) = record { player = ap (λ (a : After Panel). a .player) x; block = ap (λ (a : After Panel). a .block) x }
+    go (refuses n l z x) = record { player = ap (λ (a : After Panel). a .player) x; block = ap (λ (a : After Panel). a .block) x; area = ap (λ (a : After Panel). a .area) x }
+refusals-change-nothing p (burst bytes area) t = go (receives p bytes area)
+  where
+    go : Receives p bytes area (afterOf p (burst bytes area)) → Refused p (burst bytes area)
+    go (received us q x) = absurd (differ (sym (ap (λ (a : After Panel). isZero (a .answers)) x) ∙ t))
+    go (unreceived n z x) = record { player = ap (λ (a : After Panel). a .player) x; block = ap (λ (a : After Panel). a .block) x; area = ap (λ (a : After Panel). a .area) x }
 refusals-change-nothing p (keyboard bytes) t = go (presses p bytes)
   where
     go : Presses p bytes (afterOf p (keyboard bytes)) → Refused p (keyboard bytes)
-    go (keys-over e x) = record { player = ap (λ (a : After Panel). a .player) x; block = ap (λ (a : After Panel). a .block) x }
-    go (keys-faulty n e f z x) = record { player = ap (λ (a : After Panel). a .player) x; block = ap (λ (a : After Panel). a .block) x }
-    go (keys-full ms e f l x) = record { player = ap (λ (a : After Panel). a .player) x; block = ap (λ (a : After Panel). a .block) x }
+    go (keys-over e x) = record { player = ap (λ (a : After Panel). a .player) x; block = ap (λ (a : After Panel). a .block) x; area = ap (λ (a : After Panel). a .area) x }
+    go (keys-faulty n e f z x) = record { player = ap (λ (a : After Panel). a .player) x; block = ap (λ (a : After Panel). a .block) x; area = ap (λ (a : After Panel). a .area) x }
+    go (keys-full ms e f l x) = record { player = ap (λ (a : After Panel). a .player) x; block = ap (λ (a : After Panel). a .block) x; area = ap (λ (a : After Panel). a .area) x }
     go (keys-taken ms e f l x) = absurd (differ (sym (ap (λ (a : After Panel). isZero (a .answers)) x) ∙ t))
 refusals-change-nothing p (cycle-call b) t = go (cycles p b)
   where
@@ -144,7 +150,7 @@ refusals-change-nothing p (cycle-call b) t = go (cycles p b)
     found w e d hw he hd q x = x ∙ (λ i. cond (sym hw i && not (sym he i) && sym hd i) (endedOf p) p)
 
     go : Cycles p b (afterOf p (cycle-call b)) → Refused p (cycle-call b)
-    go (off w x) = record { player = found false _ _ w refl refl _ (ap (λ (a : After Panel). a .player) x); block = ap (λ (a : After Panel). a .block) x }
-    go (over-before w e x) = record { player = found true true _ w e refl _ (ap (λ (a : After Panel). a .player) x); block = ap (λ (a : After Panel). a .block) x }
-    go (ends w e d x) = record { player = found true false true w e d _ (ap (λ (a : After Panel). a .player) x); block = ap (λ (a : After Panel). a .block) x }
+    go (off w x) = record { player = found false _ _ w refl refl _ (ap (λ (a : After Panel). a .player) x); block = ap (λ (a : After Panel). a .block) x; area = ap (λ (a : After Panel). a .area) x }
+    go (over-before w e x) = record { player = found true true _ w e refl _ (ap (λ (a : After Panel). a .player) x); block = ap (λ (a : After Panel). a .block) x; area = ap (λ (a : After Panel). a .area) x }
+    go (ends w e d x) = record { player = found true false true w e d _ (ap (λ (a : After Panel). a .player) x); block = ap (λ (a : After Panel). a .block) x; area = ap (λ (a : After Panel). a .area) x }
     go (plays w e d x) = absurd (differ (sym (ap (λ (a : After Panel). isZero (a .answers)) x) ∙ t))

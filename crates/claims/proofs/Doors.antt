@@ -25,7 +25,6 @@ use Rattle.entrances.specs.declared.Pushed.{Pushed}
 use Rattle.panel.specs.State.{tableOf, withQueue}
 use Rattle.panel.specs.Calls.{broughtOf, bringOf}
 use Rattle.panel.specs.declared.Panel.{Panel}
-use Rattle.panel.specs.declared.Brought.{Brought}
 use Rattle.claims.specs.Claims.{afterOf, Takes, TakenCalls, DoorsAlike}
 
 pub differ : true ≡ false → ⊥
@@ -86,7 +85,7 @@ module _ (timed : Bool) (table : List Instrument) where
       go a true e first (in-none t s) = in-none t s
       go a false e first r = in-none e refl
 
-  pub went : (q : Queue) (s : Score) → Went q q (s .lines) (broughtIn timed table q s)
+  pub went : (q : Queue) (s : Score) → Went q q (s .lines) (broughtIn false timed table q s)
   unfolding broughtIn
   went q s = go (isTaken (s .answer)) refl (all-lines q q 0 (s .lines))
     where
@@ -99,21 +98,27 @@ module _ (timed : Bool) (table : List Instrument) where
 
 pub data Brings (p : Panel) (ls : List Line) (a : After Panel) : Type 0 where
   takes : (l : ℕ) (q : Queue) → p .state .playing .ended ≡ false → (length (p .state .queue .lines) ≡ 64 → Behind (p .state .queue) ls q)
-      → a ≡ record { player = withQueue p q; answers = one 0 l; block = [] } → Brings p ls a
-  refuses : (n l : ℕ) → eqb n 0 ≡ false → a ≡ record { player = p; answers = one n l; block = [] } → Brings p ls a
+      → a ≡ record { player = withQueue p q; answers = one 0 l; block = []; area = [] } → Brings p ls a
+  refuses : (n l : ℕ) → eqb n 0 ≡ false → a ≡ record { player = p; answers = one n l; block = []; area = [] } → Brings p ls a
 
 pub brings : (p : Panel) (d : Door) (handed : List ℕ) → Brings p (reads d handed .lines) (afterOf p (bring d handed))
-unfolding afterOf bringOf broughtOf withQueue
-brings p d handed = go (p .state .playing .ended) refl (broughtIn (mustBeTimed d) (tableOf (p .program)) (p .state .queue) (reads d handed)) (went (mustBeTimed d) (tableOf (p .program)) (p .state .queue) (reads d handed))
+unfolding afterOf bringOf broughtOf broughtIn withQueue
+brings p d handed = go (p .state .playing .ended) refl
   where
-    out : Bool → Pushed → Brought
-    out b r = cond b (record { panel = p; answer = answer.Ended; line = 0 }) (record { panel = withQueue p (r .queue); answer = r .answer; line = r .line })
+    left : Pushed → After Panel
+    left r = record { player = withQueue p (r .queue); answers = one (numberOf (r .answer)) (r .line); block = []; area = [] }
 
-    go : (b : Bool) → p .state .playing .ended ≡ b → (r : Pushed) → Went (mustBeTimed d) (tableOf (p .program)) (p .state .queue) (p .state .queue) (reads d handed .lines) r
-        → Brings p (reads d handed .lines) (record { player = out b r .panel; answers = one (numberOf (out b r .answer)) (out b r .line); block = [] })
-    go true e r w = refuses 9 0 refl refl
-    go false e r (in-all t f) = takes (r .line) (r .queue) e f (λ i. record { player = withQueue p (r .queue); answers = one (eqb-true (numberOf (r .answer)) 0 t i) (r .line); block = [] })
-    go false e r (in-none t s) = refuses (numberOf (r .answer)) (r .line) t (λ i. record { player = withQueue p (s i); answers = one (numberOf (r .answer)) (r .line); block = [] })
+    by-lines : p .state .playing .ended ≡ false → (r : Pushed) → Went (mustBeTimed d) (tableOf (p .program)) (p .state .queue) (p .state .queue) (reads d handed .lines) r
+        → Brings p (reads d handed .lines) (left r)
+    by-lines e r (in-all t f) = takes (r .line) (r .queue) e f (λ i. record { player = withQueue p (r .queue); answers = one (eqb-true (numberOf (r .answer)) 0 t i) (r .line); block = []; area = [] })
+    by-lines e r (in-none t s) = refuses (numberOf (r .answer)) (r .line) t (λ i. record { player = withQueue p (s i); answers = one (numberOf (r .answer)) (r .line); block = []; area = [] })
+
+    go : (b : Bool) → p .state .playing .ended ≡ b
+        → Brings p (reads d handed .lines) (left (broughtIn b (mustBeTimed d) (tableOf (p .program)) (p .state .queue) (reads d handed)))
+    go true e = refuses 9 0 refl refl
+    go false e =
+        by-lines e (broughtIn false (mustBeTimed d) (tableOf (p .program)) (p .state .queue) (reads d handed))
+        (went (mustBeTimed d) (tableOf (p .program)) (p .state .queue) (reads d handed))
 
 pub taken-calls : TakenCalls
 unfolding TakenCalls
@@ -133,18 +138,20 @@ line-alike true table q l h = cond-false _ _ (ap not h)
 line-alike false table q l h = refl
 
 by-door : (p : Panel) (d : Door) (a : List ℕ) (l : Line) → hasTime (l .when) ≡ true → reads d a .answer ≡ answer.Taken → reads d a .lines ≡ l ∷ []
-    → broughtIn (mustBeTimed d) (tableOf (p .program)) (p .state .queue) (reads d a) ≡ pushedAll false (tableOf (p .program)) (p .state .queue) (p .state .queue) 0 (l ∷ [])
+    → broughtIn (p .state .playing .ended) (mustBeTimed d) (tableOf (p .program)) (p .state .queue) (reads d a)
+    ≡ cond (p .state .playing .ended) (record { queue = p .state .queue; answer = answer.Ended; line = 0 })
+    (pushedAll false (tableOf (p .program)) (p .state .queue) (p .state .queue) 0 (l ∷ []))
 unfolding broughtIn pushedAll
 by-door p d a l h t q =
     let table = tableOf (p .program) in
     let queue = p .state .queue in
-    cond-true _ _ (ap isTaken t) ∙ ap (pushedAll (mustBeTimed d) table queue queue 0) q
+    ap (cond (p .state .playing .ended) (record { queue = queue; answer = answer.Ended; line = 0 }))
+    (cond-true _ _ (ap isTaken t) ∙ ap (pushedAll (mustBeTimed d) table queue queue 0) q
     ∙ ap (λ (x : Admitted). cond (isTaken (x .answer)) (record { queue = x .queue; answer = answer.Taken; line = 0 }) (record { queue = queue; answer = x .answer; line = 0 }))
-    (line-alike (mustBeTimed d) table queue l h)
+    (line-alike (mustBeTimed d) table queue l h))
 
 pub doors-alike : DoorsAlike
 unfolding DoorsAlike afterOf bringOf broughtOf
 doors-alike p d e a b l h t q u r =
-    ap (λ (x : Pushed). let y = cond {A = Brought} (p .state .playing .ended) (record { panel = p; answer = answer.Ended; line = 0 }) (record { panel = withQueue p (x .queue); answer = x .answer; line = x .line }) in
-    record { player = y .panel; answers = one (numberOf (y .answer)) (y .line); block = [] })
+    ap (λ (x : Pushed). record { player = withQueue p (x .queue); answers = one (numberOf (x .answer)) (x .line); block = []; area = [] })
     (by-door p d a l h t q ∙ sym (by-door p e b l h u r))

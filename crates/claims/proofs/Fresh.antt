@@ -1,13 +1,13 @@
 -- A fresh start: the first check that fails, and the panel that comes with the number.
 use mathlib.Core.Path.{_≡_, refl, sym, ap, _∙_, subst, subst⁻¹}
 use mathlib.Core.Bool.{Bool, true, false, cond, _&&_}
-use mathlib.Core.List.{List, [], _∷_}
+use mathlib.Core.List.{List, [], _∷_, _++_}
 use Prim.Native.Nat.{ℕ, _≤_, _<_}
 use native.Mathlib.Omega.{arith}
 use lib.IntN.{ℤ}
 use lib.ListN.{length}
 use lib.Dec.{leb, eqb}
-use borrow.Author.Tests.{leb-true, le-leb}
+use borrow.Author.Tests.{leb-true, leb-false, le-leb}
 use Rattle.answer.specs.Numbers.{numberOf, isTaken}
 use Rattle.answer.specs.declared.Answer.{Answer}
 use Rattle.answer.specs.declared.Answer.the-variants.{Taken, OutOfRange, Ended, BlockLength, NoInstrument}
@@ -25,25 +25,30 @@ use Rattle.orchestra.specs.Reading.{readOf}
 use Rattle.orchestra.specs.declared.Outcome.{Outcome}
 use Rattle.orchestra.specs.Verdict as orchestra
 use Rattle.orchestra.proofs.Verdict.{every-verdict}
-use Rattle.players.specs.Lists.{All, each}
+use Rattle.bursts.specs.Bursts.{Burst, units, fault, burstOf}
+use Rattle.entrances.specs.Entrances.{broughtIn}
+use Rattle.players.specs.Lists.{All, each, over}
+use Rattle.players.proofs.Lists.{cond-true, cond-false}
 use Rattle.players.specs.Cycle.{samples}
 use Rattle.loader.specs.Loading.{loadOf}
 use Rattle.loader_claims.specs.Claims.{StandsFor}
 use Rattle.loader_claims.proofs.Loaded.{loaded, taken-only}
 use Rattle.keyboard.specs.Keyboard.{noMessages}
-use Rattle.panel.specs.State.{startOf, holdsOf}
-use Rattle.panel.specs.Calls.{hasChosen, freshOf, noPanel, broughtOf, bringOf, playKeysOf, cycleOf, blockAfter}
+use Rattle.panel.specs.State.{startOf, holdsOf, withQueue}
+use Rattle.panel.specs.Calls.{hasChosen, freshOf, noPanel, broughtOf, bringOf, Singly, singly, playKeysOf, cycleOf, blockAfter}
 use Rattle.panel.specs.declared.Panel.{Panel}
 use Rattle.panel.specs.declared.Fresh.{Fresh}
+use Rattle.panel.specs.declared.Brought.{Brought}
 use Rattle.panel.specs.declared.Cycled.{Cycled}
 use Rattle.players.specs.Holds.{settingsOf}
 use Rattle.players.specs.Plain.{plainStart}
 use Rattle.players.specs.Results.{Some}
-use Rattle.players.specs.Calls.{Call, bring, keyboard, cycle, one, After, Last, none as none-yet, traceFrom}
+use Rattle.players.specs.Calls.{unit, Call, bring, burst, keyboard, cycle, one, After, Last, none as none-yet, traceFrom}
 use Rattle.players.specs.History.{nowhere}
 use Rattle.claims.specs.Fresh.{Check, First, fails, holds, all, Tokens, Tree, checks}
-use Rattle.claims.specs.Claims.{afterOf, panel, reachedOf, Begun, endedAfter, AsEnded, FreshVerdict}
+use Rattle.claims.specs.Claims.{unitAnswer, afterOf, panel, reachedOf, Begun, refusedBurst, endedBurst, endedAfter, AsEnded, FreshVerdict}
 use Rattle.claims.proofs.Doors.{differ, differ′}
+use Rattle.claims.proofs.Bursts.{left, left-is, left-fault, left-short, left-taken}
 use Rattle.claims.proofs.Chosen.{chosen-there, there-chosen}
 
 -- only `Taken` is taken
@@ -137,10 +142,38 @@ module _ (bs : List ℕ) (ceiling chosen : ℕ) (law : (1 ≤ ceiling) × (ceili
       (fails (λ (x : Tree bs (λ js. Some (λ (i : Instrument). i .name ≡ chosen) js)).
       n (subst (Some (λ (i : Instrument). i .name ≡ chosen)) (unique (x .3) (a .derived) (one-spelling bs (x .0) (a .tokens) (x .2) (a .sized .spells))) (x .4))))
 
+-- a unit on a panel that has ended
+unit-over : (p : Panel) (u : List ℕ) → p .state .playing .ended ≡ true → bringOf p unit u ≡ record { panel = p; answer = Ended; line = 0 }
+unfolding bringOf broughtOf broughtIn withQueue
+unit-over p u e = rw e refl
+
+-- a burst on a panel that has ended: each unit answers 9
+units-over : (us : List (List ℕ)) (p : Panel) → p .state .playing .ended ≡ true → singly p us ≡ record { panel = p; numbers = each {B = ℕ} (λ (u : List ℕ). 9) us }
+unfolding singly each
+units-over [] p e = refl
+units-over (u ∷ us) p e =
+    ap (λ (r : Brought). record { panel = singly (r .panel) us .panel; numbers = numberOf (r .answer) ∷ singly (r .panel) us .numbers }) (unit-over p u e)
+    ∙ ap (λ (x : Singly). record { panel = x .panel; numbers = 9 ∷ x .numbers }) (units-over us p e)
+
+burst-ended : (p : Panel) (bytes area : List ℕ) → p .state .playing .ended ≡ true → afterOf p (burst bytes area) ≡ endedAfter p (burst bytes area)
+burst-ended p bytes area e = left-is p bytes area (burstOf bytes) refl ∙ by-burst (burstOf bytes)
+  where
+    by-burst : (b : Burst) → left p area b ≡ endedBurst p area b
+    by-burst (fault a) = left-fault p area a
+    by-burst (units us) = go (leb (length us) (length area)) refl
+      where
+        go : (b : Bool) → leb (length us) (length area) ≡ b → left p area (units us) ≡ endedBurst p area (units us)
+        go true q =
+            left-taken p area us (leb-true (length us) (length area) q)
+            ∙ ap (λ (x : Singly). record { player = x .panel; answers = one 0 0 ++ each unitAnswer (x .numbers); block = []; area = over (x .numbers) area }) (units-over us p e)
+            ∙ sym (cond-true _ _ q)
+        go false q = left-short p area us (leb-false (length us) (length area) q) ∙ sym (cond-false _ _ q)
+
 -- a panel that has ended
 ended-after : (p : Panel) (c : Call) → p .state .playing .ended ≡ true → afterOf p c ≡ endedAfter p c
-unfolding afterOf bringOf broughtOf playKeysOf cycleOf blockAfter
+unfolding afterOf bringOf broughtOf broughtIn withQueue playKeysOf cycleOf blockAfter
 ended-after p (bring d b) e = rw e refl
+ended-after p (burst bytes area) e = burst-ended p bytes area e
 ended-after p (keyboard b) e = rw e refl
 ended-after p (cycle b) e = go (eqb (length b) samples) (p .state .playing .ended) _ _ e
   where
@@ -149,8 +182,8 @@ ended-after p (cycle b) e = go (eqb (length b) samples) (p .state .playing .ende
 
     go : (w d : Bool) (x : Cycled) (y : List ℤ) → d ≡ true
         → _≡_ {A = After Panel}
-        (record { player = shape w d x .panel; answers = one (numberOf (shape w d x .answer)) 0; block = cond (isTaken (shape w d x .answer)) y b })
-        (record { player = p; answers = one (cond w 9 10) 0; block = b })
+        (record { player = shape w d x .panel; answers = one (numberOf (shape w d x .answer)) 0; block = cond (isTaken (shape w d x .answer)) y b; area = [] })
+        (record { player = p; answers = one (cond w 9 10) 0; block = b; area = [] })
     go true true x y q = refl
     go false true x y q = refl
     go w false x y q = absurd (differ′ q)
@@ -165,6 +198,16 @@ all-ended (c ∷ cs) k z p e = (
   where
     still : (c : Call) → endedAfter p c .player .state .playing .ended ≡ true
     still (bring d b) = e
+    still (burst bytes area) = by-burst (burstOf bytes)
+      where
+        by-burst : (b : Burst) → endedBurst p area b .player .state .playing .ended ≡ true
+        by-burst (units us) = go (leb (length us) (length area))
+          where
+            go : (b : Bool) → cond b (record { player = p; answers = one 0 0 ++ each unitAnswer (each {B = ℕ} (λ (u : List ℕ). 9) us); block = []; area = over (each {B = ℕ} (λ (u : List ℕ). 9) us) area })
+                (refusedBurst p area 8) .player .state .playing .ended ≡ true
+            go true = e
+            go false = e
+        by-burst (fault a) = e
     still (keyboard b) = e
     still (cycle b) = e
 

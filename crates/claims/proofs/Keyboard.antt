@@ -41,13 +41,13 @@ length-behind w ms long h = length-over (messagesIn w ++ ms) (w .list) (omega (a
 -- ---- what the call leaves
 
 pub data Presses (p : Panel) (bytes : List ℕ) (a : After Panel) : Type 0 where
-  keys-over : p .state .playing .ended ≡ true → a ≡ record { player = p; answers = one 9 0; block = [] } → Presses p bytes a
+  keys-over : p .state .playing .ended ≡ true → a ≡ record { player = p; answers = one 9 0; block = []; area = [] } → Presses p bytes a
   keys-faulty : (f : Answer) → p .state .playing .ended ≡ false → callOf bytes ≡ fault f → eqb (numberOf f) 0 ≡ false
-      → a ≡ record { player = p; answers = one (numberOf f) 0; block = [] } → Presses p bytes a
+      → a ≡ record { player = p; answers = one (numberOf f) 0; block = []; area = [] } → Presses p bytes a
   keys-full : (ms : List Message) → p .state .playing .ended ≡ false → callOf bytes ≡ whole ms → mostMessages < length (messagesIn (p .state .messages)) + length ms
-      → a ≡ record { player = p; answers = one 8 0; block = [] } → Presses p bytes a
+      → a ≡ record { player = p; answers = one 8 0; block = []; area = [] } → Presses p bytes a
   keys-taken : (ms : List Message) → p .state .playing .ended ≡ false → callOf bytes ≡ whole ms → length (messagesIn (p .state .messages)) + length ms ≤ mostMessages
-      → a ≡ record { player = withMessages p (behind (p .state .messages) ms); answers = one 0 0; block = [] } → Presses p bytes a
+      → a ≡ record { player = withMessages p (behind (p .state .messages) ms); answers = one 0 0; block = []; area = [] } → Presses p bytes a
 
 pub presses : (p : Panel) (bytes : List ℕ) → Presses p bytes (afterOf p (keyboard bytes))
 unfolding afterOf playKeysOf pressedIn withMessages
@@ -60,7 +60,7 @@ presses p bytes = by-end (p .state .playing .ended) refl
     out e r = cond e (record { panel = p; answer = answer.Ended }) (record { panel = withMessages p (r .messages); answer = r .answer })
 
     left : Bool → Pressed → After Panel
-    left e r = record { player = out e r .panel; answers = one (numberOf (out e r .answer)) 0; block = [] }
+    left e r = record { player = out e r .panel; answers = one (numberOf (out e r .answer)) 0; block = []; area = [] }
 
     by-room : (ms : List Message) → p .state .playing .ended ≡ false → callOf bytes ≡ whole ms → (b : Bool) → leb (length (messagesIn w) + length ms) mostMessages ≡ b
         → Presses p bytes (left false (cond b (record { messages = behind w ms; answer = answer.Taken }) (record { messages = w; answer = answer.NoRoom })))

@@ -1,5 +1,6 @@
 pub mod Ranged
 pub mod Doors
+pub mod Bursts
 pub mod Keyboard
 pub mod Chosen
 pub mod Cycles

@@ -21,7 +21,7 @@ use Rattle.players.specs.Lists.{each, All}
 use Rattle.players.specs.Cycle.{Voices, farthest}
 use Rattle.players.specs.Holds.{Settings, Due, settingsOf, Holds, behind, withMessages, laterThan, dueOf, endsBy, marked, answerOf, capped, blockOf, played, cycled}
 use Rattle.players.specs.Plain.{plainStart}
-use Rattle.players.specs.Calls.{Door, reads, Call, bring, keyboard, cycle, wholeMessages, messagesIn, Answer, one, After, numbered, linesOf, takenOf, isZero, Last, none, cyclesWith, lastWith, momentOf, traceFrom, trace, afterAll}
+use Rattle.players.specs.Calls.{Door, unit, reads, Call, bring, burst, keyboard, cycle, wholeMessages, messagesIn, Answer, one, After, numbered, linesOf, takenOf, isZero, Last, none, cyclesWith, lastWith, momentOf, traceFrom, trace, afterAll}
 use Rattle.players.specs.Condition3.{PlainAlike, WithinCeiling}
 use Rattle.players.specs.History.{nowhere, at, History, unbegun, withCycle, withMoment, historyFrom}
 use Rattle.players.proofs.Lists.{cond-true, cond-false, all-append, all-map}
@@ -40,12 +40,14 @@ use Rattle.loader.specs.Loading.{loadOf}
 use Rattle.loader_claims.specs.Claims.{StandsFor}
 use Rattle.loader_claims.proofs.Loaded.{loaded}
 use Rattle.panel.specs.State.{tableOf, voicesOf, holdsOf, settingsIn, startOf, withQueue, withMessages as panelWith, endedOf}
-use Rattle.panel.specs.Calls.{freshOf, playedOf}
+use Rattle.bursts.specs.Bursts.{Burst, burstOf, unitsIn}
+use Rattle.panel.specs.Calls.{singly, freshOf, playedOf}
 use Rattle.panel.specs.declared.Panel.{Panel}
 use Rattle.panel.specs.declared.Fresh.{Fresh}
-use Rattle.claims.specs.Claims.{afterOf, panel, reachedOf, Given, fresh, settings, past, panelAfter, CeilingBinds}
+use Rattle.claims.specs.Claims.{unitAnswer, afterOf, panel, reachedOf, Given, fresh, settings, past, panelAfter, CeilingBinds}
 use Rattle.claims.proofs.Ranged.{ranged, ranged-steady, reads-ranged}
 use Rattle.claims.proofs.Doors.{differ, differ′, Behind, Brings, takes, refuses, brings}
+use Rattle.claims.proofs.Bursts.{Receives, received, unreceived, receives, taken-of, leaves}
 use Rattle.claims.proofs.Keyboard.{waits-behind, length-behind, Presses, keys-over, keys-faulty, keys-full, keys-taken, presses}
 use Rattle.claims.proofs.Chosen.{chosen-there}
 use Rattle.claims.proofs.Cycles.{holds-ended, holds-played, reached-ended, reached-played, played-long, Cycles, off, over-before, ends, plays, cycles}
@@ -58,6 +60,23 @@ own p = record { holds = holdsOf p; reached = reachedOf p }
 reads-steady : (d : Door) (handed : List ℕ) → AllSteady (reads d handed .lines)
 reads-steady d handed =
     all-map (λ (l : Line). ranged (l .event)) (λ (l : Line). steady (l .event)) (λ l h. ranged-steady (l .event) h) (reads d handed .lines) (reads-ranged d handed)
+
+-- likewise every line taken of units
+units-steady : (us : List (List ℕ)) (ns : List ℕ) → AllSteady (taken-of us ns)
+unfolding each
+units-steady [] ns = tt
+units-steady (u ∷ us) [] = tt
+units-steady (u ∷ us) (n ∷ ns) =
+    all-append (λ (l : Line). steady (l .event)) (cond (eqb n 0) (reads unit u .lines) []) (taken-of us ns) (go (eqb n 0)) (units-steady us ns)
+  where
+    go : (b : Bool) → AllSteady (cond b (reads unit u .lines) [])
+    go true = reads-steady unit u
+    go false = tt
+
+-- no answer takes no line
+no-answer : (ls : List (List Line)) → takenOf ls [] ≡ []
+no-answer [] = refl
+no-answer (l ∷ ls) = refl
 
 -- ---- what the panel keeps true of itself
 
@@ -308,6 +327,45 @@ module _ (program : Program) (ceiling chosen : ℕ) (is : List Instrument) (r : 
                 over = λ u. ap (λ (a : After Panel). takenOf (linesOf (bring d handed)) (a .answers)) x ∙ no-more n l e;
               }
 
+      burst-step : (bytes area : List ℕ) → Step (burst bytes area)
+      burst-step bytes area = go (receives p bytes area)
+        where
+          nothing : (n : ℕ) → takenOf (linesOf (burst bytes area)) (one n 0) ≡ []
+          nothing n = (λ i. no-part (eqb n 0) i ++ no-answer (each (λ (u : List ℕ). reads unit u .lines) (unitsIn (burstOf bytes))) i)
+            where
+              no-part : (b : Bool) → cond {A = List Line} b [] [] ≡ []
+              no-part true = refl
+              no-part false = refl
+
+          go : Receives p bytes area (afterOf p (burst bytes area)) → Step (burst bytes area)
+          go (received us q x) =
+              let y = leaves us p (k .long) in
+              let ls = taken-of us (singly p us .numbers) in
+              let given = one 0 0 ++ each unitAnswer (singly p us .numbers) in
+              record {
+                kept = subst⁻¹ (λ (a : After Panel). Kept (a .player)) x (subst⁻¹ Kept (y .same) (kept-takes p ls (y .queue) (y .behind) (units-steady us (singly p us .numbers)) k));
+                next =
+                    ap (λ (a : After Panel). own (a .player)) x ∙ ap own (y .same) ∙ own-takes p ls (y .queue) (y .behind)
+                    ∙ ap (λ (b : Burst). with (takenOf ([] ∷ each (λ (u : List ℕ). reads unit u .lines) (unitsIn b)) given) [] p) (sym q)
+                    ∙ ap (λ (a : After Panel). told (burst bytes area) (a .answers)) (sym x);
+                answer = λ u. absurd (differ′ u);
+                block = λ u. λ t. absurd (differ′ t);
+                over = λ u.
+                    ap (λ (a : After Panel). takenOf (linesOf (burst bytes area)) (a .answers)) x
+                    ∙ ap (λ (b : Burst). takenOf ([] ∷ each (λ (u : List ℕ). reads unit u .lines) (unitsIn b)) given) q ∙ y .none u;
+              }
+          go (unreceived n z x) =
+              record {
+                kept = subst⁻¹ (λ (a : After Panel). Kept (a .player)) x k;
+                next =
+                    ap (λ (a : After Panel). own (a .player)) x ∙ own-none p
+                    ∙ (λ i. with (sym (nothing n) i) (cond (sym z i) [] []) p)
+                    ∙ ap (λ (a : After Panel). told (burst bytes area) (a .answers)) (sym x);
+                answer = λ u. absurd (differ′ u);
+                block = λ u. λ t. absurd (differ′ t);
+                over = λ u. ap (λ (a : After Panel). takenOf (linesOf (burst bytes area)) (a .answers)) x ∙ nothing n;
+              }
+
       -- a call that holds no line
       no-line : (given : List Answer) → takenOf ([] ∷ []) given ≡ []
       no-line [] = refl
@@ -320,7 +378,7 @@ module _ (program : Program) (ceiling chosen : ℕ) (is : List Instrument) (r : 
       keyboard-step : (bytes : List ℕ) → Step (keyboard bytes)
       keyboard-step bytes = go (presses p bytes)
         where
-          refused : (n : ℕ) → eqb n 0 ≡ false → afterOf p (keyboard bytes) ≡ record { player = p; answers = one n 0; block = [] } → Step (keyboard bytes)
+          refused : (n : ℕ) → eqb n 0 ≡ false → afterOf p (keyboard bytes) ≡ record { player = p; answers = one n 0; block = []; area = [] } → Step (keyboard bytes)
           refused n e x =
               record {
                 kept = subst⁻¹ (λ (a : After Panel). Kept (a .player)) x k;
@@ -399,6 +457,7 @@ module _ (program : Program) (ceiling chosen : ℕ) (is : List Instrument) (r : 
 
       step : (c : Call) → Step c
       step (bring d handed) = door-step d handed
+      step (burst bytes area) = burst-step bytes area
       step (keyboard bytes) = keyboard-step bytes
       step (cycle b) = cycle-step b
 
@@ -447,10 +506,14 @@ module _ (program : Program) (ceiling chosen : ℕ) (is : List Instrument) (r : 
       is-numbered (plays u e d x) = u
 
   module _ (low : 1 ≤ ceiling) (high : ceiling ≤ 32767) where
-    -- a door has no block, nor has the keyboard
+    -- a door has no block, nor has a burst or the keyboard
     no-block : (p : Panel) (d : Door) (handed : List ℕ) → All (Within ceiling) (afterOf p (bring d handed) .block)
     unfolding afterOf
     no-block p d handed = tt
+
+    no-burst-block : (p : Panel) (bytes area : List ℕ) → All (Within ceiling) (afterOf p (burst bytes area) .block)
+    unfolding afterOf
+    no-burst-block p bytes area = tt
 
     no-key-block : (p : Panel) (bytes : List ℕ) → All (Within ceiling) (afterOf p (keyboard bytes) .block)
     unfolding afterOf
@@ -458,6 +521,7 @@ module _ (program : Program) (ceiling chosen : ℕ) (is : List Instrument) (r : 
 
     within : (p : Panel) → Kept p → (c : Call) → isZero (afterOf p c .answers) ≡ true → All (Within ceiling) (afterOf p c .block)
     within p k (bring d handed) t = no-block p d handed
+    within p k (burst bytes area) t = no-burst-block p bytes area
     within p k (keyboard bytes) t = no-key-block p bytes
     within p k (cycle b) t = subst⁻¹ (All (Within ceiling)) (sounded p k b t) (block-within w s low high (dueOf (holdsOf p)) (holdsOf p .plays))
 

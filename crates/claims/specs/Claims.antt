@@ -3,11 +3,12 @@
 use mathlib.Core.Path.{_≡_}
 use mathlib.Core.Bool.{Bool, true, false, not, cond, _&&_}
 use mathlib.Core.List.{List, [], _∷_, _++_}
-use Prim.Native.Nat.{ℕ, _≤_}
+use Prim.Native.Nat.{ℕ, _≤_, _<_}
 use lib.IntN.{ℤ}
-use lib.ListN.{length}
+use lib.Dec.{leb}
+use lib.ListN.{length, take}
 use Rattle.answer.specs.Numbers.{numberOf}
-use Rattle.answer.specs.declared.Answer.the-variants.{Taken}
+use Rattle.answer.specs.declared.Answer.the-variants.{Taken, CutShort, TooManyValues}
 use Rattle.score_line.specs.declared.Line.{Line}
 use Rattle.syntax.specs.Tree.{Instrument}
 use Rattle.tokens.specs.Spelling.{Bytes}
@@ -15,7 +16,9 @@ use Rattle.orchestra.specs.Verdict.{Accepted}
 use Rattle.voices.specs.Tree.{treeVoices}
 use Rattle.sounding.specs.Voices.{Held}
 use Rattle.written_voices.specs.Voices.{writtenVoices, Fits, nextBlock}
-use Rattle.players.specs.Lists.{All}
+use Rattle.bursts.specs.Bursts.{Burst, units, fault, mostUnits, burstOf}
+use Rattle.bursts.specs.Bursts as bursts
+use Rattle.players.specs.Lists.{All, each, over}
 use Rattle.players.specs.Results.{Some}
 use Rattle.messages.specs.Message.{none as noStatus}
 use Rattle.messages.specs.Writing.{whole, Says}
@@ -24,30 +27,38 @@ use Rattle.keyboard.specs.Keyboard.{messagesIn}
 use Rattle.keyboard.specs.declared.Messages.{Messages}
 use Rattle.players.specs.Holds.{Settings, settingsOf, dueOf, endsBy}
 use Rattle.players.specs.Plain.{plainStart}
-use Rattle.players.specs.Calls.{Door, hasTime, reads, Call, bring, keyboard, cycle, numbered, one, After, Player, isZero, Moment, trace, allTaken, afterAll}
+use Rattle.players.specs.Calls.{Door, unit, hasTime, reads, Call, bring, burst, keyboard, cycle, numbered, Answer, one, After, Player, isZero, Moment, trace, allTaken, afterAll, answersAll}
 use Rattle.players.specs.Condition3.{PlainAlike, WithinCeiling}
 use Rattle.players.specs.History.{Reached, nowhere, at, History, historyOf}
 use Rattle.waiting.specs.Admission.{waitingIn}
 use Rattle.waiting.specs.declared.Queue.{Queue}
 use Rattle.loader_claims.specs.Claims.{StandsFor}
 use Rattle.panel.specs.State.{holdsOf, withQueue, withMessages, endedOf}
-use Rattle.panel.specs.Calls.{freshOf, bringOf, playKeysOf, cycleOf, blockAfter}
+use Rattle.panel.specs.Calls.{freshOf, bringOf, receiveOf, areaAfter, playKeysOf, cycleOf, blockAfter}
 use Rattle.panel.specs.declared.Panel.{Panel}
 use Rattle.claims.specs.Verdict.{Verdict}
 use Rattle.claims.specs.Fresh.{First, checks}
 
 -- ---- the panel as a player
 
+-- the answer to a unit of a burst: the area holds its number, and the unit is its only line
+abbrev pub unitAnswer : ℕ → Answer
+unitAnswer n = record { number = n; line = 0 }
+
 unfoldable pub afterOf : Panel → Call → After Panel
 afterOf p (bring d handed) =
     let r = bringOf p d handed in
-    record { player = r .panel; answers = one (numberOf (r .answer)) (r .line); block = [] }
+    record { player = r .panel; answers = one (numberOf (r .answer)) (r .line); block = []; area = [] }
+afterOf p (burst bytes area) =
+    let r = receiveOf p bytes (length area) in
+    let left = areaAfter p bytes area in
+    record { player = r .panel; answers = one (numberOf (r .answer)) 0 ++ each unitAnswer (take (r .units) left); block = []; area = left }
 afterOf p (keyboard bytes) =
     let r = playKeysOf p bytes in
-    record { player = r .panel; answers = one (numberOf (r .answer)) 0; block = [] }
+    record { player = r .panel; answers = one (numberOf (r .answer)) 0; block = []; area = [] }
 afterOf p (cycle b) =
     let r = cycleOf p (length b) in
-    record { player = r .panel; answers = one (numberOf (r .answer)) 0; block = blockAfter p b }
+    record { player = r .panel; answers = one (numberOf (r .answer)) 0; block = blockAfter p b; area = [] }
 
 -- the position at the start of the last cycle that answered 0
 abbrev pub reachedOf : Panel → Reached
@@ -70,17 +81,29 @@ pub record Begun (orchestra : List ℕ) (ceiling chosen : ℕ) (p : Panel) : Typ
   pub holds : holdsOf p ≡ plainStart (settingsOf ceiling chosen) []
   pub reached : reachedOf p ≡ nowhere
 
+-- what a refused burst leaves: its number, and nothing changes
+abbrev pub refusedBurst : Panel → List ℕ → ℕ → After Panel
+refusedBurst p area number = record { player = p; answers = one number 0; block = []; area = area }
+
+-- what a burst leaves of a panel that has ended: each of its units answers 9
+abbrev pub endedBurst : Panel → List ℕ → Burst → After Panel
+endedBurst p area (fault a) = refusedBurst p area (numberOf a)
+endedBurst p area (units us) =
+    let nines = each {B = ℕ} (λ (u : List ℕ). 9) us in
+    cond (leb (length us) (length area)) (record { player = p; answers = one 0 0 ++ each unitAnswer nines; block = []; area = over nines area }) (refusedBurst p area 8)
+
 -- what a call leaves of a panel that has ended: 9, or 10 for a block of another length, and nothing changes
 abbrev pub endedAfter : Panel → Call → After Panel
-endedAfter p (bring d b) = record { player = p; answers = one 9 0; block = [] }
-endedAfter p (keyboard b) = record { player = p; answers = one 9 0; block = [] }
-endedAfter p (cycle b) = record { player = p; answers = one (cond (numbered (cycle b)) 9 10) 0; block = b }
+endedAfter p (bring d b) = record { player = p; answers = one 9 0; block = []; area = [] }
+endedAfter p (burst bytes area) = endedBurst p area (burstOf bytes)
+endedAfter p (keyboard b) = record { player = p; answers = one 9 0; block = []; area = [] }
+endedAfter p (cycle b) = record { player = p; answers = one (cond (numbered (cycle b)) 9 10) 0; block = b; area = [] }
 
 abbrev pub AsEnded : Moment Panel → Type 0
 AsEnded m = m .after ≡ endedAfter (m .before) (m .call)
 
 -- For all bytes, ceilings and choices: the number is that of the first check that fails, and of no other; 0 comes with a begun panel, and
--- every other number with a panel on which every list of calls is refused and changes nothing.
+-- every other number with a panel that no list of calls changes: each call is refused, and of a burst each unit.
 pub record FreshStart (orchestra : List ℕ) (ceiling chosen : ℕ) : Type 1 where
   pub given : First (checks orchestra ceiling chosen) (numberOf (freshOf orchestra ceiling chosen .answer))
   pub only : (n : ℕ) → First (checks orchestra ceiling chosen) n → numberOf (freshOf orchestra ceiling chosen .answer) ≡ n
@@ -119,18 +142,27 @@ TakenKeys =
 -- a cycle call that finds the end
 abbrev pub findsEnd : Panel → Call → Bool
 findsEnd p (bring d handed) = false
+findsEnd p (burst bytes area) = false
 findsEnd p (keyboard bytes) = false
 findsEnd p (cycle b) = numbered (cycle b) && not (p .state .playing .ended) && endsBy (dueOf (holdsOf p)) (holdsOf p .plays)
 
 abbrev pub blockIn : Call → List ℤ
 blockIn (bring d handed) = []
+blockIn (burst bytes area) = []
 blockIn (keyboard bytes) = []
 blockIn (cycle b) = b
 
--- Condition 1: a refusal changes neither the panel nor a lent block, save that the cycle call that finds the end marks it.
+abbrev pub areaOf : Call → List ℕ
+areaOf (bring d handed) = []
+areaOf (burst bytes area) = area
+areaOf (keyboard bytes) = []
+areaOf (cycle b) = []
+
+-- Condition 1: a refusal changes neither the panel nor a lent block nor a lent answer area, save that the cycle call that finds the end marks it.
 pub record Refused (p : Panel) (c : Call) : Type 0 where
   pub player : afterOf p c .player ≡ cond (findsEnd p c) (endedOf p) p
   pub block : afterOf p c .block ≡ blockIn c
+  pub area : afterOf p c .area ≡ areaOf c
 
 unfoldable pub RefusalsChangeNothing : Type 0
 RefusalsChangeNothing = (p : Panel) (c : Call) → isZero (afterOf p c .answers) ≡ false → Refused p c
@@ -141,6 +173,24 @@ DoorsAlike =
     (p : Panel) (d e : Door) (a b : List ℕ) (l : Line) → hasTime (l .when) ≡ true →
     reads d a .answer ≡ Taken → reads d a .lines ≡ l ∷ [] → reads e b .answer ≡ Taken → reads e b .lines ≡ l ∷ [] →
     afterOf p (bring d a) ≡ afterOf p (bring e b)
+
+-- what units leave that come singly, by the public unit call, in order, with their numbers in the first places of the area; 0 is the burst's own
+abbrev pub asUnits : Panel → List ℕ → List (List ℕ) → After Panel
+asUnits p area us =
+    let cs = each (bring unit) us in
+    let given = answersAll panel p cs in
+    record { player = afterAll panel p cs; answers = one 0 0 ++ given; block = []; area = over (each (λ (a : Answer). a .number) given) area }
+
+-- Document 02: "Answers and panel are as if the units came singly, in order, refused or not"; a burst that is cut, too long or without a
+-- place for each answer takes and writes nothing. Its bytes say exactly one of these (`EveryBurst`, `OneMeaning`).
+pub record BurstCall (p : Panel) (bytes area : List ℕ) : Type 0 where
+  pub cut : bursts.Says mostUnits bytes (fault CutShort) → afterOf p (burst bytes area) ≡ refusedBurst p area 1
+  pub tooLong : bursts.Says mostUnits bytes (fault TooManyValues) → afterOf p (burst bytes area) ≡ refusedBurst p area 5
+  pub noRoom : (us : List (List ℕ)) → bursts.Says mostUnits bytes (units us) → length area < length us → afterOf p (burst bytes area) ≡ refusedBurst p area 8
+  pub taken : (us : List (List ℕ)) → bursts.Says mostUnits bytes (units us) → length us ≤ length area → afterOf p (burst bytes area) ≡ asUnits p area us
+
+unfoldable pub BurstAsUnits : Type 0
+BurstAsUnits = (p : Panel) (bytes area : List ℕ) → BurstCall p bytes area
 
 -- ---- every list of calls on a fresh panel
 
@@ -178,15 +228,14 @@ module _ (orchestra : List ℕ) (is : List Instrument) (ceiling chosen : ℕ) wh
       → afterOf (panelAfter cs) (cycle lent) .block
       ≡ nextBlock (writtenVoices is) (settings ceiling chosen) (settingsOf ceiling chosen) (trace panel (fresh orchestra ceiling chosen) cs)
 
-  -- Each call answers once, with the number that its history gives, and is given each number exactly then.
+  -- Each call gives the answers that its history gives, and is given them exactly then.
   pub record Answered (cs : List Call) (c : Call) : Type 0 where
-    pub number : ℕ
-    pub line : ℕ
-    pub answers : afterOf (panelAfter cs) c .answers ≡ one number line
-    pub given : Verdict is (past cs) c number line
+    pub answers : List Answer
+    pub told : afterOf (panelAfter cs) c .answers ≡ answers
+    pub given : Verdict is (past cs) c answers
 
   abbrev pub VerdictGiven : List Call → Call → Type 0
-  VerdictGiven cs c = (number line : ℕ) → Verdict is (past cs) c number line → afterOf (panelAfter cs) c .answers ≡ one number line
+  VerdictGiven cs c = (answers : List Answer) → Verdict is (past cs) c answers → afterOf (panelAfter cs) c .answers ≡ answers
 
 unfoldable pub CycleByTree : Type 0
 CycleByTree =

@@ -1,11 +1,11 @@
 -- What each call answers, by its history: document 01's table of refusal numbers and its order of faults.
 use mathlib.Core.Path.{_≡_}
-use mathlib.Core.Bool.{Bool, true, false, not, _&&_}
+use mathlib.Core.Bool.{Bool, true, false, not, _&&_, cond}
 use mathlib.Core.List.{List, [], _∷_, _++_}
 use Prim.Native.Nat.{ℕ, suc, _+_, _≤_, _<_}
 use lib.IntN.{ℤ}
 use lib.ListN.{length}
-use lib.Dec.{leb}
+use lib.Dec.{leb, eqb}
 use Rattle.answer.specs.declared.Answer.the-variants as answer
 use Rattle.timebase.specs.Time.{ticksIn}
 use Rattle.score_line.specs.declared.When.{When}
@@ -14,12 +14,14 @@ use Rattle.score_line.specs.declared.Event.{Event}
 use Rattle.score_line.specs.declared.Event.the-variants.{Instr, Control, End, Tempo}
 use Rattle.score_line.specs.declared.Line.{Line}
 use Rattle.syntax.specs.Tree.{Instrument}
+use Rattle.bursts.specs.Bursts.{mostUnits}
+use Rattle.bursts.specs.Bursts as bursts
 use Rattle.messages.specs.Message.{none as noStatus}
 use Rattle.messages.specs.Writing.{Says}
 use Rattle.messages.specs.Writing as midi
 use Rattle.messages.specs.declared.Message.{Message}
-use Rattle.players.specs.Holds.{dueOf, endsBy}
-use Rattle.players.specs.Calls.{Door, mustBeTimed, hasTime, reads, Call, bring, keyboard, cycle, numbered}
+use Rattle.players.specs.Holds.{behind, dueOf, endsBy}
+use Rattle.players.specs.Calls.{Door, unit, mustBeTimed, hasTime, reads, Call, bring, burst, keyboard, cycle, Answer, one, numbered}
 use Rattle.players.specs.History.{Reached, nowhere, at, History}
 
 -- ---- one line
@@ -126,7 +128,35 @@ module _ {S : Type 0} (is : List Instrument) (h : History S) where
     findsEnd : numbered (cycle block) ≡ true → ended ≡ false → endsBy (dueOf (h .holds)) (h .holds .plays) ≡ true → AtCycle block 9 0
     plays : numbered (cycle block) ≡ true → ended ≡ false → endsBy (dueOf (h .holds)) (h .holds .plays) ≡ false → AtCycle block 0 0
 
-  abbrev pub Verdict : Call → ℕ → ℕ → Type 0
-  Verdict (bring d handed) = AtDoor d handed
-  Verdict (keyboard bytes) = AtKeyboard bytes
-  Verdict (cycle block) = AtCycle block
+-- ---- a burst: a unit is answered by what is taken by then
+
+-- more lines are taken
+abbrev pub withLines : {S : Type 0} → History S → List Line → History S
+withLines h ls = record { holds = behind ls (h .holds); reached = h .reached }
+
+-- the answers to units, in order: each by the history so far, and its line, where it is taken, waits for the next
+pub data InTurn {S : Type 0} (is : List Instrument) : History S → List (List ℕ) → List Answer → Type 0 where
+  none : {h : History S} → InTurn is h [] []
+  next : {h : History S} {u : List ℕ} {us : List (List ℕ)} {number line : ℕ} {given : List Answer} → AtDoor is h unit u number line
+      → InTurn is (withLines h (cond (eqb number 0) (reads unit u .lines) [])) us given → InTurn is h (u ∷ us) (record { number = number; line = line } ∷ given)
+
+module _ {S : Type 0} (is : List Instrument) (h : History S) where
+  -- the answers to a burst: the first of 1 and 5 met; 8; then 0 and one for each unit. It gives no 9 of its own.
+  pub data AtBurst (bytes area : List ℕ) : List Answer → Type 0 where
+    burstCut : bursts.Says mostUnits bytes (bursts.fault answer.CutShort) → AtBurst bytes area (one 1 0)
+    burstTooLong : bursts.Says mostUnits bytes (bursts.fault answer.TooManyValues) → AtBurst bytes area (one 5 0)
+    burstNoRoom : (us : List (List ℕ)) → bursts.Says mostUnits bytes (bursts.units us) → length area < length us → AtBurst bytes area (one 8 0)
+    burstTaken : (us : List (List ℕ)) (given : List Answer) → bursts.Says mostUnits bytes (bursts.units us) → length us ≤ length area → InTurn is h us given
+        → AtBurst bytes area (one 0 0 ++ given)
+
+  -- ---- every call
+
+  -- one answer
+  pub data Once (P : ℕ → ℕ → Type 0) : List Answer → Type 0 where
+    once : {number line : ℕ} → P number line → Once P (one number line)
+
+  abbrev pub Verdict : Call → List Answer → Type 0
+  Verdict (bring d handed) = Once (AtDoor is h d handed)
+  Verdict (burst bytes area) = AtBurst bytes area
+  Verdict (keyboard bytes) = Once (AtKeyboard is h bytes)
+  Verdict (cycle block) = Once (AtCycle is h block)

@@ -1,2 +1,3 @@
 pub mod Gathering
 pub mod Pushing
+pub mod Sending

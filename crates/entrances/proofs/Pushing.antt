@@ -11,7 +11,7 @@ use Rattle.answer.specs.declared.Answer.the-variants as answer
 use Rattle.score_line.specs.declared.Line.{Line}
 use Rattle.score.specs.Score.{Score}
 use Rattle.players.specs.Lists.{over}
-use Rattle.players.specs.Calls.{hasTime}
+use Rattle.players.specs.Calls.{unit, mustBeTimed, hasTime, reads}
 use Rattle.players.proofs.Lists.{cond-true, cond-false}
 use Rattle.players.proofs.Loops.{take-min}
 use Rattle.waiting.specs.Admission.{admitted, pushed}
@@ -140,23 +140,41 @@ module _ (timed : Bool) (table : List Instrument) (old : Queue) where
       go a true t r rec = let c = r t .1 in rec (omega (arith, h, c))
       go a false t r rec = refl
 
+pub handed-timed : (timed : Bool) (s : Score) → handedOf timed s .timed ≡ timed
+unfolding handedOf
+handed-timed timed s = refl
+
 -- What is handed over brings what the whole reading brings.
-pub handed-brings : (timed : Bool) (table : List Instrument) (q : Queue) (s : Score) → broughtIn timed table q (scoreIn (handedOf timed s)) ≡ broughtIn timed table q s
+pub handed-brings : (ended timed : Bool) (table : List Instrument) (q : Queue) (s : Score) → broughtIn ended timed table q (scoreIn (handedOf timed s)) ≡ broughtIn ended timed table q s
 unfolding broughtIn scoreIn handedOf
-handed-brings timed table q s =
-    ap (λ (ls : List Line). cond (isTaken (s .answer)) (pushedAll timed table q q 0 ls) (record { queue = q; answer = s .answer; line = s .line }))
-    (take-append-seam (take mostHanded (s .lines)) (drop (length (take mostHanded (s .lines))) blank))
-    ∙ ap (λ (x : Pushed). cond (isTaken (s .answer)) x (record { queue = q; answer = s .answer; line = s .line }))
-    (enough timed table q 64 (s .lines) q 0 (omega arith))
+handed-brings ended timed table q s =
+    ap (λ (x : Pushed). cond ended (record { queue = q; answer = answer.Ended; line = 0 }) (cond (isTaken (s .answer)) x (record { queue = q; answer = s .answer; line = s .line })))
+    (ap (pushedAll timed table q q 0) (take-append-seam (take mostHanded (s .lines)) (drop (length (take mostHanded (s .lines))) blank))
+    ∙ enough timed table q 64 (s .lines) q 0 (omega arith))
 
--- ---- the whole: its lines where it was read, else its fault
+-- ---- the whole: 9, then its lines where it was read, else its fault
 
-module _ (table : List Instrument) (q : Queue) (h : Handed) where
-  pub brings-lines : isTaken (h .answer) ≡ true → (x : Pushed) → x ≡ pushedAll (h .timed) table q q 0 (take (h .count) (h .lines))
-      → x ≡ broughtIn (h .timed) table q (scoreIn h)
-  unfolding broughtIn scoreIn
-  brings-lines t x e = e ∙ sym (cond-true _ _ t)
+module _ (ended : Bool) (table : List Instrument) (q : Queue) (h : Handed) where
+  pub brings-over : ended ≡ true → record { queue = q; answer = answer.Ended; line = 0 } ≡ broughtIn ended (h .timed) table q (scoreIn h)
+  unfolding broughtIn
+  brings-over e = sym (cond-true _ _ e)
 
-  pub brings-fault : isTaken (h .answer) ≡ false → record { queue = q; answer = h .answer; line = h .line } ≡ broughtIn (h .timed) table q (scoreIn h)
-  unfolding broughtIn scoreIn
-  brings-fault t = sym (cond-false _ _ t)
+  module _ (e : ended ≡ false) where
+    pub brings-lines : isTaken (h .answer) ≡ true → (x : Pushed) → x ≡ pushedAll (h .timed) table q q 0 (take (h .count) (h .lines))
+        → x ≡ broughtIn ended (h .timed) table q (scoreIn h)
+    unfolding broughtIn scoreIn
+    brings-lines t x k = k ∙ sym (cond-false _ _ e ∙ cond-true _ _ t)
+
+    pub brings-fault : isTaken (h .answer) ≡ false → record { queue = q; answer = h .answer; line = h .line } ≡ broughtIn ended (h .timed) table q (scoreIn h)
+    unfolding broughtIn scoreIn
+    brings-fault t = sym (cond-false _ _ e ∙ cond-false _ _ t)
+
+-- what a unit hands over
+pub unit-brings : (ended : Bool) (table : List Instrument) (q : Queue) (bytes : List ℕ) (h : Handed) → h ≡ handedOf (mustBeTimed unit) (reads unit bytes)
+    → (x : Pushed) → x ≡ broughtIn ended (h .timed) table q (scoreIn h) → x ≡ broughtIn ended (mustBeTimed unit) table q (reads unit bytes)
+unit-brings ended table q bytes h e x k =
+    k ∙ ap (λ (y : Handed). broughtIn ended (y .timed) table q (scoreIn y)) e ∙ by-time ∙ handed-brings ended (mustBeTimed unit) table q (reads unit bytes)
+  where
+    by-time : broughtIn ended (handedOf (mustBeTimed unit) (reads unit bytes) .timed) table q (scoreIn (handedOf (mustBeTimed unit) (reads unit bytes)))
+        ≡ broughtIn ended (mustBeTimed unit) table q (scoreIn (handedOf (mustBeTimed unit) (reads unit bytes)))
+    by-time = ap (λ (t : Bool). broughtIn ended t table q (scoreIn (handedOf (mustBeTimed unit) (reads unit bytes)))) (handed-timed (mustBeTimed unit) (reads unit bytes))

@@ -2,16 +2,18 @@
 use mathlib.Core.Bool.{Bool, false, not, _&&_, cond}
 use mathlib.Core.List.{List, [], _∷_}
 use Prim.Native.Nat.{ℕ, _+_}
+use lib.Dec.{leb}
 use lib.ListN.{length, take, replicate}
 use lib.Ieee.{binary32, ofBits}
-use Rattle.answer.specs.Numbers.{isTaken}
-use Rattle.answer.specs.declared.Answer.the-variants.{Taken, NoTime}
+use Rattle.answer.specs.Numbers.{numberOf, isTaken}
+use Rattle.answer.specs.declared.Answer.the-variants.{Taken, NoTime, NoRoom, Ended}
+use Rattle.bursts.specs.Bursts.{Burst, units, fault}
 use Rattle.score_line.specs.declared.When.the-variants.{Untimed}
 use Rattle.score_line.specs.declared.Event.the-variants.{End}
 use Rattle.score_line.specs.declared.Line.{Line}
 use Rattle.score.specs.Score.{Score}
 use Rattle.players.specs.Lists.{over}
-use Rattle.players.specs.Calls.{hasTime}
+use Rattle.players.specs.Calls.{unit, mustBeTimed, hasTime, reads}
 use Rattle.waiting.specs.Admission.{admitted}
 use Rattle.waiting.specs.declared.Queue.{Queue}
 use Rattle.waiting.specs.declared.Admitted.{Admitted}
@@ -19,6 +21,7 @@ use Rattle.sounding.specs.Voices.{fieldsIn}
 use Rattle.sounding.specs.declared.Instrument.{Instrument}
 use Rattle.entrances.specs.declared.Handed.{Handed}
 use Rattle.entrances.specs.declared.Pushed.{Pushed}
+use Rattle.entrances.specs.declared.Sent.{Sent}
 
 -- ---- one line, and all of a call
 
@@ -35,10 +38,37 @@ pushedAll timed table old q i (l ∷ ls) =
     cond (isTaken (lineIn timed table q l .answer)) (pushedAll timed table old (lineIn timed table q l .queue) (i + 1) ls)
     (record { queue = old; answer = lineIn timed table q l .answer; line = i })
 
--- what was read: its lines, or the first fault of its reading
-unfoldable pub broughtIn : Bool → List Instrument → Queue → Score → Pushed
-broughtIn timed table q s =
-    cond (isTaken (s .answer)) (pushedAll timed table q q 0 (s .lines)) (record { queue = q; answer = s .answer; line = s .line })
+-- what was read: 9 after the end, then the first fault of its reading, then its lines
+unfoldable pub broughtIn : Bool → Bool → List Instrument → Queue → Score → Pushed
+broughtIn ended timed table q s =
+    cond ended (record { queue = q; answer = Ended; line = 0 })
+    (cond (isTaken (s .answer)) (pushedAll timed table q q 0 (s .lines)) (record { queue = q; answer = s .answer; line = s .line }))
+
+-- ---- a burst
+
+-- what units leave that come singly, in order: the waiting lines, and the number of each one's answer
+pub record Singly : Type 0 where
+  pub queue : Queue
+  pub numbers : List ℕ
+
+unfoldable pub singlyIn : Bool → List Instrument → Queue → List (List ℕ) → Singly
+singlyIn ended table q [] = record { queue = q; numbers = [] }
+singlyIn ended table q (u ∷ us) =
+    let r = broughtIn ended (mustBeTimed unit) table q (reads unit u) in
+    let rest = singlyIn ended table (r .queue) us in
+    record { queue = rest .queue; numbers = numberOf (r .answer) ∷ rest .numbers }
+
+-- its first fault; 8 where there are fewer places than units; then its units as if they came singly
+unfoldable pub sentIn : Bool → List Instrument → Queue → ℕ → Burst → Sent
+sentIn ended table q places (units us) =
+    cond (leb (length us) places) (record { queue = singlyIn ended table q us .queue; answer = Taken; units = length us })
+    (record { queue = q; answer = NoRoom; units = 0 })
+sentIn ended table q places (fault a) = record { queue = q; answer = a; units = 0 }
+
+-- the lent answer area afterwards: an answer for each unit in its first places, or as it was
+unfoldable pub areaIn : Bool → List Instrument → Queue → List ℕ → Burst → List ℕ
+areaIn ended table q area (units us) = cond (leb (length us) (length area)) (over (singlyIn ended table q us .numbers) area) area
+areaIn ended table q area (fault a) = area
 
 -- ---- what is handed over
 

@@ -15,7 +15,7 @@ use Rattle.players.specs.Calls.{Door, mustBeTimed, reads}
 use Rattle.players.proofs.Lists.{cond-true, cond-false}
 use Rattle.entrances.specs.Entrances.{emptyLine, handedOf, scoreIn, broughtIn}
 use Rattle.entrances.specs.declared.Handed.{Handed}
-use Rattle.entrances.proofs.Pushing.{handed-brings}
+use Rattle.entrances.proofs.Pushing.{handed-timed, handed-brings}
 use Rattle.panel.specs.State.{tableOf, withQueue, withMessages, emptyNote, startOf}
 use Rattle.panel.specs.Calls.{noPanel, hasChosen, freshOf, broughtOf, bringOf, playKeysOf}
 use Rattle.panel.specs.declared.Panel.{Panel}
@@ -107,28 +107,21 @@ module _ (p : Panel) (bytes : List ℕ) where
   unfolding playKeysOf
   keys-in h r e = ap (λ (x : Pressed). record { panel = withMessages p (x .messages); answer = x .answer }) e ∙ sym (cond-false _ _ h)
 
-module _ (p : Panel) (timed : Bool) (s : Score) where
-  pub brings-over : p .state .playing .ended ≡ true → record { panel = p; answer = Ended; line = 0 } ≡ broughtOf p timed s
-  unfolding broughtOf
-  brings-over h = sym (cond-true _ _ h)
-
-  pub brings-in : p .state .playing .ended ≡ false → (r : Pushed) → r ≡ broughtIn timed (tableOf (p .program)) (p .state .queue) s
-      → record { panel = withQueue p (r .queue); answer = r .answer; line = r .line } ≡ broughtOf p timed s
-  unfolding broughtOf
-  brings-in h r e = ap (λ (x : Pushed). record { panel = withQueue p (x .queue); answer = x .answer; line = x .line }) e ∙ sym (cond-false _ _ h)
+-- at a door
+pub brings-in : (p : Panel) (timed : Bool) (s : Score) (r : Pushed) → r ≡ broughtIn (p .state .playing .ended) timed (tableOf (p .program)) (p .state .queue) s
+    → record { panel = withQueue p (r .queue); answer = r .answer; line = r .line } ≡ broughtOf p timed s
+unfolding broughtOf
+brings-in p timed s r e = ap (λ (x : Pushed). record { panel = withQueue p (x .queue); answer = x .answer; line = x .line }) e
 
 -- what is handed over at a door does what the whole reading does
 module _ (p : Panel) (d : Door) (handed : List ℕ) where
   abbrev given : Handed
   given = handedOf (mustBeTimed d) (reads d handed)
 
-  given-timed : given .timed ≡ mustBeTimed d
-  unfolding handedOf
-  given-timed = refl
-
   pub by-door : (h : Handed) → h ≡ given → (x : Brought) → x ≡ broughtOf p (h .timed) (scoreIn h) → x ≡ bringOf p d handed
   unfolding bringOf broughtOf
   by-door h e x q =
-      q ∙ ap (λ (y : Handed). broughtOf p (y .timed) (scoreIn y)) e ∙ ap (λ (t : Bool). broughtOf p t (scoreIn given)) given-timed
-      ∙ ap (λ (r : Pushed). cond (p .state .playing .ended) (record { panel = p; answer = Ended; line = 0 }) (record { panel = withQueue p (r .queue); answer = r .answer; line = r .line }))
-      (handed-brings (mustBeTimed d) (tableOf (p .program)) (p .state .queue) (reads d handed))
+      q ∙ ap (λ (y : Handed). broughtOf p (y .timed) (scoreIn y)) e
+      ∙ ap (λ (t : Bool). broughtOf p t (scoreIn given)) (handed-timed (mustBeTimed d) (reads d handed))
+      ∙ ap (λ (r : Pushed). record { panel = withQueue p (r .queue); answer = r .answer; line = r .line })
+      (handed-brings (p .state .playing .ended) (mustBeTimed d) (tableOf (p .program)) (p .state .queue) (reads d handed))

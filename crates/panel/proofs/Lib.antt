@@ -1,2 +1,3 @@
 pub mod Entering
+pub mod Receiving
 pub mod Turning

@@ -1,17 +1,19 @@
 -- What each call of the panel gives, for every panel and every input.
 use mathlib.Core.Bool.{Bool, true, false, cond, _&&_}
-use mathlib.Core.List.{List, []}
+use mathlib.Core.List.{List, [], _∷_}
 use Prim.Native.Nat.{ℕ}
 use lib.IntN.{ℤ}
 use lib.ListN.{length}
 use lib.Dec.{eqb, leb}
-use Rattle.answer.specs.Numbers.{isTaken}
+use Rattle.answer.specs.Numbers.{numberOf, isTaken}
 use Rattle.answer.specs.declared.Answer.{Answer}
-use Rattle.answer.specs.declared.Answer.the-variants.{Taken, OutOfRange, NoInstrument, Ended, BlockLength}
+use Rattle.answer.specs.declared.Answer.the-variants.{Taken, OutOfRange, NoInstrument, NoRoom, Ended, BlockLength}
 use Rattle.score.specs.Score.{Score}
+use Rattle.bursts.specs.Bursts.{Burst, units, fault, burstOf}
+use Rattle.players.specs.Lists.{over}
 use Rattle.players.specs.Cycle.{samples}
 use Rattle.players.specs.Holds.{dueOf, blockOf}
-use Rattle.players.specs.Calls.{Door, mustBeTimed, reads}
+use Rattle.players.specs.Calls.{Door, unit, mustBeTimed, reads}
 use Rattle.turning.specs.Turn as turn
 use Rattle.entrances.specs.Entrances.{broughtIn}
 use Rattle.messages.specs.Reading.{callOf}
@@ -23,6 +25,7 @@ use Rattle.loader.specs.declared.Program.{Program}
 use Rattle.loader.specs.Loading.{loadOf as loadedFrom}
 use Rattle.panel.specs.declared.Fresh.{Fresh}
 use Rattle.panel.specs.declared.Brought.{Brought}
+use Rattle.panel.specs.declared.Received.{Received}
 use Rattle.panel.specs.declared.Played.{Played}
 use Rattle.panel.specs.declared.Cycled.{Cycled}
 
@@ -45,18 +48,48 @@ freshOf orchestra ceiling chosen =
     (noPanel (r .program) (r .answer)))
     (noPanel (loadedFrom [] .program) OutOfRange)
 
--- ---- a call that brings lines: 9 first
+-- ---- a call that brings lines
 
--- what was read goes in, all of it or none
+-- what was read goes in, all of it or none, and nothing else of the panel changes
 unfoldable pub broughtOf : Panel → Bool → Score → Brought
 broughtOf p timed s =
-    let r = broughtIn timed (tableOf (p .program)) (p .state .queue) s in
-    cond (p .state .playing .ended) (record { panel = p; answer = Ended; line = 0 })
-    (record { panel = withQueue p (r .queue); answer = r .answer; line = r .line })
+    let r = broughtIn (p .state .playing .ended) timed (tableOf (p .program)) (p .state .queue) s in
+    record { panel = withQueue p (r .queue); answer = r .answer; line = r .line }
 
 -- bytes or numbers at a door
 unfoldable pub bringOf : Panel → Door → List ℕ → Brought
 bringOf p d handed = broughtOf p (mustBeTimed d) (reads d handed)
+
+-- ---- a burst: many units in one call
+
+-- units that come singly, in order: the panel after them, and the number of each one's answer
+pub record Singly : Type 0 where
+  pub panel : Panel
+  pub numbers : List ℕ
+
+unfoldable pub singly : Panel → List (List ℕ) → Singly
+singly p [] = record { panel = p; numbers = [] }
+singly p (u ∷ us) =
+    let r = bringOf p unit u in
+    let rest = singly (r .panel) us in
+    record { panel = rest .panel; numbers = numberOf (r .answer) ∷ rest .numbers }
+
+-- the first of 1 and 5 met; 8 where the answer area has fewer places than there are units; then the units as if they came singly
+unfoldable pub receivedOf : Panel → ℕ → Burst → Received
+receivedOf p places (units us) =
+    cond (leb (length us) places) (record { panel = singly p us .panel; answer = Taken; units = length us }) (record { panel = p; answer = NoRoom; units = 0 })
+receivedOf p places (fault a) = record { panel = p; answer = a; units = 0 }
+
+unfoldable pub receiveOf : Panel → List ℕ → ℕ → Received
+receiveOf p bytes places = receivedOf p places (burstOf bytes)
+
+-- the lent answer area afterwards: the units' answers in its first places, or as it was
+unfoldable pub answeredIn : Panel → List ℕ → Burst → List ℕ
+answeredIn p area (units us) = cond (leb (length us) (length area)) (over (singly p us .numbers) area) area
+answeredIn p area (fault a) = area
+
+unfoldable pub areaAfter : Panel → List ℕ → List ℕ → List ℕ
+areaAfter p bytes area = answeredIn p area (burstOf bytes)
 
 -- ---- bytes at the keyboard: 9 first
 

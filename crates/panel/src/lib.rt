@@ -13,7 +13,7 @@ ghost use Rattle.panel.specs.State.{startOf};
 ghost use Rattle.loader.specs.Loading.{loadOf as loadedFrom};
 ghost use Rattle.players.specs.Calls.{stick, unit, keypad, text};
 ghost use Rattle.entrances.specs.Entrances.{scoreIn};
-ghost use Rattle.panel.specs.Calls.{noPanel, hasChosen, freshOf, broughtOf, bringOf, playKeysOf, cycleOf, blockAfter};
+ghost use Rattle.panel.specs.Calls.{noPanel, hasChosen, freshOf, broughtOf, bringOf, receiveOf, areaAfter, playKeysOf, cycleOf, blockAfter};
 
 // What the calls change, beside what a fresh start fixes.
 pub struct Panel {
@@ -35,6 +35,13 @@ pub struct Brought {
     pub line: usize,
 }
 
+// What a burst leaves; `units` is how many of its units were answered.
+pub struct Received {
+    pub panel: Panel,
+    pub answer: Answer,
+    pub units: usize,
+}
+
 // What a call at the keyboard leaves.
 pub struct Played {
     pub panel: Panel,
@@ -46,21 +53,14 @@ pub struct Cycled {
     pub answer: Answer,
 }
 
-// What was handed in at a door: 9 first, then all its lines or none.
+// What was handed in at a door, read, into the waiting lines.
 fn bring(mut p: Panel, h: Handed) -> Brought
     ensures { λ r. ⌜ r ≡ broughtOf p (h .timed) (scoreIn h) ⌝ }
 {
-    if p.state.playing.ended {
-        return Brought {
-            panel: p,
-            answer: Answer::Ended,
-            line: 0,
-        };
-    }
     let table = p.program.table;
     let mut state = p.state;
     let q = state.queue;
-    let r = entrances::bring_in(table, p.program.count, q, h);
+    let r = entrances::bring_in(table, p.program.count, state.playing.ended, q, h);
     let left = r.queue;
     let given = r.answer;
     state.queue = left;
@@ -191,6 +191,34 @@ impl Panel {
         ensures { λ r. ⌜ r ≡ bringOf self text (now (s .entry)) ⌝ }
     {
         bring(self, entrances::text(s))
+    }
+
+    // A burst of access units: each as if it came singly, in order, with its answer's number in the lent area; or a refusal, and nothing is
+    // taken or written.
+    pub fn receive_burst(mut self, s: &[u8], answers: &mut [u8]) -> Received
+        ensures panel { λ r. ⌜ r ≡ receiveOf self (now (s .entry)) (length (now (answers .entry))) ⌝ }
+        ensures area { λ r. ⌜ now (answers .exit) ≡ areaAfter self (now (s .entry)) (now (answers .entry)) ⌝ }
+    {
+        let table = self.program.table;
+        let mut state = self.state;
+        let before = state.queue;
+        let r = entrances::burst_in(
+            table,
+            self.program.count,
+            state.playing.ended,
+            before,
+            s,
+            answers,
+        );
+        let queue = r.queue;
+        let given = r.answer;
+        state.queue = queue;
+        self.state = state;
+        Received {
+            panel: self,
+            answer: given,
+            units: r.units,
+        }
     }
 
     // Bytes at the keyboard: all its note messages, or none of them.

@@ -14,7 +14,7 @@ use Rattle.players.specs.Cycle.{Voices}
 use Rattle.players.specs.Holds.{Settings, Counts, Holds, behind, withMessages, marked, dueOf, endsBy, answerOf, blockOf, played, cycled}
 use Rattle.players.specs.Plain.{plainStart, plainAt, answerAt, blockAt}
 use Rattle.messages.specs.declared.Message.{Message}
-use Rattle.players.specs.Calls.{Call, bring, keyboard, cycle, messagesIn, messagesTaken, Answer, one, After, Player, numbered, takenOf, linesOf, isZero, Last, latest, none, Moment, takenIn, cyclesWith, lastWith, allTaken, momentOf, traceFrom}
+use Rattle.players.specs.Calls.{Call, bring, burst, keyboard, cycle, messagesIn, messagesTaken, Answer, one, After, Player, numbered, takenOf, linesOf, isZero, Last, latest, none, Moment, takenIn, cyclesWith, lastWith, allTaken, momentOf, traceFrom}
 use Rattle.players.specs.Condition3.{InTime, AsPlain, NotKeyboard, PlainAlike}
 use Rattle.players.specs.History.{History, unbegun, withCycle, withMoment}
 use Rattle.players.proofs.Lists.{cond-true, cond-false}
@@ -27,6 +27,7 @@ differ q = let z : _≡_ {A = ℕ} 0 1 = cc in omega arith
 -- a numbered call brings no line
 no-line : (c : Call) (given : List Answer) → numbered c ≡ true → takenOf (linesOf c) given ≡ []
 no-line (bring d handed) given q = absurd (differ (sym q))
+no-line (burst bytes area) given q = absurd (differ (sym q))
 no-line (keyboard bytes) given q = absurd (differ (sym q))
 no-line (cycle b) [] q = refl
 no-line (cycle b) (a ∷ given) q = go (eqb (a .number) 0)
@@ -40,6 +41,8 @@ no-message : (b : Bool) (c : Call) → NotKeyboard c → cond b (messagesIn c) [
 no-message b (keyboard bytes) h = absurd h
 no-message true (bring d handed) h = refl
 no-message false (bring d handed) h = refl
+no-message true (burst bytes area) h = refl
+no-message false (burst bytes area) h = refl
 no-message true (cycle block) h = refl
 no-message false (cycle block) h = refl
 

@@ -14,9 +14,11 @@ use Rattle.score_line.specs.declared.Line.{Line}
 use Rattle.score_line.specs.declared.LineRead.{LineRead}
 use Rattle.score.specs.Score.{Score, scoreOf, unitOf}
 use Rattle.score_text.specs.Reading.{textOf}
+use Rattle.bursts.specs.Bursts.{unitsIn, burstOf}
 use Rattle.messages.specs.Writing as midi
 use Rattle.messages.specs.Reading.{callOf}
 use Rattle.messages.specs.declared.Message.{Message}
+use Rattle.players.specs.Lists.{each}
 use Rattle.players.specs.Cycle.{samples}
 use Rattle.players.specs.Holds.{Counts}
 
@@ -53,15 +55,18 @@ reads text bytes = textOf bytes
 
 -- ---- calls
 
--- bytes or numbers at a door, bytes at the keyboard, or a block as it is lent
+-- bytes or numbers at a door, the bytes of a burst with an answer area as it is lent, bytes at the keyboard, or a block as it is lent
 pub data Call : Type 0 where
   bring : Door → List ℕ → Call
+  -- (M-103) many units in one call
+  burst : List ℕ → List ℕ → Call
   keyboard : List ℕ → Call
   cycle : List ℤ → Call
 
--- the lines that a call holds, for each answer that it gets
+-- the lines that a call holds, for each answer that it gets: a burst has one of its own, which holds none, and one for each of its units
 abbrev pub linesOf : Call → List (List Line)
 linesOf (bring d handed) = reads d handed .lines ∷ []
+linesOf (burst bytes area) = [] ∷ each (λ (u : List ℕ). reads unit u .lines) (unitsIn (burstOf bytes))
 linesOf (keyboard bytes) = [] ∷ []
 linesOf (cycle block) = [] ∷ []
 
@@ -73,6 +78,7 @@ wholeMessages (midi.fault a) = []
 -- the note messages that a call holds
 abbrev pub messagesIn : Call → List Message
 messagesIn (bring d handed) = []
+messagesIn (burst bytes area) = []
 messagesIn (keyboard bytes) = wholeMessages (callOf bytes)
 messagesIn (cycle block) = []
 
@@ -85,11 +91,12 @@ pub record Answer : Type 0 where
 abbrev pub one : ℕ → ℕ → List Answer
 one number line = record { number = number; line = line } ∷ []
 
--- what a call leaves: the player, the answers, and the lent block (none but for a cycle call)
+-- what a call leaves: the player, the answers, the lent block (none but for a cycle call) and the lent answer area (none but for a burst)
 pub record After (P : Type 0) : Type 0 where
   pub player : P
   pub answers : List Answer
   pub block : List ℤ
+  pub area : List ℕ
 
 -- a player: what its calls leave, and what it counts. It does not say which lines it took.
 pub record Player (P : Type 0) : Type 0 where
@@ -99,6 +106,7 @@ pub record Player (P : Type 0) : Type 0 where
 -- a cycle call lent a block of 320 samples: these are numbered from 0
 abbrev pub numbered : Call → Bool
 numbered (bring d handed) = false
+numbered (burst bytes area) = false
 numbered (keyboard bytes) = false
 numbered (cycle block) = eqb (length block) samples
 
@@ -164,3 +172,8 @@ module _ {P : Type 0} (e : Player P) where
   unfoldable pub afterAll : P → List Call → P
   afterAll p [] = p
   afterAll p (c ∷ cs) = afterAll (e .after p c .player) cs
+
+  -- their answers, in order
+  unfoldable pub answersAll : P → List Call → List Answer
+  answersAll p [] = []
+  answersAll p (c ∷ cs) = e .after p c .answers ++ answersAll (e .after p c .player) cs

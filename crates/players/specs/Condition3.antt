@@ -12,7 +12,7 @@ use Rattle.players.specs.Lists.{All}
 use Rattle.players.specs.Cycle.{Voices}
 use Rattle.players.specs.Holds.{Settings}
 use Rattle.players.specs.Plain.{plainAt, answerAt, blockAt}
-use Rattle.players.specs.Calls.{Call, bring, keyboard, cycle, Player, numbered, isZero, one, Last, none, latest, Moment, takenIn, cyclesWith, allTaken, trace}
+use Rattle.players.specs.Calls.{Call, bring, burst, keyboard, cycle, Player, numbered, isZero, one, Last, none, latest, Moment, takenIn, cyclesWith, allTaken, trace}
 
 abbrev pub timed : When → Type 0
 timed (Timed late t) = Unit {0}
@@ -43,6 +43,7 @@ module _ {P S : Type 0} (e : Player P) (v : Voices S) (settings : ℕ → Settin
 
 abbrev pub NotKeyboard : Call → Type 0
 NotKeyboard (bring d handed) = Unit {0}
+NotKeyboard (burst bytes area) = Unit {0}
 NotKeyboard (keyboard bytes) = ⊥
 NotKeyboard (cycle block) = Unit {0}
 

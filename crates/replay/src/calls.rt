@@ -18,7 +18,7 @@ pub struct Done {
     pub used: usize,
 }
 
-fn left(panel: Panel, present: bool, used: usize) -> Done {
+pub fn left(panel: Panel, present: bool, used: usize) -> Done {
     Done {
         session: Session {
             panel: panel,
@@ -38,16 +38,16 @@ pub fn no_panel() -> Session {
     }
 }
 
-fn put_answer(out: &mut [u8], used: usize, a: Answer) -> usize {
+pub fn put_answer(out: &mut [u8], used: usize, a: Answer) -> usize {
     ports::put_byte(out, used, answer::number(a))
 }
 
-fn put_missed(out: &mut [u8], used: usize, panel: Panel) -> usize {
+pub fn put_missed(out: &mut [u8], used: usize, panel: Panel) -> usize {
     ports::put_long(out, used, Panel::missed_notes(panel))
 }
 
 // A number that fits 32 bits, as line numbers and byte counts do.
-fn word_of(n: usize) -> u32 {
+pub fn word_of(n: usize) -> u32 {
     (n % 4294967296) as u32
 }
 
@@ -263,6 +263,9 @@ fn dispatch(s: Session, r: Record, bytes: &[u8], out: &mut [u8], used: usize) ->
     let panel = s.panel;
     if r.code == b'F' {
         return fresh(bytes, r.first, r.symbol, out, used);
+    }
+    if r.code == b'B' {
+        return crate::burst::carried_out(s, r.first as usize, bytes, out, used);
     }
     if needs_panel(r.code) {
         if s.present {

@@ -1,5 +1,6 @@
 // The panel as a filter: a list of calls on standard input, every answer on standard output.
 // A record is a code and its fields; each kind has a function, and the fields of all kinds are read in one way.
+mod burst;
 mod calls;
 mod record;
 

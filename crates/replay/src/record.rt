@@ -40,21 +40,25 @@ fn dry(p: Port) -> Fault {
 
 fn is_known(code: u8) -> bool {
     match code {
-        b'F' | b'S' | b'T' | b'U' | b'K' | b'M' | b'C' | b'D' | b'd' | b'E' | b'W' | b'w' | b'X' =>
-            true,
+        b'F' | b'S' | b'T' | b'U' | b'B' | b'K' | b'M' | b'C' => true,
+        b'D' | b'd' | b'E' | b'W' | b'w' | b'X' => true,
         _ => false,
     }
 }
 
 fn has_first(code: u8) -> bool {
     match code {
-        b'F' | b'D' | b'd' | b'E' => true,
+        b'F' | b'B' | b'D' | b'd' | b'E' => true,
         _ => false,
     }
 }
 
 fn most_first(code: u8) -> u32 {
-    if code == b'F' { u32::MAX } else { 128 }
+    match code {
+        b'F' => u32::MAX,
+        b'B' => 64,
+        _ => 128,
+    }
 }
 
 fn most_count(code: u8) -> u32 {

@@ -122,6 +122,67 @@ fn unit(d: Desk, bytes: &[u8]) -> Desk {
     left(d, after, number(a))
 }
 
+// A burst, with an answer area of so many places: its own answer, and the places as they are left.
+struct Outcome {
+    panel: Panel,
+    answer: u64,
+    places: u64,
+}
+
+const UNTOUCHED: u8 = 90;
+
+fn with_place(n: u64, place: u8) -> u64 {
+    n % 1000000000 * 100 + (place % 100) as u64
+}
+
+// Two digits for each place.
+fn digits(area: &[u8]) -> u64 {
+    let mut n: u64 = 0;
+    let mut at: usize = 0;
+    while at < area.len() {
+        n = with_place(n, area[at]);
+        at += 1;
+    }
+    n
+}
+
+fn sent(panel: Panel, bytes: &[u8], area: &mut [u8]) -> Outcome {
+    let r = Panel::receive_burst(panel, bytes, area);
+    let a = r.answer;
+    let after = r.panel;
+    Outcome {
+        panel: after,
+        answer: number(a),
+        places: digits(area),
+    }
+}
+
+fn sent_with(panel: Panel, places: usize, bytes: &[u8]) -> Outcome {
+    let mut area = [UNTOUCHED; 64];
+    if places <= 64 {
+        return sent(panel, bytes, &mut area[..places]);
+    }
+    Outcome {
+        panel: panel,
+        answer: NO_CALL,
+        places: NO_CALL,
+    }
+}
+
+fn burst(d: Desk, places: usize, bytes: &[u8]) -> Desk {
+    let panel = d.panel;
+    let s = sent_with(panel, places, bytes);
+    let after = s.panel;
+    left(d, after, s.answer)
+}
+
+fn burst_places(d: Desk, places: usize, bytes: &[u8]) -> Desk {
+    let panel = d.panel;
+    let s = sent_with(panel, places, bytes);
+    let after = s.panel;
+    left(d, after, s.places)
+}
+
 fn keypad(d: Desk, numbers: &[u32]) -> Desk {
     let panel = d.panel;
     let r = Panel::enter_line(panel, numbers);
@@ -240,6 +301,8 @@ enum Call {
     Text,
     TextLine,
     Unit,
+    Burst,
+    BurstPlaces,
     Keypad,
     Keyboard,
     Choose,
@@ -309,6 +372,16 @@ fn told_of(text: &[u8], h: Head) -> Call {
     if text::is_name(text, h, b"position") {
         return Call::Position;
     }
+    of_burst(text, h)
+}
+
+fn of_burst(text: &[u8], h: Head) -> Call {
+    if text::is_name(text, h, b"burst") {
+        return Call::Burst;
+    }
+    if text::is_name(text, h, b"burst_places") {
+        return Call::BurstPlaces;
+    }
     on_area(text, h)
 }
 
@@ -360,6 +433,8 @@ fn called(d: Desk, c: Call, size: usize, bytes: &[u8], numbers: &[u32]) -> Desk 
         Call::Text => typed(d, bytes),
         Call::TextLine => typed_line(d, bytes),
         Call::Unit => unit(d, bytes),
+        Call::Burst => burst(d, size, bytes),
+        Call::BurstPlaces => burst_places(d, size, bytes),
         Call::Keypad => keypad(d, numbers),
         Call::Keyboard => keyboard(d, bytes),
         Call::Choose => begun(d, HIGHEST, symbol_of(size), bytes),

@@ -31,7 +31,7 @@ use Rattle.players.specs.Condition3.{inTime, InTime, AsPlain, PlainAlike}
 use Rattle.players.specs.History.{historyFrom}
 use Rattle.written_voices.specs.Voices.{writtenVoices}
 use Rattle.panel.specs.declared.Panel.{Panel}
-use Rattle.claims.specs.Verdict.{here, taken, Verdict}
+use Rattle.claims.specs.Verdict.{here, taken, once, Verdict}
 use Rattle.claims.specs.Claims.{afterOf, panel, Given, settings, past, Condition3, CallVerdict}
 use Rattle.claims.proofs.Written.{condition-3}
 use Rattle.claims.proofs.Answers.{call-verdict}
@@ -58,15 +58,15 @@ room : 0 < 64
 room = omega arith
 
 -- its line fits: it is timed, its instrument is there, it is not late, and there is room
-verdict : Verdict tree (past bytes tree ceiling chosen []) (bring stick score) 0 0
+verdict : Verdict tree (past bytes tree ceiling chosen []) (bring stick score) (one 0 0)
 unfolding historyFrom traceFrom plainStart
 verdict =
-    taken (line ∷ []) (refl, score-read .0, score-read .1)
-    (record { timed = λ q. refl; playable = here refl enough; early = refl; room = room }, tt)
+    once (taken (line ∷ []) (refl, score-read .0, score-read .1)
+    (record { timed = λ q. refl; playable = here refl enough; early = refl; room = room }, tt))
 
 taken-whole : afterOf started (bring stick score) .answers ≡ one 0 0
 unfolding CallVerdict afterAll
-taken-whole = call-verdict bytes tree ceiling chosen given [] (bring stick score) .1 0 0 verdict
+taken-whole = call-verdict bytes tree ceiling chosen given [] (bring stick score) .1 (one 0 0) verdict
 
 -- no line comes by a cycle call
 pub no-line : (given : List Answer) → takenOf ([] ∷ []) given ≡ []

@@ -35,7 +35,7 @@ use Rattle.timebase.specs.Time.{cycleOf, cycleIn}
 use Rattle.voices.specs.Tree.{silent, instrumentOf, importsOf, treeVoices}
 use Rattle.players.specs.Calls.{Call, keyboard, cycle, wholeMessages, Answer, one, isZero, takenOf, traceFrom, afterAll}
 use Rattle.players.specs.History.{History, nowhere, withCycle, historyFrom}
-use Rattle.claims.specs.Verdict.{keysTaken, plays, Verdict}
+use Rattle.claims.specs.Verdict.{keysTaken, plays, once, Verdict}
 use Rattle.claims.specs.Claims.{afterOf, Given, settings, past, panelAfter, CallVerdict}
 use Rattle.claims.proofs.Answers.{call-verdict}
 use Rattle.claims.proofs.Past.{block-by-place}
@@ -110,11 +110,11 @@ one-more : 1 ≤ 64
 one-more = omega arith
 
 record Computed : Type 0 where
-  on : Verdict tree begin (keyboard pressed) 0 0
-  first : Verdict tree h1 (cycle lent) 0 0
-  off : Verdict tree h2 (keyboard letGo) 0 0
-  last : Verdict tree h3 (cycle lent) 0 0
-  gone : Verdict tree h4 (cycle lent) 0 0
+  on : Verdict tree begin (keyboard pressed) (one 0 0)
+  first : Verdict tree h1 (cycle lent) (one 0 0)
+  off : Verdict tree h2 (keyboard letGo) (one 0 0)
+  last : Verdict tree h3 (cycle lent) (one 0 0)
+  gone : Verdict tree h4 (cycle lent) (one 0 0)
   first-block : block h1 ≡ replicate samples (pos 16384)
   last-block : block h3 ≡ replicate samples (pos 16384)
   gone-block : block h4 ≡ replicate samples (pos 0)
@@ -123,11 +123,11 @@ computed : Computed
 unfolding h4 h3 h2 h1 begin after-message behind withMessages answerOf blockOf limited bandOf soundsOf startedOf afterMessages afterMessage born runAll runFrom started controlled dueAt laterThan cycled plainStart sixty endsBy anyEnd played goesOn isHeld letGoOldest lastTempo cycleIn cycleOf keep fold each isDue insert ordered joinedBy shared loudnessOf treeVoices instrumentOf importsOf silent sampleOf held noteCycle kPass aPasses pass outputs assigned value freshValues birth put putIn namedBy named placeFrom add mul div round ofBits ofInt lt le eq
 computed =
     record {
-      on = keysTaken (on ∷ []) refl said-on one-more;
-      first = plays refl refl refl;
-      off = keysTaken (off ∷ []) refl said-off one-more;
-      last = plays refl refl refl;
-      gone = plays refl refl refl;
+      on = once (keysTaken (on ∷ []) refl said-on one-more);
+      first = once (plays refl refl refl);
+      off = once (keysTaken (off ∷ []) refl said-off one-more);
+      last = once (plays refl refl refl);
+      gone = once (plays refl refl refl);
       first-block = refl;
       last-block = refl;
       gone-block = refl;
@@ -144,7 +144,7 @@ presses e a q =
 
 on-answer : afterOf p0 (keyboard pressed) .answers ≡ one 0 0
 unfolding CallVerdict afterAll historyFrom traceFrom begin
-on-answer = call-verdict bytes tree ceiling chosen given [] (keyboard pressed) .1 0 0 (computed .on)
+on-answer = call-verdict bytes tree ceiling chosen given [] (keyboard pressed) .1 (one 0 0) (computed .on)
 
 past-on : past bytes tree ceiling chosen (keyboard pressed ∷ []) ≡ h1
 unfolding historyFrom traceFrom h1 begin
@@ -153,8 +153,8 @@ past-on = presses refl on-answer (messages-are .0)
 first-answer : afterOf p1 (cycle lent) .answers ≡ one 0 0
 unfolding CallVerdict afterAll
 first-answer =
-    call-verdict bytes tree ceiling chosen given (keyboard pressed ∷ []) (cycle lent) .1 0 0
-    (subst⁻¹ (λ (h : History Held). Verdict tree h (cycle lent) 0 0) past-on (computed .first))
+    call-verdict bytes tree ceiling chosen given (keyboard pressed ∷ []) (cycle lent) .1 (one 0 0)
+    (subst⁻¹ (λ (h : History Held). Verdict tree h (cycle lent) (one 0 0)) past-on (computed .first))
 
 first-block : afterOf p1 (cycle lent) .block ≡ replicate samples (pos 16384)
 unfolding afterAll
@@ -167,8 +167,8 @@ past-first = ap (withCycle (treeVoices tree) (settings ceiling chosen) 0) past-o
 off-answer : afterOf p2 (keyboard letGo) .answers ≡ one 0 0
 unfolding CallVerdict afterAll
 off-answer =
-    call-verdict bytes tree ceiling chosen given (keyboard pressed ∷ cycle lent ∷ []) (keyboard letGo) .1 0 0
-    (subst⁻¹ (λ (h : History Held). Verdict tree h (keyboard letGo) 0 0) past-first (computed .off))
+    call-verdict bytes tree ceiling chosen given (keyboard pressed ∷ cycle lent ∷ []) (keyboard letGo) .1 (one 0 0)
+    (subst⁻¹ (λ (h : History Held). Verdict tree h (keyboard letGo) (one 0 0)) past-first (computed .off))
 
 abbrev calls : List Call
 calls = keyboard pressed ∷ cycle lent ∷ keyboard letGo ∷ []
@@ -180,8 +180,8 @@ past-off = presses past-first off-answer (messages-are .1)
 last-answer : afterOf p3 (cycle lent) .answers ≡ one 0 0
 unfolding CallVerdict afterAll
 last-answer =
-    call-verdict bytes tree ceiling chosen given calls (cycle lent) .1 0 0
-    (subst⁻¹ (λ (h : History Held). Verdict tree h (cycle lent) 0 0) past-off (computed .last))
+    call-verdict bytes tree ceiling chosen given calls (cycle lent) .1 (one 0 0)
+    (subst⁻¹ (λ (h : History Held). Verdict tree h (cycle lent) (one 0 0)) past-off (computed .last))
 
 last-block : afterOf p3 (cycle lent) .block ≡ replicate samples (pos 16384)
 unfolding afterAll
@@ -194,8 +194,8 @@ past-last = ap (withCycle (treeVoices tree) (settings ceiling chosen) 1) past-of
 gone-answer : afterOf p4 (cycle lent) .answers ≡ one 0 0
 unfolding CallVerdict afterAll
 gone-answer =
-    call-verdict bytes tree ceiling chosen given (keyboard pressed ∷ cycle lent ∷ keyboard letGo ∷ cycle lent ∷ []) (cycle lent) .1 0 0
-    (subst⁻¹ (λ (h : History Held). Verdict tree h (cycle lent) 0 0) past-last (computed .gone))
+    call-verdict bytes tree ceiling chosen given (keyboard pressed ∷ cycle lent ∷ keyboard letGo ∷ cycle lent ∷ []) (cycle lent) .1 (one 0 0)
+    (subst⁻¹ (λ (h : History Held). Verdict tree h (cycle lent) (one 0 0)) past-last (computed .gone))
 
 gone-block : afterOf p4 (cycle lent) .block ≡ replicate samples (pos 0)
 unfolding afterAll

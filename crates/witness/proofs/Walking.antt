@@ -28,7 +28,7 @@ use Rattle.players.specs.Calls.{stick, unit, keypad, bring, cycle, Answer, one,
 use Rattle.players.specs.Condition3.{inTime, InTime, AsPlain, PlainAlike}
 use Rattle.players.specs.History.{History, nowhere, withCycle, historyFrom}
 use Rattle.panel.specs.declared.Panel.{Panel}
-use Rattle.claims.specs.Verdict.{here, there, taken, plays, Verdict, AllFit}
+use Rattle.claims.specs.Verdict.{here, there, taken, plays, once, Verdict, AllFit}
 use Rattle.claims.specs.Claims.{afterOf, panel, fresh, Given, settings, past, Condition3, CallVerdict}
 use Rattle.claims.proofs.Written.{condition-3}
 use Rattle.claims.proofs.Answers.{call-verdict}
@@ -66,15 +66,15 @@ rests-fit (suc n) k h = (
   rests-fit n (suc k) (omega arith),
 )
 
-on-stick : Verdict tree (past bytes tree ceiling chosen []) (bring stick onStick) 0 0
+on-stick : Verdict tree (past bytes tree ceiling chosen []) (bring stick onStick) (one 0 0)
 unfolding historyFrom traceFrom plainStart
 on-stick =
-    taken before (refl, rich .stick .0, rich .stick .1)
-    (record { timed = λ q. refl; playable = here refl one-field; early = refl; room = omega arith }, rests-fit 16 1 (omega arith))
+    once (taken before (refl, rich .stick .0, rich .stick .1)
+    (record { timed = λ q. refl; playable = here refl one-field; early = refl; room = omega arith }, rests-fit 16 1 (omega arith)))
 
 stick-answer : afterOf (fresh bytes ceiling chosen) (bring stick onStick) .answers ≡ one 0 0
 unfolding CallVerdict afterAll
-stick-answer = call-verdict bytes tree ceiling chosen given [] (bring stick onStick) .1 0 0 on-stick
+stick-answer = call-verdict bytes tree ceiling chosen given [] (bring stick onStick) .1 (one 0 0) on-stick
 
 stick-lines : takenOf (linesOf (bring stick onStick)) (afterOf (fresh bytes ceiling chosen) (bring stick onStick) .answers) ≡ before
 stick-lines = ap (takenOf (linesOf (bring stick onStick))) stick-answer ∙ ap (λ (ls : List Line). ls ++ []) (rich .stick .1)
@@ -91,12 +91,12 @@ after-unit : History Held
 after-unit = record { holds = withMessages [] (behind (control ∷ []) (after-first .holds)); reached = after-first .reached }
 
 -- cycle 0 plays; then nothing waits, and the control line and the end fit
-computed : Verdict tree after-stick (cycle lent) 0 0 × Verdict tree after-first (bring unit inUnit) 0 0 × Verdict tree after-unit (bring keypad onKeypad) 0 0
+computed : Verdict tree after-stick (cycle lent) (one 0 0) × Verdict tree after-first (bring unit inUnit) (one 0 0) × Verdict tree after-unit (bring keypad onKeypad) (one 0 0)
 unfolding after-unit after-first after-stick behind withMessages answerAt answerOf blockAt blockOf limited bandOf soundsOf startedOf afterMessages runAll runFrom started controlled dueAt laterThan plainAt cycled plainStart sixty endsBy anyEnd played goesOn lastTempo cycleIn cycleOf keep fold each isDue insert ordered joinedBy born controlledBy ticksIn treeVoices instrumentOf importsOf silent sampleOf held binaryOf noteCycle kPass aPasses pass outputs assigned value freshValues birth put putIn namedBy named placeFrom add mul round ofBits lt le eq code.named truth ne
 computed = (
-  plays refl refl refl,
-  taken (control ∷ []) (refl, rich .unit .0, rich .unit .1) (record { timed = λ q. refl; playable = tt; early = refl; room = omega arith }, tt),
-  taken (end ∷ []) (refl, rich .keypad .0, rich .keypad .1) (record { timed = λ q. refl; playable = tt; early = refl; room = omega arith }, tt),
+  once (plays refl refl refl),
+  once (taken (control ∷ []) (refl, rich .unit .0, rich .unit .1) (record { timed = λ q. refl; playable = tt; early = refl; room = omega arith }, tt)),
+  once (taken (end ∷ []) (refl, rich .keypad .0, rich .keypad .1) (record { timed = λ q. refl; playable = tt; early = refl; room = omega arith }, tt)),
 )
 
 past-stick : past bytes tree ceiling chosen (bring stick onStick ∷ []) ≡ after-stick
@@ -106,8 +106,8 @@ past-stick = λ i. record { holds = withMessages (cond (isZero (stick-answer i))
 first-answer : afterOf p1 (cycle lent) .answers ≡ one 0 0
 unfolding CallVerdict afterAll
 first-answer =
-    call-verdict bytes tree ceiling chosen given (bring stick onStick ∷ []) (cycle lent) .1 0 0
-    (subst⁻¹ (λ (h : History Held). Verdict tree h (cycle lent) 0 0) past-stick (computed .0))
+    call-verdict bytes tree ceiling chosen given (bring stick onStick ∷ []) (cycle lent) .1 (one 0 0)
+    (subst⁻¹ (λ (h : History Held). Verdict tree h (cycle lent) (one 0 0)) past-stick (computed .0))
 
 past-first : past bytes tree ceiling chosen (bring stick onStick ∷ cycle lent ∷ []) ≡ after-first
 unfolding historyFrom traceFrom after-first after-stick
@@ -119,8 +119,8 @@ past-first =
 unit-answer : afterOf p2 (bring unit inUnit) .answers ≡ one 0 0
 unfolding CallVerdict afterAll
 unit-answer =
-    call-verdict bytes tree ceiling chosen given (bring stick onStick ∷ cycle lent ∷ []) (bring unit inUnit) .1 0 0
-    (subst⁻¹ (λ (h : History Held). Verdict tree h (bring unit inUnit) 0 0) past-first (computed .1))
+    call-verdict bytes tree ceiling chosen given (bring stick onStick ∷ cycle lent ∷ []) (bring unit inUnit) .1 (one 0 0)
+    (subst⁻¹ (λ (h : History Held). Verdict tree h (bring unit inUnit) (one 0 0)) past-first (computed .1))
 
 unit-lines : takenOf (linesOf (bring unit inUnit)) (afterOf p2 (bring unit inUnit) .answers) ≡ control ∷ []
 unit-lines = ap (takenOf (linesOf (bring unit inUnit))) unit-answer ∙ ap (λ (ls : List Line). ls ++ []) (rich .unit .1)
@@ -136,8 +136,8 @@ past-unit =
 keypad-answer : afterOf p3 (bring keypad onKeypad) .answers ≡ one 0 0
 unfolding CallVerdict afterAll
 keypad-answer =
-    call-verdict bytes tree ceiling chosen given (bring stick onStick ∷ cycle lent ∷ bring unit inUnit ∷ []) (bring keypad onKeypad) .1 0 0
-    (subst⁻¹ (λ (h : History Held). Verdict tree h (bring keypad onKeypad) 0 0) past-unit (computed .2))
+    call-verdict bytes tree ceiling chosen given (bring stick onStick ∷ cycle lent ∷ bring unit inUnit ∷ []) (bring keypad onKeypad) .1 (one 0 0)
+    (subst⁻¹ (λ (h : History Held). Verdict tree h (bring keypad onKeypad) (one 0 0)) past-unit (computed .2))
 
 keypad-lines : takenOf (linesOf (bring keypad onKeypad)) (afterOf p3 (bring keypad onKeypad) .answers) ≡ end ∷ []
 keypad-lines = ap (takenOf (linesOf (bring keypad onKeypad))) keypad-answer ∙ ap (λ (ls : List Line). ls ++ []) (rich .keypad .1)

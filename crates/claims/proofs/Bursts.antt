@@ -1,0 +1,206 @@
+-- What a burst leaves, of every panel: its units as if they came singly.
+use mathlib.Core.Path.{_≡_, refl, sym, ap, _∙_, subst⁻¹}
+use mathlib.Core.Bool.{Bool, true, false, cond}
+use mathlib.Core.List.{List, [], _∷_, _++_, append-assoc, append-nil}
+use Prim.Native.Nat.{ℕ, suc, _≤_, _<_}
+use lib.Dec.{eqb, leb}
+use lib.ListN.{length, take, drop}
+use lib.Seq.{take-append-seam}
+use borrow.Author.Tests.{le-leb, lt-leb, leb-true}
+use Rattle.answer.specs.Numbers.{numberOf, isTaken}
+use Rattle.answer.specs.declared.Answer as kind
+use Rattle.answer.specs.declared.Answer.the-variants as answer
+use Rattle.bursts.specs.Bursts.{Burst, units, fault, burstOf}
+use Rattle.bursts.proofs.Meaning.{Kind, is-units, is-cut, is-too-many, every-kind, one-meaning}
+use Rattle.score_line.specs.declared.Line.{Line}
+use Rattle.score_line.specs.declared.LineRead.{LineRead}
+use Rattle.score.specs.Score.{unitOf}
+use Rattle.bitstream.specs.Bits.{bitsOf}
+use Rattle.players.specs.Lists.{each, over}
+use Rattle.players.specs.Calls.{unit, single, reads, bring, burst, Answer, one, After, takenOf, afterAll, answersAll}
+use Rattle.players.proofs.Lists.{cond-true, cond-false}
+use Rattle.waiting.specs.Admission.{waitingIn}
+use Rattle.waiting.specs.declared.Queue.{Queue}
+use Rattle.waiting.specs.declared.Admitted.{Admitted}
+use Rattle.sounding.specs.declared.Instrument.{Instrument}
+use Rattle.entrances.specs.Entrances.{lineIn, pushedAll, broughtIn}
+use Rattle.entrances.specs.declared.Pushed.{Pushed}
+use Rattle.panel.specs.State.{tableOf, withQueue}
+use Rattle.panel.specs.Calls.{broughtOf, bringOf, Singly, singly, receivedOf, receiveOf, answeredIn, areaAfter}
+use Rattle.panel.specs.declared.Panel.{Panel}
+use Rattle.panel.specs.declared.Brought.{Brought}
+use Rattle.panel.specs.declared.Received.{Received}
+use Rattle.claims.specs.Claims.{unitAnswer, afterOf, panel, refusedBurst, asUnits, BurstCall, BurstAsUnits}
+use Rattle.claims.proofs.Doors.{differ, Behind, Brings, takes, refuses, brings}
+
+-- ---- a unit's answer is about its only line
+
+alone-line : (ended : Bool) (table : List Instrument) (q : Queue) (r : LineRead) → broughtIn ended false table q (single r) .line ≡ 0
+unfolding broughtIn pushedAll
+alone-line true table q r = refl
+alone-line false table q r = go (isTaken (r .answer))
+  where
+    by-line : (a : Admitted) (b : Bool) → _≡_ {A = ℕ} (cond {A = Pushed} b (record { queue = a .queue; answer = answer.Taken; line = 0 }) (record { queue = q; answer = a .answer; line = 0 }) .line) 0
+    by-line a true = refl
+    by-line a false = refl
+
+    go : (b : Bool) → cond b (pushedAll false table q q 0 (cond b (r .line ∷ []) [])) (record { queue = q; answer = r .answer; line = 0 }) .line ≡ 0
+    go true = by-line (lineIn false table q (r .line)) (isTaken (lineIn false table q (r .line) .answer))
+    go false = refl
+
+pub unit-line : (p : Panel) (u : List ℕ) → bringOf p unit u .line ≡ 0
+unfolding bringOf broughtOf
+unit-line p u = alone-line (p .state .playing .ended) (tableOf (p .program)) (p .state .queue) (unitOf (bitsOf u))
+
+-- ---- units that come singly, by the public unit call
+
+pub singly-player : (us : List (List ℕ)) (p : Panel) → singly p us .panel ≡ afterAll panel p (each (bring unit) us)
+unfolding singly each afterAll afterOf
+singly-player [] p = refl
+singly-player (u ∷ us) p = singly-player us (bringOf p unit u .panel)
+
+pub singly-answers : (us : List (List ℕ)) (p : Panel) → each unitAnswer (singly p us .numbers) ≡ answersAll panel p (each (bring unit) us)
+unfolding singly each answersAll afterOf
+singly-answers [] p = refl
+singly-answers (u ∷ us) p =
+    λ i. record { number = numberOf (bringOf p unit u .answer); line = sym (unit-line p u) i } ∷ singly-answers us (bringOf p unit u .panel) i
+
+numbers-back : (ns : List ℕ) → each (λ (a : Answer). a .number) (each unitAnswer ns) ≡ ns
+unfolding each
+numbers-back [] = refl
+numbers-back (n ∷ ns) = ap (λ (l : List ℕ). n ∷ l) (numbers-back ns)
+
+pub length-singly : (us : List (List ℕ)) (p : Panel) → length (singly p us .numbers) ≡ length us
+unfolding singly
+length-singly [] p = refl
+length-singly (u ∷ us) p = ap suc (length-singly us (bringOf p unit u .panel))
+
+-- ---- what the call leaves, by what its bytes are
+
+pub left : Panel → List ℕ → Burst → After Panel
+left p area b =
+    let r = receivedOf p (length area) b in
+    let a = answeredIn p area b in
+    record { player = r .panel; answers = one (numberOf (r .answer)) 0 ++ each unitAnswer (take (r .units) a); block = []; area = a }
+
+pub left-is : (p : Panel) (bytes area : List ℕ) (b : Burst) → burstOf bytes ≡ b → afterOf p (burst bytes area) ≡ left p area b
+unfolding afterOf receiveOf areaAfter left
+left-is p bytes area b e = ap (left p area) e
+
+pub left-fault : (p : Panel) (area : List ℕ) (a : kind.Answer) → left p area (fault a) ≡ refusedBurst p area (numberOf a)
+unfolding left receivedOf answeredIn each
+left-fault p area a = refl
+
+-- units with a place for each answer
+abbrev pub taken-burst : Panel → List ℕ → List (List ℕ) → After Panel
+taken-burst p area us =
+    record { player = singly p us .panel; answers = one 0 0 ++ each unitAnswer (singly p us .numbers); block = []; area = over (singly p us .numbers) area }
+
+module _ (p : Panel) (area : List ℕ) (us : List (List ℕ)) where
+  by-room : Bool → After Panel
+  by-room b =
+      let r = cond {A = Received} b (record { panel = singly p us .panel; answer = answer.Taken; units = length us }) (record { panel = p; answer = answer.NoRoom; units = 0 }) in
+      let a = cond b (over (singly p us .numbers) area) area in
+      record { player = r .panel; answers = one (numberOf (r .answer)) 0 ++ each unitAnswer (take (r .units) a); block = []; area = a }
+
+  left-units : (b : Bool) → leb (length us) (length area) ≡ b → left p area (units us) ≡ by-room b
+  unfolding left receivedOf answeredIn by-room
+  left-units b e = ap by-room e
+
+  pub left-short : length area < length us → left p area (units us) ≡ refusedBurst p area 8
+  unfolding by-room each
+  left-short h = left-units false (lt-leb (length us) (length area) h)
+
+  pub left-taken : length us ≤ length area → left p area (units us) ≡ taken-burst p area us
+  unfolding by-room
+  left-taken h =
+      let ns = singly p us .numbers in
+      let first : take (length us) (over ns area) ≡ ns = ap (λ (n : ℕ). take n (over ns area)) (sym (length-singly us p)) ∙ take-append-seam ns (drop (length ns) area) in
+      left-units true (le-leb (length us) (length area) h)
+      ∙ ap (λ (l : List ℕ). record { player = singly p us .panel; answers = one 0 0 ++ each unitAnswer l; block = []; area = over ns area }) first
+
+  units-singly : taken-burst p area us ≡ asUnits p area us
+  units-singly =
+      λ i. record {
+        player = singly-player us p i;
+        answers = one 0 0 ++ singly-answers us p i;
+        block = [];
+        area = over ((sym (numbers-back (singly p us .numbers)) ∙ ap (each (λ (a : Answer). a .number)) (singly-answers us p)) i) area;
+      }
+
+pub burst-as-units : BurstAsUnits
+unfolding BurstAsUnits
+burst-as-units p bytes area =
+    record {
+      cut = λ s. left-is p bytes area _ (one-meaning bytes _ s) ∙ left-fault p area answer.CutShort;
+      tooLong = λ s. left-is p bytes area _ (one-meaning bytes _ s) ∙ left-fault p area answer.TooManyValues;
+      noRoom = λ us s h. left-is p bytes area _ (one-meaning bytes _ s) ∙ left-short p area us h;
+      taken = λ us s h. left-is p bytes area _ (one-meaning bytes _ s) ∙ left-taken p area us h ∙ units-singly p area us;
+    }
+
+-- a burst is taken or refused
+pub data Receives (p : Panel) (bytes area : List ℕ) (a : After Panel) : Type 0 where
+  received : (us : List (List ℕ)) → burstOf bytes ≡ units us → a ≡ taken-burst p area us → Receives p bytes area a
+  unreceived : (n : ℕ) → eqb n 0 ≡ false → a ≡ refusedBurst p area n → Receives p bytes area a
+
+pub receives : (p : Panel) (bytes area : List ℕ) → Receives p bytes area (afterOf p (burst bytes area))
+unfolding left by-room each
+receives p bytes area = go (every-kind bytes) refl
+  where
+    by-places : (us : List (List ℕ)) → burstOf bytes ≡ units us → (b : Bool) → leb (length us) (length area) ≡ b → Receives p bytes area (afterOf p (burst bytes area))
+    by-places us q true e = received us q (left-is p bytes area (units us) q ∙ left-enough us e)
+      where
+        left-enough : (vs : List (List ℕ)) → leb (length vs) (length area) ≡ true → left p area (units vs) ≡ taken-burst p area vs
+        left-enough vs h = left-taken p area vs (leb-true (length vs) (length area) h)
+    by-places us q false e = unreceived 8 refl (left-is p bytes area (units us) q ∙ left-units p area us false e)
+
+    go : {b : Burst} → Kind b → burstOf bytes ≡ b → Receives p bytes area (afterOf p (burst bytes area))
+    go (is-units us) q = by-places us q (leb (length us) (length area)) refl
+    go is-cut q = unreceived 1 refl (left-is p bytes area _ q ∙ left-fault p area answer.CutShort)
+    go is-too-many q = unreceived 5 refl (left-is p bytes area _ q ∙ left-fault p area answer.TooManyValues)
+
+-- ---- the lines taken of units that come singly wait behind the others, and nothing else of the panel changes
+
+-- the lines of units with these answers' numbers
+abbrev pub taken-of : List (List ℕ) → List ℕ → List Line
+taken-of us ns = takenOf (each (λ (u : List ℕ). reads unit u .lines) us) (each unitAnswer ns)
+
+pub record Leaves (p : Panel) (taken : List Line) (p′ : Panel) : Type 0 where
+  pub queue : Queue
+  pub same : p′ ≡ withQueue p queue
+  pub behind : Behind (p .state .queue) taken queue
+  pub none : p .state .playing .ended ≡ true → taken ≡ []
+
+first-number : List Answer → ℕ
+first-number [] = 0
+first-number (a ∷ given) = a .number
+
+pub leaves : (us : List (List ℕ)) (p : Panel) → length (p .state .queue .lines) ≡ 64 → Leaves p (taken-of us (singly p us .numbers)) (singly p us .panel)
+unfolding singly each withQueue afterOf first-number
+leaves [] p long =
+    record { queue = p .state .queue; same = refl; behind = record { waits = sym (append-nil (waitingIn (p .state .queue))); long = long; ran = refl; last = refl }; none = λ e. refl }
+leaves (u ∷ us) p long = go (brings p unit u) (λ q h. leaves us q h)
+  where
+    Rest : After Panel → Type 0
+    Rest a = Leaves p (cond (eqb (first-number (a .answers)) 0) (reads unit u .lines) [] ++ taken-of us (singly (a .player) us .numbers)) (singly (a .player) us .panel)
+
+    go : Brings p (reads unit u .lines) (afterOf p (bring unit u))
+        → ((q : Panel) → length (q .state .queue .lines) ≡ 64 → Leaves q (taken-of us (singly q us .numbers)) (singly q us .panel)) → Rest (afterOf p (bring unit u))
+    go (takes l q e f x) rec =
+        let b = f long in
+        let y = rec (withQueue p q) (b .long) in
+        subst⁻¹ Rest x
+        (record {
+          queue = y .queue;
+          same = y .same;
+          behind = record {
+            waits = y .behind .waits ∙ ap (λ (ws : List Line). ws ++ taken-of us (singly (withQueue p q) us .numbers)) (b .waits) ∙ append-assoc (waitingIn (p .state .queue)) (reads unit u .lines) (taken-of us (singly (withQueue p q) us .numbers));
+            long = y .behind .long;
+            ran = y .behind .ran ∙ b .ran;
+            last = y .behind .last ∙ b .last;
+          };
+          none = λ t. absurd (differ (sym t ∙ e));
+        })
+    go (refuses n l z x) rec =
+        subst⁻¹ Rest x
+        (subst⁻¹ (λ (b : Bool). Leaves p (cond b (reads unit u .lines) [] ++ taken-of us (singly p us .numbers)) (singly p us .panel)) z (rec p long))
