@@ -18,7 +18,6 @@ use Rattle.score.specs.Score.{unitOf}
 use Rattle.bitstream.specs.Bits.{bitsOf}
 use Rattle.players.specs.Lists.{each, over}
 use Rattle.players.specs.Calls.{unit, single, reads, bring, burst, Answer, one, After, takenOf, afterAll, answersAll}
-use Rattle.players.proofs.Lists.{cond-true, cond-false}
 use Rattle.waiting.specs.Admission.{waitingIn}
 use Rattle.waiting.specs.declared.Queue.{Queue}
 use Rattle.waiting.specs.declared.Admitted.{Admitted}
@@ -26,11 +25,10 @@ use Rattle.sounding.specs.declared.Instrument.{Instrument}
 use Rattle.entrances.specs.Entrances.{lineIn, pushedAll, broughtIn}
 use Rattle.entrances.specs.declared.Pushed.{Pushed}
 use Rattle.panel.specs.State.{tableOf, withQueue}
-use Rattle.panel.specs.Calls.{broughtOf, bringOf, Singly, singly, receivedOf, receiveOf, answeredIn, areaAfter}
+use Rattle.panel.specs.Calls.{broughtOf, bringOf, singly, receivedOf, receiveOf, answeredIn, areaAfter}
 use Rattle.panel.specs.declared.Panel.{Panel}
-use Rattle.panel.specs.declared.Brought.{Brought}
 use Rattle.panel.specs.declared.Received.{Received}
-use Rattle.claims.specs.Claims.{unitAnswer, afterOf, panel, refusedBurst, asUnits, BurstCall, BurstAsUnits}
+use Rattle.claims.specs.Claims.{unitAnswer, afterOf, panel, refusedBurst, asUnits, BurstAsUnits}
 use Rattle.claims.proofs.Doors.{differ, Behind, Brings, takes, refuses, brings}
 
 -- ---- a unit's answer is about its only line

@@ -19,13 +19,12 @@ use Rattle.waiting.proofs.Admission.{taken-pushed, taken-room, waiting-pushed, 
 use Rattle.sounding.specs.Voices.{fieldsIn}
 use Rattle.sounding.specs.declared.Instrument.{Instrument}
 use Rattle.players.specs.Calls.{Door, mustBeTimed, hasTime, reads, bring, one, After, isZero}
-use Rattle.players.proofs.Lists.{cond-true, cond-false}
 use Rattle.entrances.specs.Entrances.{lineIn, pushedAll, broughtIn}
 use Rattle.entrances.specs.declared.Pushed.{Pushed}
 use Rattle.panel.specs.State.{tableOf, withQueue}
 use Rattle.panel.specs.Calls.{broughtOf, bringOf}
 use Rattle.panel.specs.declared.Panel.{Panel}
-use Rattle.claims.specs.Claims.{afterOf, Takes, TakenCalls, DoorsAlike}
+use Rattle.claims.specs.Claims.{afterOf, Takes, TakenCalls}
 
 pub differ : true ≡ false → ⊥
 differ q = let z : _≡_ {A = ℕ} 0 1 = cc in omega arith
@@ -129,29 +128,3 @@ taken-calls p d handed long t = go (brings p d handed)
         let b = f long in
         record { queue = q; left = ap (λ (a : After Panel). a .player) x; waits = b .waits; ran = b .ran; last = b .last }
     go (refuses n l z x) = absurd (differ (sym t ∙ ap (λ (a : After Panel). isZero (a .answers)) x ∙ z))
-
--- ---- one timed line by any door
-
-line-alike : (timed : Bool) (table : List Instrument) (q : Queue) (l : Line) → hasTime (l .when) ≡ true → lineIn timed table q l ≡ lineIn false table q l
-unfolding lineIn
-line-alike true table q l h = cond-false _ _ (ap not h)
-line-alike false table q l h = refl
-
-by-door : (p : Panel) (d : Door) (a : List ℕ) (l : Line) → hasTime (l .when) ≡ true → reads d a .answer ≡ answer.Taken → reads d a .lines ≡ l ∷ []
-    → broughtIn (p .state .playing .ended) (mustBeTimed d) (tableOf (p .program)) (p .state .queue) (reads d a)
-    ≡ cond (p .state .playing .ended) (record { queue = p .state .queue; answer = answer.Ended; line = 0 })
-    (pushedAll false (tableOf (p .program)) (p .state .queue) (p .state .queue) 0 (l ∷ []))
-unfolding broughtIn pushedAll
-by-door p d a l h t q =
-    let table = tableOf (p .program) in
-    let queue = p .state .queue in
-    ap (cond (p .state .playing .ended) (record { queue = queue; answer = answer.Ended; line = 0 }))
-    (cond-true _ _ (ap isTaken t) ∙ ap (pushedAll (mustBeTimed d) table queue queue 0) q
-    ∙ ap (λ (x : Admitted). cond (isTaken (x .answer)) (record { queue = x .queue; answer = answer.Taken; line = 0 }) (record { queue = queue; answer = x .answer; line = 0 }))
-    (line-alike (mustBeTimed d) table queue l h))
-
-pub doors-alike : DoorsAlike
-unfolding DoorsAlike afterOf bringOf broughtOf
-doors-alike p d e a b l h t q u r =
-    ap (λ (x : Pushed). record { player = withQueue p (x .queue); answers = one (numberOf (x .answer)) (x .line); block = []; area = [] })
-    (by-door p d a l h t q ∙ sym (by-door p e b l h u r))

@@ -1,6 +1,7 @@
 pub mod Ranged
 pub mod Doors
 pub mod Bursts
+pub mod Alone
 pub mod Keyboard
 pub mod Chosen
 pub mod Cycles

@@ -167,13 +167,6 @@ pub record Refused (p : Panel) (c : Call) : Type 0 where
 unfoldable pub RefusalsChangeNothing : Type 0
 RefusalsChangeNothing = (p : Panel) (c : Call) → isZero (afterOf p c .answers) ≡ false → Refused p c
 
--- A timed line that two doors read alone as the same line gets the same answer and leaves the same panel through both.
-unfoldable pub DoorsAlike : Type 0
-DoorsAlike =
-    (p : Panel) (d e : Door) (a b : List ℕ) (l : Line) → hasTime (l .when) ≡ true →
-    reads d a .answer ≡ Taken → reads d a .lines ≡ l ∷ [] → reads e b .answer ≡ Taken → reads e b .lines ≡ l ∷ [] →
-    afterOf p (bring d a) ≡ afterOf p (bring e b)
-
 -- what units leave that come singly, by the public unit call, in order, with their numbers in the first places of the area; 0 is the burst's own
 abbrev pub asUnits : Panel → List ℕ → List (List ℕ) → After Panel
 asUnits p area us =
@@ -191,6 +184,30 @@ pub record BurstCall (p : Panel) (bytes area : List ℕ) : Type 0 where
 
 unfoldable pub BurstAsUnits : Type 0
 BurstAsUnits = (p : Panel) (bytes area : List ℕ) → BurstCall p bytes area
+
+-- ---- (M-108) one door for single lines: a unit, a keypad line, a burst, a stick or a text
+
+-- a call that reads alone as this line; of a burst, with a place for its answer, the one unit does
+abbrev pub ReadsAlone : Call → Line → Type 0
+ReadsAlone (bring d handed) l = (reads d handed .answer ≡ Taken) × (reads d handed .lines ≡ l ∷ [])
+ReadsAlone (burst bytes area) l =
+    (u : List ℕ) × bursts.Says mostUnits bytes (units (u ∷ [])) × (1 ≤ length area) × (reads unit u .answer ≡ Taken) × (reads unit u .lines ≡ l ∷ [])
+ReadsAlone (keyboard bytes) l = ⊥
+ReadsAlone (cycle b) l = ⊥
+
+-- the line's answer is the last one: before it a burst has its own
+abbrev pub lastAnswer : List Answer → Answer
+lastAnswer [] = record { number = 0; line = 0 }
+lastAnswer (a ∷ []) = a
+lastAnswer (a ∷ b ∷ given) = lastAnswer (b ∷ given)
+
+pub record Alike (p : Panel) (c d : Call) : Type 0 where
+  pub told : lastAnswer (afterOf p c .answers) ≡ lastAnswer (afterOf p d .answers)
+  pub left : afterOf p c .player ≡ afterOf p d .player
+
+-- On one panel, a timed line that any two of them read alone as the same line gets the same answer and leaves the same panel through both.
+unfoldable pub DoorsAlike : Type 0
+DoorsAlike = (p : Panel) (c d : Call) (l : Line) → hasTime (l .when) ≡ true → ReadsAlone c l → ReadsAlone d l → Alike p c d
 
 -- ---- every list of calls on a fresh panel
 

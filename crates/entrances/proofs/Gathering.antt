@@ -192,10 +192,10 @@ counted-text s r e = ap (λ (x : TextRead). x .count) e
 
 -- one line that was read on its own, or none
 module _ (r : LineRead) (l : Line) (q : l ≡ emptyLine) where
-  pub alone-read : isTaken (r .answer) ≡ true
+  pub alone-read : (b : Bool) → b ≡ isTaken (r .answer) → b ≡ true
       → record { timed = false; answer = r .answer; line = 0; lines = set (replicate mostHanded l) 0 (r .line); count = 1 } ≡ handedOf false (single r)
   unfolding handedOf
-  alone-read e =
+  alone-read b k t = let e : isTaken (r .answer) ≡ true = sym k ∙ t in
       λ j. record {
         timed = false;
         answer = r .answer;
@@ -206,8 +206,8 @@ module _ (r : LineRead) (l : Line) (q : l ≡ emptyLine) where
         count = length (take mostHanded (cond (sym e j) (r .line ∷ []) []));
       }
 
-  pub alone-refused : isTaken (r .answer) ≡ false
+  pub alone-refused : (b : Bool) → b ≡ isTaken (r .answer) → b ≡ false
       → record { timed = false; answer = r .answer; line = 0; lines = replicate mostHanded l; count = 0 } ≡ handedOf false (single r)
-  alone-refused e =
+  alone-refused b k t = let e : isTaken (r .answer) ≡ false = sym k ∙ t in
       refused-handed false (r .answer) 0 l q
       ∙ ap (λ (ls : List Line). handedOf false (record { answer = r .answer; line = 0; lines = ls })) (sym (cond-false _ _ e))

@@ -1,5 +1,6 @@
 // What the doors bring into the waiting lines: what was handed in is read whole, then all its lines go in or none (document 01, "Order at
-// an entrance").
+// an entrance"). Stick, unit, keypad, text and each unit of a burst differ in how they are read and in nothing else: what was read goes through
+// `bring_in`, a line of it through `line_in`, and there is no other way to the waiting lines.
 use answer::Answer;
 use score::ScoreRead;
 use score_line::Event;
@@ -167,12 +168,12 @@ fn alone(read: LineRead) -> Handed
     ensures { λ r. ⌜ r ≡ handedOf false (single read) ⌝ }
 {
     let answer = read.answer;
-    let l = read.line;
+    let only = read.line;
     let none = empty_line();
     let mut lines = [none; 65];
     let mut count: usize = 0;
     if answer::is_taken(answer) {
-        lines[0] = l;
+        lines[0] = only;
         count = 1;
     }
     Handed {
@@ -204,7 +205,8 @@ fn lacks_time(l: Line, timed: bool) -> bool
     if timed { !waiting::is_timed(l) } else { false }
 }
 
-// One line: 6 where it needs a time and has none, then the one admission, with the fields of the line's instrument.
+// The one operation on a decoded line, whichever door read it: 6 where it needs a time and has none, then the one admission, with the fields of
+// the line's instrument.
 fn line_in(table: [Instrument; 8], n: usize, q: Queue, l: Line, timed: bool) -> Admitted
     ensures { λ r. ⌜ r ≡ lineIn timed (take n table) q l ⌝ }
 {

@@ -5,4 +5,4 @@ use Rattle.entrances.proofs.unit_in.Tie as tie
 
 pub unit-in-spec : {M : Type 1} → statement M
 unit-in-spec =
-    tie.close (tie.spec (λ c κs. search needs) (λ c κs. search needs) (λ c. unit-brings _ _ _ _ _ (c .before .unit .ensures) _ (c .bring-in .ensures)))
+    tie.close (tie.spec (λ c κs. search needs) (λ c κs. search needs) (λ c. search unit-brings))
