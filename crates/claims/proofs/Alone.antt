@@ -8,7 +8,7 @@ use Rattle.answer.specs.declared.Answer.the-variants as answer
 use Rattle.score_line.specs.declared.Line.{Line}
 use Rattle.waiting.specs.declared.Queue.{Queue}
 use Rattle.waiting.specs.declared.Admitted.{Admitted}
-use Rattle.sounding.specs.declared.Instrument.{Instrument}
+use Rattle.kept_orchestra.specs.declared.Instrument.{Instrument}
 use Rattle.players.specs.Lists.{each}
 use Rattle.players.specs.Calls.{Door, unit, mustBeTimed, hasTime, reads, Call, bring, burst, keyboard, cycle, After, afterAll, answersAll}
 use Rattle.players.proofs.Lists.{cond-true, cond-false}

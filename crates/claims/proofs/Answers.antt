@@ -33,7 +33,8 @@ use Rattle.syntax.specs.Tree.{Instrument}
 use Rattle.syntax.specs.Names.{has, titleOf}
 use Rattle.voices.specs.Tree.{instrumentOf, fieldsOf}
 use Rattle.voices.proofs.Lines.{fields-tree}
-use Rattle.sounding.specs.Voices.{Held, fieldsIn}
+use Rattle.kept_orchestra.specs.Kept.{fieldsIn}
+use Rattle.kept_voices.specs.Voices.{Held}
 use Rattle.players.specs.Lists.{each}
 use Rattle.players.specs.Holds.{behind, dueOf, endsBy}
 use Rattle.players.specs.Calls.{Door, stick, unit, keypad, text, mustBeTimed, hasTime, reads, Call, bring, burst, cycle, Answer, one, After, numbered, keyboard}
@@ -41,8 +42,8 @@ use Rattle.players.specs.History.{Reached, nowhere, at, History}
 use Rattle.players.proofs.Lists.{cond-true, cond-false}
 use Rattle.waiting.specs.Waiting.{isLate}
 use Rattle.waiting.specs.Admission.{tooMany, unfitEvent, pushed, admitted, waitingIn}
-use Rattle.waiting.specs.declared.Fields.{Fields}
-use Rattle.waiting.specs.declared.Fields.the-variants.{Count, NoSuch}
+use Rattle.kept_orchestra.specs.declared.Fields.{Fields}
+use Rattle.kept_orchestra.specs.declared.Fields.the-variants.{Count, NoSuch}
 use Rattle.waiting.specs.declared.Queue.{Queue}
 use Rattle.waiting.specs.declared.Admitted.{Admitted}
 use Rattle.waiting.proofs.Admission.{admit-unfit, admit-late, admit-taken, admit-full, waiting-pushed, length-pushed}
@@ -55,7 +56,7 @@ use Rattle.bursts.proofs.Meaning as burst-kinds
 use Rattle.bursts.proofs.Meaning.{every-burst, every-kind as every-kind-of-burst}
 use Rattle.panel.specs.Calls.{broughtOf, bringOf, singly}
 use Rattle.panel.specs.declared.Panel.{Panel}
-use Rattle.loader.specs.declared.Program.{Program}
+use Rattle.kept_orchestra.specs.declared.Program.{Program}
 use Rattle.loader_claims.specs.Claims.{StandsFor}
 use Rattle.claims.specs.Verdict.{HasFields, here, there, Playable, tooLate, mostLines, Fits, AllFit, Faulty, untimed, unplayable, late, full, Verdict, AtDoor, AtCycle, over, badText, cut, notCarried, outOfRange, tooManyValues, leftOver, faulty, taken, otherLength, overBefore, findsEnd, plays, AtKeyboard, mostMessages, keysOver, keysCut, keysNotCarried, keysFull, keysTaken, withLines, InTurn, none, next, AtBurst, burstCut, burstTooLong, burstNoRoom, burstTaken, once}
 use Rattle.claims.specs.Claims.{unitAnswer, afterOf, reachedOf, BurstCall, BurstAsUnits, past, panelAfter, CallVerdict}

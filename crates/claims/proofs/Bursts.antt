@@ -21,7 +21,7 @@ use Rattle.players.specs.Calls.{unit, single, reads, bring, burst, Answer, one,
 use Rattle.waiting.specs.Admission.{waitingIn}
 use Rattle.waiting.specs.declared.Queue.{Queue}
 use Rattle.waiting.specs.declared.Admitted.{Admitted}
-use Rattle.sounding.specs.declared.Instrument.{Instrument}
+use Rattle.kept_orchestra.specs.declared.Instrument.{Instrument}
 use Rattle.entrances.specs.Entrances.{lineIn, pushedAll, broughtIn}
 use Rattle.entrances.specs.declared.Pushed.{Pushed}
 use Rattle.panel.specs.State.{tableOf, withQueue}

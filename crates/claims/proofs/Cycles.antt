@@ -21,11 +21,12 @@ use Rattle.players.specs.History.{at}
 use Rattle.players.proofs.Lists.{length-keep}
 use Rattle.players.proofs.Loops.{length-over}
 use Rattle.waiting.specs.Admission.{waitingIn}
-use Rattle.sounding.specs.Voices.{Held, noteOf, structOf, notesIn}
+use Rattle.kept_voices.specs.Voices.{Held}
+use Rattle.sounding.specs.Notes.{noteOf, structOf, notesIn}
 use Rattle.sounding.proofs.Steps.{length-each}
-use Rattle.turning.specs.Steps.{playsOf, laidOver, advanced}
-use Rattle.turning.specs.Turn as turn
-use Rattle.turning.specs.declared.Playing.{Playing}
+use Rattle.cycle.specs.Steps.{playsOf, laidOver, advanced}
+use Rattle.cycle.specs.OneCycle as oneCycle
+use Rattle.cycle.specs.declared.Playing.{Playing}
 use Rattle.panel.specs.State.{voicesOf, holdsOf, settingsIn, endedOf}
 use Rattle.panel.specs.Calls.{playedOf, cycleOf, blockAfter}
 use Rattle.panel.specs.declared.Panel.{Panel}
@@ -55,7 +56,7 @@ plays-back old p =
 -- ---- the two ways of a cycle that is lent 320 samples
 
 pub holds-ended : (p : Panel) → holdsOf (endedOf p) ≡ record { waits = holdsOf p .waits; messages = holdsOf p .messages; plays = marked (holdsOf p .plays) }
-unfolding endedOf turn.stopped marked
+unfolding endedOf oneCycle.stopped marked
 holds-ended p = refl
 
 pub holds-played : (p : Panel) → holdsOf (playedOf p)
@@ -64,7 +65,7 @@ pub holds-played : (p : Panel) → holdsOf (playedOf p)
       messages = [];
       plays = capped (played (voicesOf (p .program)) (settingsIn p) (dueOf (holdsOf p)) (holdsOf p .plays));
     }
-unfolding playedOf turn.playedOf turn.keptOf advanced
+unfolding playedOf oneCycle.playedOf oneCycle.queueAfter advanced
 holds-played p =
     let later = laterThan (holdsOf p .plays .position) (holdsOf p .waits) in
     λ i. record {
@@ -74,16 +75,16 @@ holds-played p =
     }
 
 pub reached-ended : (p : Panel) → reachedOf (endedOf p) ≡ reachedOf p
-unfolding endedOf turn.stopped
+unfolding endedOf oneCycle.stopped
 reached-ended p = refl
 
 pub reached-played : (p : Panel) → reachedOf (playedOf p) ≡ at (holdsOf p .plays .position)
-unfolding playedOf turn.playedOf turn.keptOf
+unfolding playedOf oneCycle.playedOf oneCycle.queueAfter
 reached-played p = refl
 
 -- a played panel still has its 64 places
 pub played-long : (p : Panel) → length (p .state .queue .lines) ≡ 64 → length (playedOf p .state .queue .lines) ≡ 64
-unfolding playedOf turn.playedOf turn.keptOf laterThan
+unfolding playedOf oneCycle.playedOf oneCycle.queueAfter laterThan
 played-long p h =
     let k : Line → Bool = λ (l : Line). not (isDue (p .state .playing .position) l) in
     let w = waitingIn (p .state .queue) in

@@ -14,10 +14,10 @@ use Rattle.score.specs.Score.{Score}
 use Rattle.waiting.specs.Admission.{admitted, pushed, waitingIn}
 use Rattle.waiting.specs.declared.Queue.{Queue}
 use Rattle.waiting.specs.declared.Admitted.{Admitted}
-use Rattle.waiting.specs.declared.Fields.{Fields}
+use Rattle.kept_orchestra.specs.declared.Fields.{Fields}
 use Rattle.waiting.proofs.Admission.{taken-pushed, taken-room, waiting-pushed, length-pushed}
-use Rattle.sounding.specs.Voices.{fieldsIn}
-use Rattle.sounding.specs.declared.Instrument.{Instrument}
+use Rattle.kept_orchestra.specs.Kept.{fieldsIn}
+use Rattle.kept_orchestra.specs.declared.Instrument.{Instrument}
 use Rattle.players.specs.Calls.{Door, mustBeTimed, hasTime, reads, bring, one, After, isZero}
 use Rattle.entrances.specs.Entrances.{lineIn, pushedAll, broughtIn}
 use Rattle.entrances.specs.declared.Pushed.{Pushed}

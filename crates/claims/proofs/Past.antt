@@ -16,9 +16,9 @@ use Rattle.voices.specs.Tree.{treeVoices}
 use Rattle.voices.proofs.Laws.{Sixteen, alike}
 use Rattle.voices.proofs.Alike.{Alike, Notes, block-same, played-same, played-good}
 use Rattle.written_voices.specs.Voices.{nextBlock}
-use Rattle.sounding.specs.Voices.{Held}
+use Rattle.kept_voices.specs.Voices.{Held}
 use Rattle.players.specs.Lists.{each, All}
-use Rattle.players.specs.Cycle.{Voices, farthest}
+use Rattle.players.specs.Cycle.{Voices, positionLimit}
 use Rattle.players.specs.Holds.{Settings, Due, settingsOf, Holds, behind, withMessages, laterThan, dueOf, endsBy, marked, answerOf, capped, blockOf, played, cycled}
 use Rattle.players.specs.Plain.{plainStart}
 use Rattle.players.specs.Calls.{Door, unit, reads, Call, bring, burst, keyboard, cycle, wholeMessages, messagesIn, Answer, one, After, numbered, linesOf, takenOf, isZero, Last, none, cyclesWith, lastWith, momentOf, traceFrom, trace, afterAll}
@@ -34,8 +34,8 @@ use Rattle.messages.specs.Reading.{blank, callOf}
 use Rattle.messages.specs.declared.Message.{Message}
 use Rattle.keyboard.specs.Keyboard.{noMessages, mostMessages, messagesIn as waitingMessages, behind as behindMessages}
 use Rattle.entrances.specs.Entrances.{emptyLine}
-use Rattle.turning.specs.Turn as turn
-use Rattle.loader.specs.declared.Program.{Program}
+use Rattle.cycle.specs.OneCycle as oneCycle
+use Rattle.kept_orchestra.specs.declared.Program.{Program}
 use Rattle.loader.specs.Loading.{loadOf}
 use Rattle.loader_claims.specs.Claims.{StandsFor}
 use Rattle.loader_claims.proofs.Loaded.{loaded}
@@ -222,7 +222,7 @@ module _ (program : Program) (ceiling chosen : ℕ) (is : List Instrument) (r : 
         ∙ block-same Sixteen same s due (holdsOf p .plays) (k .good)
 
     module _ (d : endsBy due (holdsOf p .plays) ≡ false) where
-      near : holdsOf p .plays .position ≤ farthest
+      near : holdsOf p .plays .position ≤ positionLimit
       near = within-limit due (holdsOf p .plays) d
 
       plays-is : capped (played (voicesOf (p .program)) (settingsIn p) due (holdsOf p .plays)) ≡ played w s due (holdsOf p .plays)
@@ -255,7 +255,7 @@ module _ (program : Program) (ceiling chosen : ℕ) (is : List Instrument) (r : 
       played-choice = refl
 
       played-listed : length (playedOf p .state .messages .list) ≡ length (p .state .messages .list)
-      unfolding playedOf turn.playedOf
+      unfolding playedOf oneCycle.playedOf
       played-listed = refl
 
       kept-played : Kept (playedOf p)
@@ -275,7 +275,7 @@ module _ (program : Program) (ceiling chosen : ℕ) (is : List Instrument) (r : 
     own-ended = λ i. record { holds = holds-ended p i; reached = reached-ended p i }
 
     kept-ended : Kept (endedOf p)
-    unfolding endedOf turn.stopped
+    unfolding endedOf oneCycle.stopped
     kept-ended = record { has = k .has; locked = k .locked; choice = k .choice; long = k .long; listed = k .listed; slow = record { few = k .slow .few; lines = k .slow .lines; tempo = k .slow .tempo }; good = k .good }
 
   -- ---- one call

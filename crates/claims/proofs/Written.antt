@@ -16,7 +16,7 @@ use Rattle.voices.specs.Tree.{instrumentOf, treeVoices}
 use Rattle.written_voices.specs.Voices.{writtenVoices, PlaysAsWritten}
 use Rattle.written_voices.specs.Voices as written
 use Rattle.written_voices.proofs.Written.{every-piece, every-past}
-use Rattle.sounding.specs.Voices.{Held}
+use Rattle.kept_voices.specs.Voices.{Held}
 use Rattle.answer.specs.Numbers.{numberOf}
 use Rattle.bursts.specs.Bursts.{Burst, burstOf, unitsIn}
 use Rattle.players.specs.Lists.{All, each}

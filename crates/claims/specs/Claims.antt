@@ -14,7 +14,7 @@ use Rattle.syntax.specs.Tree.{Instrument}
 use Rattle.tokens.specs.Spelling.{Bytes}
 use Rattle.orchestra.specs.Verdict.{Accepted}
 use Rattle.voices.specs.Tree.{treeVoices}
-use Rattle.sounding.specs.Voices.{Held}
+use Rattle.kept_voices.specs.Voices.{Held}
 use Rattle.written_voices.specs.Voices.{writtenVoices, Fits, nextBlock}
 use Rattle.bursts.specs.Bursts.{Burst, units, fault, mostUnits, burstOf}
 use Rattle.bursts.specs.Bursts as bursts

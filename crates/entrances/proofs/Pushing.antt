@@ -15,12 +15,12 @@ use Rattle.players.specs.Calls.{unit, mustBeTimed, hasTime, reads}
 use Rattle.players.proofs.Lists.{cond-true, cond-false}
 use Rattle.players.proofs.Loops.{take-min}
 use Rattle.waiting.specs.Admission.{admitted, pushed}
-use Rattle.waiting.specs.declared.Fields.{Fields}
+use Rattle.kept_orchestra.specs.declared.Fields.{Fields}
 use Rattle.waiting.specs.declared.Queue.{Queue}
 use Rattle.waiting.specs.declared.Admitted.{Admitted}
 use Rattle.waiting.proofs.Admission.{taken-pushed, taken-room}
-use Rattle.sounding.specs.Voices.{fieldsIn}
-use Rattle.sounding.specs.declared.Instrument.{Instrument}
+use Rattle.kept_orchestra.specs.Kept.{fieldsIn}
+use Rattle.kept_orchestra.specs.declared.Instrument.{Instrument}
 use Rattle.entrances.specs.Entrances.{mostHanded, handedOf, scoreIn, lineIn, pushedAll, broughtIn}
 use Rattle.entrances.specs.declared.Handed.{Handed}
 use Rattle.entrances.specs.declared.Pushed.{Pushed}

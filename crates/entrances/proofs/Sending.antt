@@ -19,7 +19,7 @@ use Rattle.players.specs.Calls.{unit, mustBeTimed, reads}
 use Rattle.players.proofs.Lists.{cond-true, cond-false}
 use Rattle.players.proofs.Loops.{over-set, length-over}
 use Rattle.waiting.specs.declared.Queue.{Queue}
-use Rattle.sounding.specs.declared.Instrument.{Instrument}
+use Rattle.kept_orchestra.specs.declared.Instrument.{Instrument}
 use Rattle.entrances.specs.Entrances.{broughtIn, Singly, singlyIn, sentIn, areaIn}
 use Rattle.entrances.specs.declared.Pushed.{Pushed}
 use Rattle.entrances.specs.declared.Sent.{Sent}

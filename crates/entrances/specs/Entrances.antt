@@ -17,8 +17,8 @@ use Rattle.players.specs.Calls.{unit, mustBeTimed, hasTime, reads}
 use Rattle.waiting.specs.Admission.{admitted}
 use Rattle.waiting.specs.declared.Queue.{Queue}
 use Rattle.waiting.specs.declared.Admitted.{Admitted}
-use Rattle.sounding.specs.Voices.{fieldsIn}
-use Rattle.sounding.specs.declared.Instrument.{Instrument}
+use Rattle.kept_orchestra.specs.Kept.{fieldsIn}
+use Rattle.kept_orchestra.specs.declared.Instrument.{Instrument}
 use Rattle.entrances.specs.declared.Handed.{Handed}
 use Rattle.entrances.specs.declared.Pushed.{Pushed}
 use Rattle.entrances.specs.declared.Sent.{Sent}

@@ -2,12 +2,12 @@
 // an entrance"). Stick, unit, keypad, text and each unit of a burst differ in how they are read and in nothing else: what was read goes through
 // `bring_in`, a line of it through `line_in`, and there is no other way to the waiting lines.
 use answer::Answer;
+use kept_orchestra::Instrument;
 use score::ScoreRead;
 use score_line::Event;
 use score_line::Line;
 use score_line::LineRead;
 use score_line::When;
-use sounding::Instrument;
 use waiting::Admitted;
 use waiting::Queue;
 ghost use mathlib.Core.Path.{_≡_};
@@ -216,7 +216,7 @@ fn line_in(table: [Instrument; 8], n: usize, q: Queue, l: Line, timed: bool) -> 
             answer: Answer::NoTime,
         };
     }
-    waiting::admit(q, l, sounding::fields_for(table, n, l))
+    waiting::admit(q, l, kept_orchestra::fields_for(table, n, l))
 }
 
 // The lines into a copy of the waiting ones, so that earlier lines count as waiting.

@@ -25,11 +25,11 @@ use Rattle.orchestra.specs.declared.Outcome.{Outcome}
 use Rattle.orchestra.specs.Compiled.{padded, laid, headsFrom, compile}
 use Rattle.orchestra.proofs.Heads.{at-most-8}
 use Rattle.orchestra.proofs.Verdict.{accepted-exactly}
-use Rattle.sounding.specs.declared.Instrument as row
-use Rattle.sounding.specs.Voices.{blank}
+use Rattle.kept_orchestra.specs.declared.Instrument as row
+use Rattle.kept_orchestra.specs.Kept.{blank}
 use Rattle.voices.specs.Represents.{Represents}
 use Rattle.voices.proofs.Rows.{represents}
-use Rattle.loader.specs.declared.Program.{Program}
+use Rattle.kept_orchestra.specs.declared.Program.{Program}
 use Rattle.loader.specs.Loading as loading
 use Rattle.loader.specs.Loading.{laidIn, rowsFrom, programOf, keptOf, loadOf}
 use Rattle.loader_claims.specs.Claims.{StandsFor, Loaded, TakenOnly}

@@ -5,7 +5,7 @@ use lib.ListN.{replicate}
 use Rattle.lowering.specs.Orchestra.{codeOf, rateOfProgram, walkFrom, filled}
 use Rattle.orchestra.specs.Compiled as compiled
 use Rattle.orchestra.proofs.Verdict.{refused-blank as read-blank}
-use Rattle.sounding.specs.Voices.{blank}
+use Rattle.kept_orchestra.specs.Kept.{blank}
 use Rattle.loader.specs.Loading.{laidIn, rowsFrom, programOf, keptOf, loadOf}
 use Rattle.loader_claims.specs.Claims.{blankProgram, RefusedBlank}
 

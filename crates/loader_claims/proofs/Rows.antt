@@ -22,7 +22,7 @@ use Rattle.bounds.proofs.Sounding.{instrument-sounds}
 use Rattle.compiled.specs.Compiled.{wordsOf, startsOf, InstrumentCode}
 use Rattle.compiled.proofs.Laws.{instrument-code, getD-filled}
 use Rattle.orchestra.specs.Compiled.{headsFrom}
-use Rattle.sounding.specs.declared.Instrument as row
+use Rattle.kept_orchestra.specs.declared.Instrument as row
 use Rattle.voices.specs.Represents.{Row, Rows}
 use Rattle.loader.specs.Loading.{laidIn, noImport, fieldCount, importsAt, rowAt, rowsFrom}
 use Rattle.loader_claims.proofs.Declarations.{Known, AllKnown, nil, cons, restOf, fields-are, imports-are, imports-laid}

@@ -7,10 +7,10 @@ use Rattle.answer.specs.declared.Answer.the-variants.{Taken}
 use Rattle.tokens.specs.Spelling.{Bytes}
 use Rattle.syntax.specs.Tree.{Instrument}
 use Rattle.syntax.specs.Program.{zeroF}
-use Rattle.sounding.specs.Voices.{blank}
+use Rattle.kept_orchestra.specs.Kept.{blank}
 use Rattle.orchestra.specs.Verdict.{Accepted}
 use Rattle.voices.specs.Represents.{Represents}
-use Rattle.loader.specs.declared.Program.{Program}
+use Rattle.kept_orchestra.specs.declared.Program.{Program}
 use Rattle.loader.specs.Loading.{loadOf}
 
 -- a program stands for a tree: the rows that count, with the code and the numbers

@@ -20,7 +20,7 @@ use Rattle.panel.specs.State.{tableOf, withQueue, withMessages, emptyNot
 use Rattle.panel.specs.Calls.{noPanel, hasChosen, freshOf, broughtOf, bringOf, playKeysOf}
 use Rattle.panel.specs.declared.Panel.{Panel}
 use Rattle.loader.specs.declared.Ready.{Ready}
-use Rattle.loader.specs.declared.Program.{Program}
+use Rattle.kept_orchestra.specs.declared.Program.{Program}
 use Rattle.loader.specs.Loading.{loadOf as loadedFrom}
 use Rattle.panel.specs.declared.Fresh.{Fresh}
 use Rattle.entrances.specs.declared.Pushed.{Pushed}

@@ -1,3 +1,3 @@
 pub mod Entering
 pub mod Receiving
-pub mod Turning
+pub mod Cycling

@@ -14,14 +14,14 @@ use Rattle.players.specs.Lists.{over}
 use Rattle.players.specs.Cycle.{samples}
 use Rattle.players.specs.Holds.{dueOf, blockOf}
 use Rattle.players.specs.Calls.{Door, unit, mustBeTimed, reads}
-use Rattle.turning.specs.Turn as turn
+use Rattle.cycle.specs.OneCycle as oneCycle
 use Rattle.entrances.specs.Entrances.{broughtIn}
 use Rattle.messages.specs.Reading.{callOf}
 use Rattle.keyboard.specs.Keyboard.{pressedIn}
-use Rattle.sounding.specs.Voices.{foundIn}
+use Rattle.kept_orchestra.specs.Kept.{foundIn}
 use Rattle.panel.specs.State.{tableOf, voicesOf, holdsOf, settingsIn, withState, withQueue, withMessages, endedOf, startOf}
 use Rattle.panel.specs.declared.Panel.{Panel}
-use Rattle.loader.specs.declared.Program.{Program}
+use Rattle.kept_orchestra.specs.declared.Program.{Program}
 use Rattle.loader.specs.Loading.{loadOf as loadedFrom}
 use Rattle.panel.specs.declared.Fresh.{Fresh}
 use Rattle.panel.specs.declared.Brought.{Brought}
@@ -102,13 +102,13 @@ playKeysOf p bytes =
 -- ---- the cycle: 10, then 9, then steps 2 to 8
 
 unfoldable pub playedOf : Panel → Panel
-playedOf p = withState p (turn.playedOf (voicesOf (p .program)) (settingsIn p) (p .state))
+playedOf p = withState p (oneCycle.playedOf (voicesOf (p .program)) (settingsIn p) (p .state))
 
 unfoldable pub cycleOf : Panel → ℕ → Cycled
 cycleOf p lent =
     cond (eqb lent samples)
     (cond (p .state .playing .ended) (record { panel = p; answer = Ended })
-    (cond (turn.endsNow (p .state)) (record { panel = endedOf p; answer = Ended })
+    (cond (oneCycle.endsNow (p .state)) (record { panel = endedOf p; answer = Ended })
     (record { panel = playedOf p; answer = Taken })))
     (record { panel = p; answer = BlockLength })
 

@@ -12,11 +12,11 @@ use Rattle.players.specs.Holds.{Settings, settingsOf, Holds, sixty}
 use Rattle.keyboard.specs.Keyboard.{noMessages}
 use Rattle.keyboard.specs.declared.Messages.{Messages}
 use Rattle.entrances.specs.Entrances.{emptyLine}
-use Rattle.sounding.specs.Voices.{Held, voices}
-use Rattle.sounding.specs.declared.Instrument.{Instrument}
-use Rattle.turning.specs.Turn as turn
-use Rattle.turning.specs.declared.State.{State}
-use Rattle.loader.specs.declared.Program.{Program}
+use Rattle.kept_voices.specs.Voices.{Held, voices}
+use Rattle.kept_orchestra.specs.declared.Instrument.{Instrument}
+use Rattle.cycle.specs.OneCycle as oneCycle
+use Rattle.cycle.specs.declared.State.{State}
+use Rattle.kept_orchestra.specs.declared.Program.{Program}
 use Rattle.panel.specs.declared.Panel.{Panel}
 
 -- the instruments of the accepted orchestra
@@ -29,7 +29,7 @@ voicesOf g = voices (tableOf g) (g .code) (g .vals)
 
 -- what waits and what plays
 abbrev pub holdsOf : Panel → Holds Held
-holdsOf p = turn.holdsOf (p .state)
+holdsOf p = oneCycle.holdsOf (p .state)
 
 -- what its fresh start fixed
 abbrev pub settingsIn : Panel → Settings
@@ -49,7 +49,7 @@ withMessages p m = withState p (record { queue = p .state .queue; messages = m; 
 
 -- the panel marked as ended
 unfoldable pub endedOf : Panel → Panel
-endedOf p = withState p (record { queue = p .state .queue; messages = p .state .messages; playing = turn.stopped (p .state .playing) })
+endedOf p = withState p (record { queue = p .state .queue; messages = p .state .messages; playing = oneCycle.stopped (p .state .playing) })
 
 -- ---- a fresh start
 

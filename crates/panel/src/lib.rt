@@ -1,10 +1,10 @@
 // The panel: its state by value, the fresh start, the entrances and the cycle (documents 01 and 02).
 use answer::Answer;
+use cycle::Playing;
+use cycle::State;
 use entrances::Handed;
-use loader::Program;
+use kept_orchestra::Program;
 use sounding::Notes;
-use turning::Playing;
-use turning::State;
 use waiting::Queue;
 ghost use mathlib.Core.Path.{_≡_};
 ghost use mathlib.Core.List.{[]};
@@ -132,7 +132,7 @@ fn has_chosen(program: Program, chosen: u16) -> bool
     ensures { λ r. ⌜ r ≡ hasChosen program chosen ⌝ }
 {
     let table = program.table;
-    let f = sounding::find(table, program.count, chosen);
+    let f = kept_orchestra::find(table, program.count, chosen);
     f.there
 }
 
@@ -263,7 +263,7 @@ impl Panel {
         }
         let table = self.program.table;
         let state = self.state;
-        let next = turning::turn(
+        let next = cycle::one_cycle(
             table,
             self.program.count,
             &self.program.code,

@@ -15,7 +15,7 @@ use Rattle.score_line.specs.declared.Event.the-variants.{Instr, Control, End, T
 use Rattle.score_line.specs.declared.Line.{Line}
 use Rattle.messages.specs.declared.Message.{Message}
 use Rattle.players.specs.Lists.{keep, fold, All}
-use Rattle.players.specs.Cycle.{Voices, Note, Started, isDue, earlier, insert, ordered, farthest, tempoFrom, lastTempo, joinedBy, letGoOldest, startedBy, started, born, controlled, pressed, afterMessage, afterMessages}
+use Rattle.players.specs.Cycle.{Voices, Note, Started, isDue, earlier, insert, ordered, positionLimit, tempoFrom, lastTempo, joinedBy, letGoOldest, startedBy, started, born, controlled, pressed, afterMessage, afterMessages}
 use Rattle.players.specs.Holds.{Settings, Plays, Holds, Due, sixty, dueAt, laterThan, dueOf, endsBy, capped, startedOf, soundsOf, played}
 use Rattle.players.proofs.Lists.{length-keep, all-keep}
 
@@ -147,12 +147,12 @@ or-left : (a b : Bool) → (a || b) ≡ false → a ≡ false
 or-left true b h = h
 or-left false b h = refl
 
-pub within-limit : {S : Type 0} (due : Due) (p : Plays S) → endsBy due p ≡ false → p .position ≤ farthest
+pub within-limit : {S : Type 0} (due : Due) (p : Plays S) → endsBy due p ≡ false → p .position ≤ positionLimit
 unfolding endsBy
-within-limit due p e = ltb-false farthest (p .position) (or-left (ltb farthest (p .position)) _ e)
+within-limit due p e = ltb-false positionLimit (p .position) (or-left (ltb positionLimit (p .position)) _ e)
 
 module _ {S : Type 0} (v : Voices S) (s : Settings) (h : Holds S) (short : length (h .waits) ≤ 64) (brief : length (h .messages) ≤ 64) (slow : Slow h)
-    (near : h .plays .position ≤ farthest) where
+    (near : h .plays .position ≤ positionLimit) where
   pub cap-none : capped (played v s (dueOf h) (h .plays)) ≡ played v s (dueOf h) (h .plays)
   unfolding capped played
   cap-none =

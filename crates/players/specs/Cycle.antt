@@ -79,8 +79,8 @@ ordered xs = fold (λ (before : List Line) (x : Line). insert x before) [] xs
 -- ---- step 1
 
 -- the limit on position
-abbrev pub farthest : ℕ
-farthest = 1000000000000
+abbrev pub positionLimit : ℕ
+positionLimit = 1000000000000
 
 abbrev pub isEnd : Event → Bool
 isEnd (Instr label i d) = false

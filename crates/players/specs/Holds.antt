@@ -9,7 +9,7 @@ use Rattle.timebase.specs.Time.{cycleIn}
 use Rattle.score_line.specs.declared.Line.{Line}
 use Rattle.messages.specs.declared.Message.{Message}
 use Rattle.players.specs.Lists.{keep}
-use Rattle.players.specs.Cycle.{Voices, Note, Started, Band, isDue, ordered, farthest, anyEnd, lastTempo, started, controlled, afterMessages, runAll, limited, goesOn}
+use Rattle.players.specs.Cycle.{Voices, Note, Started, Band, isDue, ordered, positionLimit, anyEnd, lastTempo, started, controlled, afterMessages, runAll, limited, goesOn}
 
 -- what a fresh start fixes
 pub record Settings : Type 0 where
@@ -84,7 +84,7 @@ module _ {S : Type 0} where
 
   -- an end line is due, or the position is past the limit
   unfoldable pub endsBy : Due → Plays S → Bool
-  endsBy due p = ltb farthest (p .position) || anyEnd (due .lines)
+  endsBy due p = ltb positionLimit (p .position) || anyEnd (due .lines)
 
   -- the piece is ended: nothing else changes
   unfoldable pub marked : Plays S → Plays S

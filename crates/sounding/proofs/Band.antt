@@ -22,11 +22,13 @@ use Rattle.players.proofs.Lists.{cond-true, cond-false}
 use Rattle.players.proofs.Loops.{fold-take, over-over}
 use Rattle.synth.specs.Passes.{sums, played}
 use Rattle.synth.specs.declared.Note.{Note}
-use Rattle.sounding.specs.Voices.{Held, instrumentIn, foundIn, voices, birthOf, ranValues, ranMixOf, named, noteOf, structOf, notesIn, startedIn, bandIn, bornNote, pressedNote, controlledNote, controlledIn, controlsIn, controlledAll, kNote, ranNote, ranMix, goesOnIn}
+use Rattle.kept_orchestra.specs.Kept.{instrumentIn, foundIn}
+use Rattle.kept_voices.specs.Voices.{Held, voices, birthOf, ranValues, ranMixOf, named}
+use Rattle.sounding.specs.Notes.{noteOf, structOf, notesIn, startedIn, bandIn, bornNote, pressedNote, controlledNote, controlledIn, controlsIn, controlledAll, kNote, ranNote, ranMix, goesOnIn}
 use Rattle.synth.specs.Notes.{withValues}
-use Rattle.sounding.specs.declared.Instrument.{Instrument}
+use Rattle.kept_orchestra.specs.declared.Instrument.{Instrument}
 use Rattle.sounding.specs.Started.{StartedBy}
-use Rattle.sounding.specs.declared.Found.{Found}
+use Rattle.kept_orchestra.specs.declared.Found.{Found}
 use Rattle.sounding.specs.declared.Started.{Started}
 use Rattle.sounding.proofs.Steps.{each-append, each-one, length-each, struct-note, drop-more, take-laid, notes-laid, Starting, starting-step}
 

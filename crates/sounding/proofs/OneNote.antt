@@ -19,8 +19,9 @@ use Rattle.synth.specs.Room.{numbersIn, roomOf}
 use Rattle.synth.specs.Notes.{newNote, withValues}
 use Rattle.synth.proofs.Rooms.{once-program, played-program}
 use Rattle.synth.specs.declared.Note.{Note}
-use Rattle.sounding.specs.Voices.{named, bornNote, pressedNote, isHeldIn, controlledNote, kNote, ranNote, ranMix}
-use Rattle.sounding.specs.declared.Instrument.{Instrument}
+use Rattle.kept_voices.specs.Voices.{named}
+use Rattle.sounding.specs.Notes.{bornNote, pressedNote, isHeldIn, controlledNote, kNote, ranNote, ranMix}
+use Rattle.kept_orchestra.specs.declared.Instrument.{Instrument}
 
 pub minus-one : (x : Float) → eq x (neg (ofBits binary32 0x3f800000)) ≡ eq x withoutEnd
 unfolding neg ofBits ofFields size odd climb span

@@ -10,20 +10,19 @@ use native.Mathlib.Nat.{le-of-suc-le-suc}
 use lib.Dec.{eqb}
 use lib.Ieee.{Float}
 use lib.ListN.{length, take, drop, getD, set, length-take, length-set, take-append-drop}
-use lib.Seq.{take-suc, take-suc-set, take-at, drop-cons, drop-drop, drop-length, drop-set-lt, take-all, take-take, take-set-lt, length-take-le, getD-take}
+use lib.Seq.{take-suc, take-suc-set, take-at, drop-drop, drop-length, drop-set-lt, take-all, take-take, take-set-lt, length-take-le, getD-take}
 use borrow.Author.Tests.{lt-ltb, le-ltb}
 use Rattle.players.specs.Lists.{each, over, All}
-use Rattle.players.specs.Cycle.{joinedBy, letGoOldest, isHeld}
+use Rattle.players.specs.Cycle.{joinedBy, letGoOldest}
 use Rattle.players.specs.Holds.{sixteen}
 use Rattle.players.specs.Cycle as cycle
 use Rattle.players.proofs.Lists.{cond-true, cond-false, all-append}
 use Rattle.players.proofs.Loops.{over-set}
 use Rattle.synth.specs.Notes.{letGo}
 use Rattle.synth.specs.declared.Note.{Note}
-use Rattle.sounding.specs.Voices.{Held, blank, foundIn, named, noteOf, structOf, notesIn, startedIn, startedOver, isHeldIn}
+use Rattle.kept_voices.specs.Voices.{Held, named}
+use Rattle.sounding.specs.Notes.{noteOf, structOf, notesIn, startedIn, startedOver, isHeldIn}
 use Rattle.sounding.specs.Started.{StartedBy}
-use Rattle.sounding.specs.declared.Instrument.{Instrument}
-use Rattle.sounding.specs.declared.Found.{Found}
 use Rattle.sounding.specs.declared.Started.{Started}
 
 -- ---- each
@@ -49,30 +48,6 @@ take-both {A} a b l = go (decLe a b)
     go : Dec (a ≤ b) → take (min a b) l ≡ take a (take b l)
     go (yes h) = let e : min a b ≡ a = omega arith in ap (λ (n : ℕ). take n l) e ∙ sym (take-take a b l h)
     go (no h) = let e : min a b ≡ b = omega arith in ap (λ (n : ℕ). take n l) e ∙ sym (take-all a (take b l) (omega (arith, length-take b l)))
-
--- ---- the instrument with a name, among those from i on
-
-module _ (name : ℕ) (l : List Instrument) (r : Found) where
-  pub found-no : (i : ℕ) (d : Instrument) → i < length l → eqb (getD l i d .name) name ≡ false
-      → foundIn name (drop i l) ≡ r → foundIn name (drop (i + 1) l) ≡ r
-  unfolding foundIn
-  found-no i d h e q =
-      rw add-one (sym (cond-false _ _ e) ∙ ap (foundIn name) (sym (drop-cons l i d h)) ∙ q)
-
-  pub found-yes : (i : ℕ) (d : Instrument) → i < length l → eqb (getD l i d .name) name ≡ true
-      → foundIn name (drop i l) ≡ r → record { there = true; instrument = getD l i d } ≡ r
-  unfolding foundIn
-  found-yes i d h e q = sym (cond-true _ _ e) ∙ ap (foundIn name) (sym (drop-cons l i d h)) ∙ q
-
-  pub found-end : (i : ℕ) → length l ≤ i → foundIn name (drop i l) ≡ r → record { there = false; instrument = blank } ≡ r
-  unfolding foundIn
-  found-end i h q = ap (foundIn name) (sym (none i l h)) ∙ q
-    where
-      none : (i : ℕ) (l : List Instrument) → length l ≤ i → drop i l ≡ []
-      none zero [] h = refl
-      none zero (x ∷ xs) h = absurd (omega arith)
-      none (suc i) [] h = refl
-      none (suc i) (x ∷ xs) h = none i xs (le-of-suc-le-suc h)
 
 -- ---- values by the names of imports
 
@@ -319,12 +294,3 @@ started-are s old r e =
     ap (λ (x : Started). startedIn (x .notes) (x .count) (x .missed)) e
     ∙ ap (λ (ns : List (cycle.Note Held)). record { notes = ns; missed = s .missed })
     (ap (each noteOf) (take-at (each structOf (s .notes)) _ (length (s .notes)) (length-each structOf (s .notes))) ∙ note-struct (s .notes))
-
--- ---- a loop up to a count that stays within the array
-
-module _ {A : Type 0} (l : List A) (n most w i : ℕ) (long : length l ≡ most) (is : w ≡ min n most) (h : i < w) where
-  pub in-take : i < length (take n l)
-  in-take = omega (arith, length-take n l)
-
-  pub get-take : (d : A) → getD (take n l) i d ≡ getD l i d
-  get-take d = getD-take n l i d (omega arith)

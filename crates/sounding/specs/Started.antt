@@ -3,7 +3,8 @@ use mathlib.Core.Path.{_≡_}
 use Prim.Native.Nat.{_+_, _≤_}
 use lib.ListN.{length, drop}
 use Rattle.players.specs.Cycle as cycle
-use Rattle.sounding.specs.Voices.{Held, startedIn}
+use Rattle.kept_voices.specs.Voices.{Held}
+use Rattle.sounding.specs.Notes.{startedIn}
 use Rattle.sounding.specs.declared.Started.{Started}
 
 pub record StartedBy (s : cycle.Started Held) (v r : Started) : Type 0 where

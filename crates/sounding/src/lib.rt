@@ -1,11 +1,11 @@
 // The sounding notes in an array of 16: notes started, control lines, the run of a cycle, notes that are over (document 01,
 // "One cycle, in order", steps 3, 4, 5 and 7), and what note messages do, over straight-line code.
+use kept_orchestra::Instrument;
 use messages::Message;
 use score_line::Event;
 use score_line::Label;
 use score_line::Line;
 use synth::Note;
-use waiting::Fields;
 ghost use mathlib.Core.Path.{_≡_};
 ghost use mathlib.Core.Bool.{cond};
 ghost use Prim.Native.Nat.{_<_, _≤_, _+_, min};
@@ -13,33 +13,14 @@ ghost use lib.Dec.{T};
 ghost use lib.Ieee.{binary32, fits};
 ghost use lib.ListN.{length, take, set};
 ghost use Rattle.players.specs.Lists.{keep, each, over};
-ghost use Rattle.players.specs.Cycle.{farthest, goesOn, startedBy, started, isLabelled, labelNumber, letGoOldest, afterMessage, afterMessages, runFrom};
+ghost use Rattle.players.specs.Cycle.{positionLimit, goesOn, startedBy, started, isLabelled, labelNumber, letGoOldest, afterMessage, afterMessages, runFrom};
 ghost use Rattle.players.specs.Holds.{sixteen};
 ghost use Rattle.synth.specs.Passes.{stretch, freshOf, once};
 ghost use Rattle.synth.specs.Notes.{withValues};
 ghost use Rattle.synth.specs.Room.{numbersIn};
-ghost use Rattle.sounding.specs.Voices.{voices, foundIn, fieldsIn, named, noteOf, structOf, notesIn, startedIn, startedOver, bornNote, pressedNote, isHeldIn, controlledNote, controlledIn, controlsIn, controlledAll, ranNote, ranMix, goesOnIn};
+ghost use Rattle.kept_voices.specs.Voices.{voices, named};
+ghost use Rattle.sounding.specs.Notes.{noteOf, structOf, notesIn, startedIn, startedOver, bornNote, pressedNote, isHeldIn, controlledNote, controlledIn, controlsIn, controlledAll, ranNote, ranMix, goesOnIn};
 ghost use Rattle.sounding.specs.Started.{StartedBy};
-
-// An instrument of the program: its name, how many fields it has, its instructions for the i, k and a passes, from one number
-// up to another, and at each place the name of the imports ksig there, or a number above 65,535.
-pub struct Instrument {
-    pub name: u16,
-    pub fields: usize,
-    pub istart: usize,
-    pub iend: usize,
-    pub kstart: usize,
-    pub kend: usize,
-    pub astart: usize,
-    pub aend: usize,
-    pub imports: [u32; 16],
-}
-
-// An instrument, and whether it was found.
-pub struct Found {
-    pub there: bool,
-    pub instrument: Instrument,
-}
 
 // The notes that sound, from the first on, and how many were missed.
 pub struct Started {
@@ -58,7 +39,7 @@ pub struct Notes {
 const MOST_NOTES: usize = 16;
 
 // The limit on position.
-const FARTHEST: u64 = 1000000000000;
+const POSITION_LIMIT: u64 = 1000000000000;
 
 fn within(n: usize, most: usize) -> usize
     ensures { λ r. ⌜ r ≡ min n most ⌝ }
@@ -70,69 +51,6 @@ fn at_most(position: u64, most: u64) -> u64
     ensures { λ r. ⌜ r ≡ min position most ⌝ }
 {
     if position < most { position } else { most }
-}
-
-// The instrument with a name among the first n; else a blank one.
-pub fn find(table: [Instrument; 8], n: usize, name: u16) -> Found
-    ensures { λ r. ⌜ r ≡ foundIn name (take n table) ⌝ }
-{
-    let m = within(n, 8);
-    let mut i: usize = 0;
-    while i < m {
-        let x = table[i];
-        if x.name == name {
-            return Found {
-                there: true,
-                instrument: x,
-            };
-        }
-        i += 1;
-    }
-    let imports = [65536u32; 16];
-    let blank = Instrument {
-        name: 0,
-        fields: 0,
-        istart: 0,
-        iend: 0,
-        kstart: 0,
-        kend: 0,
-        astart: 0,
-        aend: 0,
-        imports: imports,
-    };
-    Found {
-        there: false,
-        instrument: blank,
-    }
-}
-
-// How many fields a line's instrument has; for a line of another kind no such instrument.
-pub fn fields_for(table: [Instrument; 8], n: usize, l: Line) -> Fields
-    ensures { λ r. ⌜ r ≡ fieldsIn (take n table) (l .event) ⌝ }
-{
-    let e = l.event;
-    match e {
-        Event::Instr {
-            label: _,
-            instrument,
-            duration: _,
-        } => {
-            let f = find(table, n, instrument);
-            let x = f.instrument;
-            if f.there {
-                Fields::Count(x.fields)
-            } else {
-                Fields::NoSuch
-            }
-        }
-        Event::Control {
-            label: _,
-            variable: _,
-            value: _,
-        } => Fields::NoSuch,
-        Event::End => Fields::NoSuch,
-        Event::Tempo(_) => Fields::NoSuch,
-    }
 }
 
 fn either(first: bool, x: f32, y: f32) -> f32
@@ -205,7 +123,7 @@ fn note_of<'a>(
     instrument: u16,
     duration: f32,
 ) -> Note
-    requires { ⌜ position ≤ farthest ⌝ }
+    requires { ⌜ position ≤ positionLimit ⌝ }
     ensures { λ r. ⌜ r ≡ bornNote (now (code .entry)) (now (vals .entry)) x l position label instrument duration ⌝ }
 {
     let given = l.values;
@@ -293,7 +211,7 @@ fn start_line<'a>(
     l: Line,
     position: u64,
 ) -> Started
-    requires { ⌜ (v .count ≤ 16) × (v .missed < 64) × (position ≤ farthest) ⌝ }
+    requires { ⌜ (v .count ≤ 16) × (v .missed < 64) × (position ≤ positionLimit) ⌝ }
     ensures { λ r. ⌜ StartedBy (startedBy (voices (take n table) (now (code .entry)) (now (vals .entry))) sixteen position l (startedIn (v .notes) (v .count) (v .missed)) (l .event)) v r ⌝ }
 {
     let e = l.event;
@@ -304,7 +222,7 @@ fn start_line<'a>(
             duration,
         } => {
             if v.count < MOST_NOTES {
-                let f = find(table, n, instrument);
+                let f = kept_orchestra::find(table, n, instrument);
                 let x = f.instrument;
                 let note = note_of(code, vals, x, l, position, label, instrument, duration);
                 return with_note(v, note);
@@ -333,10 +251,10 @@ pub fn start_notes<'a>(
     m: usize,
     position: u64,
 ) -> Started
-    ensures { λ r. ⌜ (r ≡ startedOver (started (voices (take n table) (now (code .entry)) (now (vals .entry))) sixteen (min position farthest) (notesIn notes sounding) (take m lines)) notes) × (r .missed ≤ 64) ⌝ }
+    ensures { λ r. ⌜ (r ≡ startedOver (started (voices (take n table) (now (code .entry)) (now (vals .entry))) sixteen (min position positionLimit) (notesIn notes sounding) (take m lines)) notes) × (r .missed ≤ 64) ⌝ }
 {
     let w = within(m, 64);
-    let p = at_most(position, FARTHEST);
+    let p = at_most(position, POSITION_LIMIT);
     let mut v = Started {
         notes: notes,
         count: within(sounding, MOST_NOTES),
@@ -383,7 +301,7 @@ fn control_notes(
     let mut j: usize = 0;
     while j < m {
         let x = notes[j];
-        let f = find(table, n, x.instrument);
+        let f = kept_orchestra::find(table, n, x.instrument);
         let i = f.instrument;
         let y = controlled_note(i, x, label, variable, value);
         a[j] = y;
@@ -489,7 +407,7 @@ fn play_message<'a>(
 {
     if m.on {
         if v.count < MOST_NOTES {
-            let f = find(table, n, chosen);
+            let f = kept_orchestra::find(table, n, chosen);
             let x = f.instrument;
             let note = pressed_note(code, vals, x, chosen, m);
             return with_note(v, note);
@@ -568,7 +486,7 @@ pub fn run_notes<'a>(
     let mut j: usize = 0;
     while j < m {
         let x = notes[j];
-        let f = find(table, n, x.instrument);
+        let f = kept_orchestra::find(table, n, x.instrument);
         let i = f.instrument;
         let y = run_note(code, &mut room, i, x, mix);
         a[j] = y;

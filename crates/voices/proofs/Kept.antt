@@ -14,7 +14,7 @@ use Rattle.syntax.specs.Placed.{rateOf, placeOf}
 use Rattle.float32.specs.Builtins.{truth}
 use Rattle.meaning.specs.Placed.{value, aRate, Sounding, sounding, assigned, outputs, pass, fresh, birth, kPass, aPasses}
 use Rattle.lowered.specs.Statements.{AllFit}
-use Rattle.sounding.specs.Voices.{named}
+use Rattle.kept_voices.specs.Voices.{named}
 
 record Kept (s s′ : Sounding) : Type 0 where
   size : length (s′ .values) ≡ length (s .values)

@@ -8,8 +8,9 @@ use Rattle.syntax.specs.Tree.{Instrument}
 use Rattle.meaning.specs.Placed.{birth, kPass, cycle}
 use Rattle.synth.specs.Passes.{stretch, freshOf, once, played}
 use Rattle.lowered.specs.Statements.{AllFit}
-use Rattle.sounding.specs.declared.Instrument as row
-use Rattle.sounding.specs.Voices.{Held, named, instrumentIn, voices, birthOf, ranValues, ranMixOf}
+use Rattle.kept_orchestra.specs.declared.Instrument as row
+use Rattle.kept_orchestra.specs.Kept.{instrumentIn}
+use Rattle.kept_voices.specs.Voices.{Held, named, voices, birthOf, ranValues, ranMixOf}
 use Rattle.voices.specs.Tree.{treeVoices, instrumentOf, importsOf, bodyOf}
 use Rattle.voices.specs.Represents.{Represents}
 use Rattle.voices.specs.Claims.{PlaysTree}

@@ -11,8 +11,8 @@ use borrow.Author.Tests.{ne-eqb}
 use Rattle.score_line.specs.declared.Event.the-variants.{Instr, Control, End, Tempo}
 use Rattle.syntax.specs.Tree.{importsKind}
 use Rattle.syntax.specs.Names.{Named, namesOf}
-use Rattle.waiting.specs.declared.Fields.the-variants.{Count, NoSuch}
-use Rattle.sounding.specs.Voices.{named}
+use Rattle.kept_orchestra.specs.declared.Fields.the-variants.{Count, NoSuch}
+use Rattle.kept_voices.specs.Voices.{named}
 use Rattle.voices.specs.Tree.{noSymbol, importOf, importsOf, instrumentOf}
 use Rattle.voices.specs.Claims.{FieldsTree, imported, ControlNames}
 

@@ -11,8 +11,8 @@ use Rattle.syntax.specs.Placed.{put}
 use Rattle.bounds.proofs.Sounding.{sounds}
 use Rattle.lowered.specs.Lowered.{lowered}
 use Rattle.lowered.specs.Statements.{Playable}
-use Rattle.sounding.specs.declared.Instrument as row
-use Rattle.sounding.specs.Voices.{foundIn, instrumentIn, blank}
+use Rattle.kept_orchestra.specs.declared.Instrument as row
+use Rattle.kept_orchestra.specs.Kept.{foundIn, instrumentIn, blank}
 use Rattle.voices.specs.Tree.{silent, instrumentOf, importsOf}
 use Rattle.voices.specs.Represents.{Row, Rows, Represents}
 

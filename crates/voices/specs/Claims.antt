@@ -16,8 +16,9 @@ use Rattle.players.specs.Cycle.{Voices, Note}
 use Rattle.players.specs.Holds.{Settings}
 use Rattle.players.specs.Results.{OutputsAdd}
 use Rattle.players.specs.Plain.{plainAt, answerAt, blockAt}
-use Rattle.sounding.specs.declared.Instrument as row
-use Rattle.sounding.specs.Voices.{Held, fieldsIn, voices}
+use Rattle.kept_orchestra.specs.declared.Instrument as row
+use Rattle.kept_orchestra.specs.Kept.{fieldsIn}
+use Rattle.kept_voices.specs.Voices.{Held, voices}
 use Rattle.voices.specs.Tree.{noSymbol, instrumentOf, bodyOf, setOf, treeVoices, fieldsOf}
 use Rattle.voices.specs.Represents.{Represents}
 

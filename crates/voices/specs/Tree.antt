@@ -11,10 +11,10 @@ use Rattle.syntax.specs.Placed.{placed}
 use Rattle.meaning.specs.Placed.{places, birth, cycle}
 use Rattle.score_line.specs.declared.Event.{Event}
 use Rattle.score_line.specs.declared.Event.the-variants.{Instr, Control, End, Tempo}
-use Rattle.waiting.specs.declared.Fields.{Fields}
-use Rattle.waiting.specs.declared.Fields.the-variants.{Count, NoSuch}
+use Rattle.kept_orchestra.specs.declared.Fields.{Fields}
+use Rattle.kept_orchestra.specs.declared.Fields.the-variants.{Count, NoSuch}
 use Rattle.players.specs.Cycle.{Voices, Ran}
-use Rattle.sounding.specs.Voices.{Held, named}
+use Rattle.kept_voices.specs.Voices.{Held, named}
 
 -- no instrument: no fields, no declarations, no statements
 unfoldable pub silent : Instrument

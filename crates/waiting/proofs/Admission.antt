@@ -16,7 +16,7 @@ use Rattle.score_line.specs.declared.Line.{Line}
 use Rattle.players.proofs.Lists.{cond-true, cond-false}
 use Rattle.waiting.specs.Waiting.{isLate}
 use Rattle.waiting.specs.Admission.{unfitEvent, mostLines, admission, pushed, admitted, waitingIn}
-use Rattle.waiting.specs.declared.Fields.{Fields}
+use Rattle.kept_orchestra.specs.declared.Fields.{Fields}
 use Rattle.waiting.specs.declared.Queue.{Queue}
 
 module _ (q : Queue) (l : Line) (f : Fields) where

@@ -11,8 +11,8 @@ use Rattle.score_line.specs.declared.Event.{Event}
 use Rattle.score_line.specs.declared.Event.the-variants.{Instr, Control, End, Tempo}
 use Rattle.score_line.specs.declared.Line.{Line}
 use Rattle.waiting.specs.Waiting.{isLate}
-use Rattle.waiting.specs.declared.Fields.{Fields}
-use Rattle.waiting.specs.declared.Fields.the-variants.{Count, NoSuch}
+use Rattle.kept_orchestra.specs.declared.Fields.{Fields}
+use Rattle.kept_orchestra.specs.declared.Fields.the-variants.{Count, NoSuch}
 use Rattle.waiting.specs.declared.Queue.{Queue}
 use Rattle.waiting.specs.declared.Admitted.{Admitted}
 

@@ -39,7 +39,7 @@ use Rattle.claims.specs.Verdict.{keysTaken, plays, once, Verdict}
 use Rattle.claims.specs.Claims.{afterOf, Given, settings, past, panelAfter, CallVerdict}
 use Rattle.claims.proofs.Answers.{call-verdict}
 use Rattle.claims.proofs.Past.{block-by-place}
-use Rattle.sounding.specs.Voices.{Held}
+use Rattle.kept_voices.specs.Voices.{Held}
 use Rattle.witness.specs.Growing.{ceiling, chosen}
 use Rattle.witness.specs.Calls.{lent}
 use Rattle.witness.specs.Keys.{bytes, tree, pressed, letGo, p0, p1, p2, p3, p4, Sounds, Pressed}

@@ -44,7 +44,7 @@ use Rattle.float32.specs.Limit.{held, sampleOf}
 use Rattle.float32.specs.Builtins.{truth}
 use Rattle.float32.specs.Operators.{binaryOf}
 use Rattle.timebase.specs.Time.{ticksIn, cycleOf, cycleIn}
-use Rattle.sounding.specs.Voices as code
+use Rattle.kept_voices.specs.Voices as code
 use Rattle.voices.specs.Tree.{silent, instrumentOf, importsOf, noSymbol, treeVoices}
 use Rattle.written_voices.specs.Voices.{writtenVoices, Fits, PlaysAsWritten}
 use Rattle.written_voices.proofs.Written.{every-piece}

@@ -20,7 +20,7 @@ use Rattle.float32.specs.Limit.{held, sampleOf}
 use Rattle.float32.specs.Builtins.{truth}
 use Rattle.float32.specs.Operators.{binaryOf}
 use Rattle.timebase.specs.Time.{ticksIn, cycleOf, cycleIn}
-use Rattle.sounding.specs.Voices as code
+use Rattle.kept_voices.specs.Voices as code
 use Rattle.voices.specs.Tree.{silent, instrumentOf, importsOf, treeVoices}
 use Rattle.written_voices.specs.Voices.{writtenVoices}
 use Rattle.score_line.specs.declared.Line.{Line}
@@ -32,7 +32,7 @@ use Rattle.claims.specs.Verdict.{here, there, taken, plays, once, Verdict, AllF
 use Rattle.claims.specs.Claims.{afterOf, panel, fresh, Given, settings, past, Condition3, CallVerdict}
 use Rattle.claims.proofs.Written.{condition-3}
 use Rattle.claims.proofs.Answers.{call-verdict}
-use Rattle.sounding.specs.Voices.{Held}
+use Rattle.kept_voices.specs.Voices.{Held}
 use Rattle.witness.specs.Growing.{ceiling, chosen}
 use Rattle.witness.specs.Calls.{lent}
 use Rattle.witness.specs.Rich.{bytes, tree, tone, rest, control, end, onStick, inUnit, onKeypad, before, lines, calls, moments, p1, p2, p3, p4, answersOf, Walked}

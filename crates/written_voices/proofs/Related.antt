@@ -14,7 +14,7 @@ use Rattle.score_line.specs.declared.Line.{Line}
 use Rattle.keys.specs.Keys.{frequencyOf, loudnessOf}
 use Rattle.messages.specs.declared.Message.{Message}
 use Rattle.players.specs.Lists.{keep, fold, each, All}
-use Rattle.players.specs.Cycle.{Voices, Note, Started, samples, isDue, earlier, insert, ordered, withState, joinedBy, born, startedBy, started, controlledBy, controlEvent, controlled, runFrom, runAll, anyEnd, farthest, lastTempo, limited, goesOn, Band, letGo, isHeld, letGoOldest, pressed, afterMessage, afterMessages}
+use Rattle.players.specs.Cycle.{Voices, Note, Started, samples, isDue, earlier, insert, ordered, withState, joinedBy, born, startedBy, started, controlledBy, controlEvent, controlled, runFrom, runAll, anyEnd, positionLimit, lastTempo, limited, goesOn, Band, letGo, isHeld, letGoOldest, pressed, afterMessage, afterMessages}
 use Rattle.players.specs.Holds.{Settings, Holds, behind, dueAt, laterThan, dueOf, endsBy, marked, answerOf, startedOf, bandOf, blockOf, played, cycled, Due, withMessages, soundsOf}
 use Rattle.players.specs.Plain.{plainStart, plainAt, answerAt, blockAt}
 use Rattle.players.specs.Calls.{numbered, Moment, takenIn, messagesTaken, allTaken}
@@ -276,7 +276,7 @@ module _ {S S′ : Type 0} (R : S → S′ → Type 0) (Ok : Line → Event → 
 
       ends-same : endsBy (dueOf c) (c .plays) ≡ endsBy (dueOf d) (d .plays)
       unfolding endsBy
-      ends-same = λ j. ltb farthest (h .position j) || anyEnd (due-same j .lines)
+      ends-same = λ j. ltb positionLimit (h .position j) || anyEnd (due-same j .lines)
 
       answer : answerOf c ≡ answerOf d
       unfolding answerOf

@@ -12,7 +12,7 @@ use Rattle.laws.proofs.Choice.{both-true}
 use Rattle.syntax.specs.Tree.{Instrument, importsKind}
 use Rattle.syntax.specs.Names.{Named, namesOf, symbols, has, apart, distinct, namesKept, eachKept, titleOf, nameRules, known, named, namedBy}
 use Rattle.float32.specs.Builtins.{zeroF}
-use Rattle.sounding.specs.Voices as by
+use Rattle.kept_voices.specs.Voices as by
 use Rattle.voices.specs.Tree.{instrumentOf, silent, bodyOf, treeVoices, noSymbol, setOf}
 use Rattle.meaning.specs.Placed as placed
 use Rattle.voices.specs.Claims.{imported}

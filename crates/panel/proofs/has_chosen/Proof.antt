@@ -1,6 +1,6 @@
 use mathlib.Core.Path.{ap}
 use borrow.Author.Needs.{needs}
-use Rattle.sounding.specs.declared.Found.{Found}
+use Rattle.kept_orchestra.specs.declared.Found.{Found}
 use Rattle.panel.specs.Calls.{hasChosen}
 use Rattle.panel.proofs.has_chosen.Statement.{statement}
 use Rattle.panel.proofs.has_chosen.Tie as tie

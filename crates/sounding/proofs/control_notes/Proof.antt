@@ -6,7 +6,7 @@ use lib.ListN.{length, take, length-map}
 use Rattle.players.specs.Lists.{each, over}
 use Rattle.players.proofs.Loops.{take-end}
 use Rattle.synth.specs.declared.Note.{Note}
-use Rattle.sounding.specs.Voices.{controlledIn}
+use Rattle.sounding.specs.Notes.{controlledIn}
 use Rattle.sounding.proofs.Steps.{each-over}
 use Rattle.sounding.proofs.Band.{control-in}
 use Rattle.sounding.proofs.control_notes.Statement.{statement}

@@ -2,7 +2,7 @@ use mathlib.Core.Path.{refl, subst}
 use lib.ListN.{length-map}
 use borrow.Author.Needs.{needs}
 use Rattle.players.specs.Cycle as cycle
-use Rattle.sounding.specs.Voices.{Held}
+use Rattle.kept_voices.specs.Voices.{Held}
 use Rattle.sounding.specs.Started.{StartedBy}
 use Rattle.sounding.proofs.Steps.{start-room, start-full}
 use Rattle.sounding.proofs.Band.{press-starts, off-marks}

@@ -1,6 +1,7 @@
 use Rattle.players.specs.Lists.{each}
 use Rattle.players.specs.Cycle.{Band, runFrom}
-use Rattle.sounding.specs.Voices.{Held, noteOf}
+use Rattle.kept_voices.specs.Voices.{Held}
+use Rattle.sounding.specs.Notes.{noteOf}
 use mathlib.Core.Path.{_≡_, ap, _∙_}
 use mathlib.Core.List.{List}
 use Prim.Native.Nat.{_≤_, _-_}
@@ -9,7 +10,8 @@ use borrow.Author.Needs.{needs}
 use lib.ListN.{take}
 use Rattle.players.proofs.Loops.{take-end}
 use Rattle.synth.specs.declared.Note.{Note}
-use Rattle.sounding.specs.Voices.{voices, notesIn}
+use Rattle.kept_voices.specs.Voices.{voices}
+use Rattle.sounding.specs.Notes.{notesIn}
 use Rattle.synth.specs.Room.{numbersIn, roomOf}
 use Rattle.sounding.proofs.OneNote.{ran-here, mixed-here}
 use Rattle.sounding.proofs.Steps.{laid-notes}

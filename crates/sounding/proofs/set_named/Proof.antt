@@ -2,7 +2,7 @@ use mathlib.Core.Path.{_≡_, refl}
 use Prim.Native.Nat.{_≤_, _-_}
 use native.Mathlib.Omega.{arith}
 use lib.ListN.{length, take, length-set}
-use Rattle.sounding.specs.Voices.{named}
+use Rattle.kept_voices.specs.Voices.{named}
 use Rattle.sounding.proofs.Steps.{named-step, named-end}
 use Rattle.sounding.proofs.set_named.Statement.{statement}
 use Rattle.sounding.proofs.set_named.Tie as tie

@@ -6,7 +6,8 @@ use Rattle.players.specs.Lists.{each, fold}
 use Rattle.players.specs.Cycle.{started}
 use Rattle.players.specs.Holds.{sixteen}
 use Rattle.players.proofs.Loops.{take-end, take-min}
-use Rattle.sounding.specs.Voices.{voices, noteOf, notesIn, startedOver}
+use Rattle.kept_voices.specs.Voices.{voices}
+use Rattle.sounding.specs.Notes.{noteOf, notesIn, startedOver}
 use Rattle.sounding.proofs.Steps.{Starting, starting-none, starting-end}
 use Rattle.sounding.proofs.Band.{starting-more}
 use Rattle.sounding.proofs.start_notes.Statement.{statement}

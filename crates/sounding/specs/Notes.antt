@@ -1,0 +1,121 @@
+-- The panel's notes as the notes of a cycle, and what the code does with them.
+use mathlib.Core.Bool.{Bool, true, false, cond, _&&_}
+use mathlib.Core.List.{List, [], _∷_}
+use Prim.Native.Nat.{ℕ, _+_}
+use lib.ListN.{length, take}
+use lib.Dec.{eqb}
+use lib.Ieee.{Float, eq}
+use Rattle.timebase.specs.Time.{ticksIn, endless as withoutEnd}
+use Rattle.score_line.specs.declared.Event.{Event}
+use Rattle.score_line.specs.declared.Event.the-variants.{Instr, Control, End, Tempo}
+use Rattle.score_line.specs.declared.Label.{Label}
+use Rattle.score_line.specs.declared.Line.{Line}
+use Rattle.synth.specs.Passes.{stretch, freshOf, once, played}
+use Rattle.synth.specs.Notes.{newNote, withValues}
+use Rattle.synth.specs.declared.Note.{Note}
+use Rattle.keys.specs.Keys.{frequencyOf, loudnessOf}
+use Rattle.messages.specs.declared.Message.{Message}
+use Rattle.players.specs.Lists.{each, fold, over}
+use Rattle.players.specs.Cycle.{isLabelled, labelNumber, isHeld, goesOn}
+use Rattle.players.specs.Cycle as cycle
+use Rattle.kept_orchestra.specs.Kept.{instrumentIn}
+use Rattle.kept_orchestra.specs.declared.Instrument.{Instrument}
+use Rattle.kept_voices.specs.Voices.{Held, named}
+use Rattle.sounding.specs.declared.Started.{Started}
+
+-- ---- the panel's notes
+
+abbrev pub noteOf : Note → cycle.Note Held
+noteOf n =
+    record {
+      labelled = n .labelled;
+      label = n .label;
+      endless = n .endless;
+      end = n .end;
+      keyed = n .keyed;
+      channel = n .channel;
+      key = n .key;
+      released = n .released;
+      state = record { instrument = n .instrument; values = n .values };
+    }
+
+abbrev pub structOf : cycle.Note Held → Note
+structOf n =
+    record {
+      values = n .state .values;
+      labelled = n .labelled;
+      label = n .label;
+      instrument = n .state .instrument;
+      endless = n .endless;
+      end = n .end;
+      keyed = n .keyed;
+      channel = n .channel;
+      key = n .key;
+      released = n .released;
+    }
+
+-- the first notes of an array
+abbrev pub notesIn : List Note → ℕ → List (cycle.Note Held)
+notesIn ns n = each noteOf (take n ns)
+
+abbrev pub startedIn : List Note → ℕ → ℕ → cycle.Started Held
+startedIn ns n missed = record { notes = notesIn ns n; missed = missed }
+
+-- notes laid over the array, and how many were missed
+unfoldable pub startedOver : cycle.Started Held → List Note → Started
+startedOver s old = record { notes = over (each structOf (s .notes)) old; count = length (s .notes); missed = s .missed }
+
+abbrev pub bandIn : List Note → ℕ → List Float → cycle.Band Held
+bandIn ns n mix = record { notes = notesIn ns n; mix = mix }
+
+-- ---- the code's notes, with the instrument at hand
+
+-- the note that a line starts, its i pass run
+unfoldable pub bornNote : List ℕ → List Float → Instrument → Line → ℕ → Label → ℕ → Float → Note
+bornNote code vals x l position label name duration =
+    newNote (once vals (stretch (x .istart) (x .iend) code) (freshOf (take (x .fields) (take (l .count) (l .values))))) (isLabelled label) (labelNumber label) name
+    (eq duration withoutEnd) (position + ticksIn duration) false 0 0 false
+
+-- the note that a note-on starts
+unfoldable pub pressedNote : List ℕ → List Float → Instrument → ℕ → Message → Note
+pressedNote code vals x name m =
+    newNote (once vals (stretch (x .istart) (x .iend) code) (freshOf (take (x .fields) (frequencyOf (m .key) ∷ loudnessOf (m .velocity) ∷ [])))) false 0 name
+    true 0 true (m .channel) (m .key) false
+
+unfoldable pub controlledNote : Instrument → Note → ℕ → ℕ → Float → Note
+controlledNote x n label variable value =
+    cond (n .labelled && eqb label (n .label)) (withValues (named variable value (x .imports) (n .values)) n) n
+
+unfoldable pub kNote : List ℕ → List Float → Instrument → Note → Note
+kNote code vals x n = withValues (once vals (stretch (x .kstart) (x .kend) code) (n .values)) n
+
+unfoldable pub ranNote : List ℕ → List Float → Instrument → Note → List Float → Note
+unfolding kNote
+ranNote code vals x n mix =
+    withValues (played vals (stretch (x .astart) (x .aend) code) (kNote code vals x n .values) mix .values) (kNote code vals x n)
+
+unfoldable pub ranMix : List ℕ → List Float → Instrument → Note → List Float → List Float
+unfolding kNote
+ranMix code vals x n mix = played vals (stretch (x .astart) (x .aend) code) (kNote code vals x n .values) mix .mix
+
+-- ---- control lines on the panel's notes
+
+unfoldable pub controlledIn : List Instrument → ℕ → ℕ → Float → Note → Note
+controlledIn table label variable value n = controlledNote (instrumentIn table (n .instrument)) n label variable value
+
+abbrev pub controlsIn : List Instrument → List Note → Event → List Note
+controlsIn table ns (Instr label name duration) = ns
+controlsIn table ns (Control label variable value) = each (controlledIn table label variable value) ns
+controlsIn table ns End = ns
+controlsIn table ns (Tempo t) = ns
+
+unfoldable pub controlledAll : List Instrument → List Note → List Line → List Note
+controlledAll table ns ls = fold (λ (ms : List Note) (l : Line). controlsIn table ms (l .event)) ns ls
+
+-- an unmarked note of a key of a channel
+abbrev pub isHeldIn : ℕ → ℕ → Note → Bool
+isHeldIn channel key n = isHeld channel key (noteOf n)
+
+-- a note that goes on
+abbrev pub goesOnIn : ℕ → Note → Bool
+goesOnIn position n = goesOn position (noteOf n)
