@@ -1,7 +1,7 @@
 -- The count of missed notes never comes near 64 bits: at most 64 lines and 64 note messages a cycle, at least 1,024 ticks a cycle, and a limit on
 -- position.
 use mathlib.Core.Path.{_≡_, refl, ap}
-use mathlib.Core.Bool.{Bool, true, false, not, _||_, cond}
+use mathlib.Core.Bool.{Bool, true, false, not, _&&_, _||_, cond}
 use mathlib.Core.List.{List, [], _∷_, _++_}
 use Prim.Native.Nat.{ℕ, suc, _+_, _*_, _≤_, min}
 use native.Mathlib.Omega.{arith}
@@ -15,7 +15,7 @@ use Rattle.score_line.specs.declared.Event.the-variants.{Instr, Control, End, T
 use Rattle.score_line.specs.declared.Line.{Line}
 use Rattle.messages.specs.declared.Message.{Message}
 use Rattle.players.specs.Lists.{keep, fold, All}
-use Rattle.players.specs.Cycle.{Voices, Note, Started, isDue, earlier, insert, ordered, positionLimit, tempoFrom, lastTempo, joinedBy, letGoOldest, startedBy, started, born, controlled, pressed, afterMessage, afterMessages}
+use Rattle.players.specs.Cycle.{Voices, Note, Started, isDue, earlier, insert, ordered, positionLimit, tempoFrom, lastTempo, canCut, cutOldest, joinedBy, letGoOldest, startedBy, started, born, controlled, pressed, afterMessage, afterMessages}
 use Rattle.players.specs.Holds.{Settings, Plays, Holds, Due, sixty, dueAt, laterThan, dueOf, endsBy, capped, startedOf, soundsOf, played}
 use Rattle.players.proofs.Lists.{length-keep, all-keep}
 
@@ -87,11 +87,13 @@ module _ {S : Type 0} (h : Holds S) where
 module _ {S : Type 0} (v : Voices S) (most : ℕ) where
   join-least : (s : Started S) (n : Note S) → joinedBy most s n .missed ≤ s .missed + 1
   unfolding joinedBy
-  join-least s n = go (ltb (length (s .notes)) most)
+  join-least s n = go (ltb (length (s .notes)) most) (n .priority && canCut (s .notes))
     where
-      go : (b : Bool) → cond {A = Started S} b (record { notes = s .notes ++ (n ∷ []); missed = s .missed }) (record { notes = s .notes; missed = s .missed + 1 }) .missed ≤ s .missed + 1
-      go true = omega arith
-      go false = omega arith
+      go : (b c : Bool) → cond {A = Started S} b (record { notes = s .notes ++ (n ∷ []); missed = s .missed })
+          (cond c (record { notes = cutOldest (s .notes) ++ (n ∷ []); missed = s .missed + 1 }) (record { notes = s .notes; missed = s .missed + 1 })) .missed ≤ s .missed + 1
+      go true c = omega arith
+      go false true = omega arith
+      go false false = omega arith
 
   start-least : (pos : ℕ) (l : Line) (s : Started S) (x : Event) → startedBy v most pos l s x .missed ≤ s .missed + 1
   start-least pos l s (Instr label i d) = join-least s (born v pos l label i d)

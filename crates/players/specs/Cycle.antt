@@ -44,6 +44,8 @@ pub record Note (S : Type 0) : Type 0 where
   -- whether it is without end; if not, the position of its birth plus the ticks of its duration
   pub endless : Bool
   pub end : ℕ
+  -- whether its line had priority
+  pub priority : Bool
   -- whether it is from the keyboard, and then its channel and key, 0 where it is not; whether that key was let go
   pub keyed : Bool
   pub channel : ℕ
@@ -139,6 +141,7 @@ module _ {S : Type 0} where
         label = n .label;
         endless = n .endless;
         end = n .end;
+        priority = n .priority;
         keyed = n .keyed;
         channel = n .channel;
         key = n .key;
@@ -154,6 +157,7 @@ module _ {S : Type 0} where
         label = n .label;
         endless = n .endless;
         end = n .end;
+        priority = n .priority;
         keyed = n .keyed;
         channel = n .channel;
         key = n .key;
@@ -161,12 +165,25 @@ module _ {S : Type 0} where
         state = n .state;
       }
 
-  -- one note more; with the most notes sounding, one more missed
+  -- whether a note can be cut off: one of them has no priority
+  unfoldable pub canCut : List (Note S) → Bool
+  canCut [] = false
+  canCut (n ∷ ns) = cond (n .priority) (canCut ns) true
+
+  -- the oldest note without priority cut off; the others stay
+  unfoldable pub cutOldest : List (Note S) → List (Note S)
+  cutOldest [] = []
+  cutOldest (n ∷ ns) = cond (n .priority) (n ∷ cutOldest ns) ns
+
+  -- One note more, behind the others. With the most notes sounding one is missed: where the new note has priority, the oldest without,
+  -- which is cut off; with no such note, and for a note without priority, the new one.
   unfoldable pub joinedBy : ℕ → Started S → Note S → Started S
   joinedBy most s n =
       cond (ltb (length (s .notes)) most)
       (record { notes = s .notes ++ (n ∷ []); missed = s .missed })
-      (record { notes = s .notes; missed = s .missed + 1 })
+      (cond (n .priority && canCut (s .notes))
+      (record { notes = cutOldest (s .notes) ++ (n ∷ []); missed = s .missed + 1 })
+      (record { notes = s .notes; missed = s .missed + 1 }))
 
   -- a note that goes on after a cycle at a position: it is not marked, and its end lies above the position
   unfoldable pub goesOn : ℕ → Note S → Bool
@@ -190,6 +207,7 @@ module _ {S : Type 0} (v : Voices S) where
         label = labelNumber label;
         endless = eq duration withoutEnd;
         end = pos + ticksIn duration;
+        priority = l .priority;
         keyed = false;
         channel = 0;
         key = 0;
@@ -203,7 +221,7 @@ module _ {S : Type 0} (v : Voices S) where
   startedBy most pos l s End = s
   startedBy most pos l s (Tempo t) = s
 
-  -- step 3: each instr line starts a note, as long as fewer than the most sound
+  -- step 3: each instr line starts a note, as long as fewer than the most sound or one can be cut off for it
   unfoldable pub started : ℕ → ℕ → List (Note S) → List Line → Started S
   started most pos ns ls =
       fold (λ (s : Started S) (l : Line). startedBy most pos l s (l .event)) (record { notes = ns; missed = 0 }) ls
@@ -231,6 +249,7 @@ module _ {S : Type 0} (v : Voices S) where
         label = 0;
         endless = true;
         end = 0;
+        priority = false;
         keyed = true;
         channel = m .channel;
         key = m .key;
@@ -238,7 +257,7 @@ module _ {S : Type 0} (v : Voices S) where
         state = v .birth chosen (frequencyOf (m .key) ∷ loudnessOf (m .velocity) ∷ []);
       }
 
-  -- a note-on starts a note, as an instr line does; a note-off marks one
+  -- a note-on starts a note, as an instr line without priority does; a note-off marks one
   unfoldable pub afterMessage : ℕ → ℕ → Started S → Message → Started S
   afterMessage most chosen s m =
       cond (m .on) (joinedBy most s (pressed chosen m))

@@ -2,10 +2,10 @@
 -- it, in other words, and a step that comes to something else keeps none of them.
 use mathlib.Core.Path.{_≡_}
 use mathlib.Core.Logic.{_↔_, _⊎_}
-use mathlib.Core.Bool.{Bool, true, false, _&&_, cond}
+use mathlib.Core.Bool.{Bool, true, false, not, _&&_, cond}
 use mathlib.Core.List.{List, [], _∷_, _++_, zipWith}
-use Prim.Native.Nat.{ℕ, suc, _+_, _-_, _≤_, min}
-use lib.ListN.{length, take, replicate}
+use Prim.Native.Nat.{ℕ, zero, suc, _+_, _-_, _≤_, _<_, min}
+use lib.ListN.{length, take, drop, replicate}
 use lib.Dec.{eqb}
 use lib.Ieee.{Float, binary32, lt, eq, isNan, add, ofBits}
 use Rattle.timebase.specs.Time.{ticksIn, endless as withoutEnd}
@@ -17,7 +17,7 @@ use Rattle.score_line.specs.declared.Event.the-variants.{Instr, Control, End, T
 use Rattle.score_line.specs.declared.Line.{Line}
 use Rattle.players.specs.Lists.{keep, fold, each, All}
 use Rattle.messages.specs.declared.Message.{Message}
-use Rattle.players.specs.Cycle.{Voices, Note, Started, withState, letGo, letGoOldest, ordered, anyEnd, lastTempo, samples, born, started, controlled, afterMessages, runAll, goesOn}
+use Rattle.players.specs.Cycle.{Voices, Note, Started, withState, letGo, letGoOldest, joinedBy, ordered, anyEnd, lastTempo, samples, born, started, controlled, pressed, afterMessages, runAll, goesOn}
 
 -- ---- the due lines, in order
 
@@ -102,9 +102,54 @@ module _ {S : Type 0} (v : Voices S) where
   births position [] = []
   births position (l ∷ ls) = bornBy position l (l .event) ++ births position ls
 
-  -- Each instr line starts a note behind the others as long as fewer than the most sound; the others are missed.
+  abbrev pub HasPriority : Note S → Type 0
+  HasPriority n = n .priority ≡ true
+
+  abbrev pub NoPriority : Note S → Type 0
+  NoPriority n = n .priority ≡ false
+
+  -- What one more note makes of those that sound. With room it joins behind them. Without room one more is missed: where it has priority,
+  -- the oldest without is gone, the others keep their places and the new one is the youngest; otherwise the notes stay.
+  pub record Joins (most : ℕ) (s : Started S) (n : Note S) : Type 0 where
+    pub room : length (s .notes) < most → joinedBy most s n ≡ record { notes = s .notes ++ (n ∷ []); missed = s .missed }
+    pub cutOff : (before : List (Note S)) (oldest : Note S) (behind : List (Note S)) → most ≤ length (s .notes) → HasPriority n
+        → s .notes ≡ before ++ (oldest ∷ behind) → All HasPriority before → NoPriority oldest
+        → joinedBy most s n ≡ record { notes = (before ++ behind) ++ (n ∷ []); missed = s .missed + 1 }
+    pub missed : most ≤ length (s .notes) → NoPriority n ⊎ All HasPriority (s .notes)
+        → joinedBy most s n ≡ record { notes = s .notes; missed = s .missed + 1 }
+
+  unfoldable pub NotesJoin : Type 0
+  NotesJoin = (most : ℕ) (s : Started S) (n : Note S) → Joins most s n
+
+  -- A note has priority exactly if its line had, whatever it holds since; keyboard notes have none, marked or not.
+  pub record PriorityKept : Type 0 where
+    pub line : (position : ℕ) (l : Line) (label : Label) (i : ℕ) (duration : Float) → born v position l label i duration .priority ≡ l .priority
+    pub key : (chosen : ℕ) (m : Message) → pressed v chosen m .priority ≡ false
+    pub stays : (n : Note S) (s : S) → withState n s .priority ≡ n .priority
+    pub marked : (n : Note S) → letGo n .priority ≡ n .priority
+
+  -- so many of the oldest notes without priority left out
+  unfoldable pub cutFirst : ℕ → List (Note S) → List (Note S)
+  cutFirst zero ns = ns
+  cutFirst (suc k) [] = []
+  cutFirst (suc k) (n ∷ ns) = cond (n .priority) (n ∷ cutFirst (suc k) ns) (cutFirst k ns)
+
+  -- the notes once every place is taken, and the notes of priority that come then
+  abbrev pub filled : ℕ → List (Note S) → List (Note S) → List (Note S)
+  filled most before born = before ++ take (most - length before) born
+
+  abbrev pub comeThen : ℕ → List (Note S) → List (Note S) → List (Note S)
+  comeThen most before born = keep (λ (n : Note S). n .priority) (drop (most - length before) born)
+
+  -- each of these for one without priority, as long as there is one
+  abbrev pub replaced : List (Note S) → List (Note S) → List (Note S)
+  replaced sounding new = cutFirst (length new) sounding ++ take (length (keep (λ (n : Note S). not (n .priority)) sounding)) new
+
+  -- Each instr line starts a note behind the others as long as fewer than the most sound. Each further one adds one to the missed notes,
+  -- and those of priority still start, each for the oldest note without, as long as there is one.
   pub record EachStarts (most position : ℕ) (before : List (Note S)) (due : List Line) : Type 0 where
-    pub notes : started v most position before due .notes ≡ before ++ take (most - length before) (births position due)
+    pub notes : started v most position before due .notes
+        ≡ replaced (filled most before (births position due)) (comeThen most before (births position due))
     pub missed : started v most position before due .missed ≡ length (births position due) - (most - length before)
 
   unfoldable pub NotesStart : Type 0

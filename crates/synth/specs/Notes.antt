@@ -5,8 +5,8 @@ use Prim.Native.Nat.{ℕ}
 use lib.Ieee.{Float}
 use Rattle.synth.specs.declared.Note.{Note}
 
-abbrev pub newNote : List Float → Bool → ℕ → ℕ → Bool → ℕ → Bool → ℕ → ℕ → Bool → Note
-newNote values labelled label instrument endless end keyed channel key released =
+abbrev pub newNote : List Float → Bool → ℕ → ℕ → Bool → ℕ → Bool → Bool → ℕ → ℕ → Bool → Note
+newNote values labelled label instrument endless end priority keyed channel key released =
     record {
       values = values;
       labelled = labelled;
@@ -14,6 +14,7 @@ newNote values labelled label instrument endless end keyed channel key released 
       instrument = instrument;
       endless = endless;
       end = end;
+      priority = priority;
       keyed = keyed;
       channel = channel;
       key = key;
@@ -22,7 +23,7 @@ newNote values labelled label instrument endless end keyed channel key released 
 
 abbrev pub withValues : List Float → Note → Note
 withValues vs n =
-    newNote vs (n .labelled) (n .label) (n .instrument) (n .endless) (n .end) (n .keyed) (n .channel) (n .key) (n .released)
+    newNote vs (n .labelled) (n .label) (n .instrument) (n .endless) (n .end) (n .priority) (n .keyed) (n .channel) (n .key) (n .released)
 
 abbrev pub letGo : Note → Note
-letGo n = newNote (n .values) (n .labelled) (n .label) (n .instrument) (n .endless) (n .end) (n .keyed) (n .channel) (n .key) true
+letGo n = newNote (n .values) (n .labelled) (n .label) (n .instrument) (n .endless) (n .end) (n .priority) (n .keyed) (n .channel) (n .key) true
