@@ -55,7 +55,7 @@ endedOf p = withState p (record { queue = p .state .queue; messages = p .state .
 
 unfoldable pub emptyNote : Note
 emptyNote =
-    newNote (replicate 16 (ofBits binary32 0)) false 0 0 false 0 false 0 0 false
+    newNote (replicate 16 (ofBits binary32 0)) false 0 0 false 0 false false 0 0 false
 
 -- no line and no note message waits, no note sounds, position 0, the starting tempo, none missed; ended only where the start is refused
 unfoldable pub startOf : Program → ℕ → ℕ → Bool → Panel

@@ -78,7 +78,7 @@ fn start(program: Program, ceiling: u16, chosen: u16, ended: bool) -> Panel
 {
     let line = entrances::empty_line();
     let silence = [0.0f32; 16];
-    let note = synth::new_note(silence, false, 0, 0, false, 0, false, 0, 0, false);
+    let note = synth::new_note(silence, false, 0, 0, false, 0, false, false, 0, 0, false);
     let messages = keyboard::no_messages();
     let lines = [line; 64];
     let notes = [note; 16];

@@ -203,13 +203,16 @@ module _ (table : List Instrument) (code : List ℕ) (vals : List Float) where
 
   -- ---- step 3
 
-  pub start-instr : (position : ℕ) (l : Line) (s : cycle.Started Held) (e : Event) (label : Label) (name : ℕ) (duration : Float)
-      → e ≡ Instr label name duration → (f : Found) → f ≡ foundIn name table
+  pub born-found : (position : ℕ) (l : Line) (label : Label) (name : ℕ) (duration : Float) (f : Found) → f ≡ foundIn name table
       → (n : Note) → n ≡ bornNote code vals (f .instrument) l position label name duration
+      → n ≡ bornNote code vals (instrumentIn table name) l position label name duration
+  born-found position l label name duration f ef n en = en ∙ ap (λ (g : Found). bornNote code vals (g .instrument) l position label name duration) ef
+
+  pub start-instr : (position : ℕ) (l : Line) (s : cycle.Started Held) (e : Event) (label : Label) (name : ℕ) (duration : Float)
+      → e ≡ Instr label name duration → (n : Note) → n ≡ bornNote code vals (instrumentIn table name) l position label name duration
       → joinedBy sixteen s (noteOf n) ≡ startedBy (voices table code vals) sixteen position l s e
-  start-instr position l s e label name duration ee f ef n en =
-      ap (joinedBy sixteen s) (ap noteOf (en ∙ ap (λ (g : Found). bornNote code vals (g .instrument) l position label name duration) ef)
-      ∙ born-same position l label name duration)
+  start-instr position l s e label name duration ee n en =
+      ap (joinedBy sixteen s) (ap noteOf en ∙ born-same position l label name duration)
       ∙ ap (startedBy (voices table code vals) sixteen position l s) (sym ee)
 
   pub starting-more : (position : ℕ) (ns : List (cycle.Note Held)) (ls : List Line) (i : ℕ) (d : Line) (old : List Note) (v r : Started) → i < length ls

@@ -1,3 +1,4 @@
 pub mod Steps
 pub mod OneNote
 pub mod Band
+pub mod Cutting

@@ -14,6 +14,7 @@ use Rattle.keys.specs.Keys.{frequencyOf, loudnessOf}
 use Rattle.messages.specs.declared.Message.{Message}
 use Rattle.players.specs.Cycle.{isLabelled, labelNumber, isHeld}
 use Rattle.players.proofs.Lists.{cond-true, cond-false}
+use Rattle.players.proofs.Results.{and-false}
 use Rattle.synth.specs.Passes.{stretch, freshOf, once, Played, played}
 use Rattle.synth.specs.Room.{numbersIn, roomOf}
 use Rattle.synth.specs.Notes.{newNote, withValues}
@@ -36,26 +37,47 @@ begun-law vals ws note room m r q =
 pub born-law : (code : List ℕ) (vals : List Float) (x : Instrument) (l : Line) (position : ℕ) (label : Label) (name : ℕ) (duration : Float)
     → (vs : List Float) → vs ≡ freshOf (take (x .fields) (take (l .count) (l .values))) → (t : ℕ) → t ≡ ticksIn duration
     → (lab : Bool) → lab ≡ isLabelled label → (num : ℕ) → num ≡ labelNumber label → (end : Bool) → end ≡ eq duration withoutEnd
-    → (note : Note) → note ≡ newNote vs lab num name end (position + t) false 0 0 false
+    → (note : Note) → note ≡ newNote vs lab num name end (position + t) (l .priority) false 0 0 false
     → (r : Note) → r ≡ withValues (once vals (stretch (x .istart) (x .iend) code) (note .values)) note
     → r ≡ bornNote code vals x l position label name duration
 unfolding bornNote
 born-law code vals x l position label name duration vs e t f lab g num h end k note o r q =
     let ws = stretch (x .istart) (x .iend) code in
     q ∙ ap (λ (y : Note). withValues (once vals ws (y .values)) y) o
-    ∙ (λ i. newNote (once vals ws (e i)) (g i) (h i) name (k i) (position + f i) false 0 0 false)
+    ∙ (λ i. newNote (once vals ws (e i)) (g i) (h i) name (k i) (position + f i) (l .priority) false 0 0 false)
+
+-- nothing is cut off for a line without priority, with no note to cut off, or for the keyboard
+pub born-yields : (code : List ℕ) (vals : List Float) (x : Instrument) (l : Line) (position : ℕ) (label : Label) (name : ℕ) (duration : Float) (b : Bool)
+    → l .priority ≡ false → (bornNote code vals x l position label name duration .priority && b) ≡ false
+unfolding bornNote
+born-yields code vals x l position label name duration b e = ap (λ (p : Bool). p && b) e
+
+pub born-alone : (code : List ℕ) (vals : List Float) (x : Instrument) (l : Line) (position : ℕ) (label : Label) (name : ℕ) (duration : Float) (b : Bool)
+    → b ≡ false → (bornNote code vals x l position label name duration .priority && b) ≡ false
+unfolding bornNote
+born-alone code vals x l position label name duration b e = ap (λ (c : Bool). l .priority && c) e ∙ and-false (l .priority)
+
+pub born-priority : (code : List ℕ) (vals : List Float) (x : Instrument) (l : Line) (position : ℕ) (label : Label) (name : ℕ) (duration : Float)
+    → (n : Note) → n ≡ bornNote code vals x l position label name duration → l .priority ≡ true → n .priority ≡ true
+unfolding bornNote
+born-priority code vals x l position label name duration n q e = ap (λ (m : Note). m .priority) q ∙ e
+
+pub pressed-yields : (code : List ℕ) (vals : List Float) (x : Instrument) (name : ℕ) (m : Message) (b : Bool)
+    → (pressedNote code vals x name m .priority && b) ≡ false
+unfolding pressedNote
+pressed-yields code vals x name m b = refl
 
 pub pressed-law : (code : List ℕ) (vals : List Float) (x : Instrument) (name : ℕ) (m : Message)
     → (f : Float) → f ≡ frequencyOf (m .key) → (l : Float) → l ≡ loudnessOf (m .velocity)
     → (vs : List Float) → vs ≡ freshOf (take (x .fields) (f ∷ l ∷ []))
-    → (note : Note) → note ≡ newNote vs false 0 name true 0 true (m .channel) (m .key) false
+    → (note : Note) → note ≡ newNote vs false 0 name true 0 false true (m .channel) (m .key) false
     → (r : Note) → r ≡ withValues (once vals (stretch (x .istart) (x .iend) code) (note .values)) note
     → r ≡ pressedNote code vals x name m
 unfolding pressedNote
 pressed-law code vals x name m f ef l el vs e note o r q =
     let ws = stretch (x .istart) (x .iend) code in
     q ∙ ap (λ (y : Note). withValues (once vals ws (y .values)) y) o
-    ∙ (λ i. newNote (once vals ws ((e ∙ (λ j. freshOf (take (x .fields) (ef j ∷ el j ∷ [])))) i)) false 0 name true 0 true (m .channel) (m .key) false)
+    ∙ (λ i. newNote (once vals ws ((e ∙ (λ j. freshOf (take (x .fields) (ef j ∷ el j ∷ [])))) i)) false 0 name true 0 false true (m .channel) (m .key) false)
 
 -- ---- an unmarked note of a key of a channel
 

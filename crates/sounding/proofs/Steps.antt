@@ -1,6 +1,6 @@
 -- Laws for the loops and the notes, one for each way through the code.
 use mathlib.Core.Path.{_≡_, refl, sym, ap, _∙_, subst, subst⁻¹}
-use mathlib.Core.Bool.{true, false, cond}
+use mathlib.Core.Bool.{true, false, _&&_, cond}
 use mathlib.Core.List.{List, [], _∷_, _++_, append-nil}
 use Prim.Native.Nat.{ℕ, zero, suc, _+_, _-_, _≤_, _<_, min}
 use native.Mathlib.Omega.{arith}
@@ -11,13 +11,13 @@ use lib.Dec.{eqb}
 use lib.Ieee.{Float}
 use lib.ListN.{length, take, drop, getD, set, length-take, length-set, take-append-drop}
 use lib.Seq.{take-suc, take-suc-set, take-at, drop-drop, drop-length, drop-set-lt, take-all, take-take, take-set-lt, length-take-le, getD-take}
-use borrow.Author.Tests.{lt-ltb, le-ltb}
 use Rattle.players.specs.Lists.{each, over, All}
-use Rattle.players.specs.Cycle.{joinedBy, letGoOldest}
+use Rattle.players.specs.Cycle.{canCut, cutOldest, joinedBy, letGoOldest}
 use Rattle.players.specs.Holds.{sixteen}
 use Rattle.players.specs.Cycle as cycle
 use Rattle.players.proofs.Lists.{cond-true, cond-false, all-append}
 use Rattle.players.proofs.Loops.{over-set}
+use Rattle.players.proofs.Results.{join-room, join-cut, join-miss}
 use Rattle.synth.specs.Notes.{letGo}
 use Rattle.synth.specs.declared.Note.{Note}
 use Rattle.kept_voices.specs.Voices.{Held, named}
@@ -93,19 +93,19 @@ module _ (ns : List Note) (k m : ℕ) (x : Note) (long : length ns ≡ 16) where
   count-in h = length-each noteOf (take k ns) ∙ length-take-le k ns (omega arith)
 
   pub room : k < 16 → startedIn (set ns k x) (k + 1) m ≡ joinedBy sixteen (startedIn ns k m) (noteOf x)
-  unfolding joinedBy
   room h =
       let c = count-in (omega arith) in
       let q : notesIn (set ns k x) (k + 1) ≡ notesIn ns k ++ (noteOf x ∷ []) =
       rw (add-one, take-suc-set ns k x (omega arith)) (each-append noteOf (take k ns) (x ∷ []) ∙ ap (λ (l : List (cycle.Note Held)). notesIn ns k ++ l) (each-one noteOf x)) in
       ap (λ (l : List (cycle.Note Held)). record { notes = l; missed = m }) q
-      ∙ sym (cond-true _ _ (lt-ltb (length (notesIn ns k)) sixteen (omega (arith, c))))
+      ∙ sym (join-room sixteen (startedIn ns k m) (noteOf x) (omega (arith, c)))
 
-  pub full : 16 ≤ k → k ≤ 16 → startedIn ns k (m + 1) ≡ joinedBy sixteen (startedIn ns k m) (noteOf x)
-  unfolding joinedBy
-  full h g =
-      let c = count-in g in
-      sym (cond-false _ _ (le-ltb (length (notesIn ns k)) sixteen (omega (arith, c))))
+  pub full : 16 ≤ k → k ≤ 16 → (x .priority && canCut (notesIn ns k)) ≡ false → startedIn ns k (m + 1) ≡ joinedBy sixteen (startedIn ns k m) (noteOf x)
+  full h g e = let c = count-in g in sym (join-miss sixteen (startedIn ns k m) (noteOf x) (omega (arith, c)) e)
+
+  pub cut : 16 ≤ k → k ≤ 16 → x .priority ≡ true → canCut (notesIn ns k) ≡ true
+      → record { notes = cutOldest (notesIn ns k) ++ (noteOf x ∷ []); missed = m + 1 } ≡ joinedBy sixteen (startedIn ns k m) (noteOf x)
+  cut h g p e = let c = count-in g in sym (join-cut sixteen (startedIn ns k m) (noteOf x) (omega (arith, c)) p e)
 
 -- ---- notes laid over an array
 
@@ -191,10 +191,11 @@ module _ (s : cycle.Started Held) (v r : Started) (n : Note) (long : length (v .
       }
 
   pub start-full : 16 ≤ v .count → v .count ≤ 16 → (r .notes ≡ v .notes) × (r .count ≡ v .count) × (r .missed ≡ v .missed + 1)
-      → joinedBy sixteen (startedIn (v .notes) (v .count) (v .missed)) (noteOf n) ≡ s → StartedBy s v r
-  start-full h g e q =
+      → joinedBy sixteen (startedIn (v .notes) (v .count) (v .missed)) (noteOf n) ≡ s
+      → (n .priority && canCut (notesIn (v .notes) (v .count))) ≡ false → StartedBy s v r
+  start-full h g e q f =
       record {
-        are = (λ i. startedIn (e .0 i) (e .1 i) (e .2 i)) ∙ full (v .notes) (v .count) (v .missed) n long h g ∙ q;
+        are = (λ i. startedIn (e .0 i) (e .1 i) (e .2 i)) ∙ full (v .notes) (v .count) (v .missed) n long h g f ∙ q;
         room = omega (arith, e .1);
         more = omega (arith, e .1);
         few = omega (arith, e .2);

@@ -1,7 +1,7 @@
 -- The panel's notes as the notes of a cycle, and what the code does with them.
 use mathlib.Core.Bool.{Bool, true, false, cond, _&&_}
 use mathlib.Core.List.{List, [], _∷_}
-use Prim.Native.Nat.{ℕ, _+_}
+use Prim.Native.Nat.{ℕ, zero, suc, _+_}
 use lib.ListN.{length, take}
 use lib.Dec.{eqb}
 use lib.Ieee.{Float, eq}
@@ -32,6 +32,7 @@ noteOf n =
       label = n .label;
       endless = n .endless;
       end = n .end;
+      priority = n .priority;
       keyed = n .keyed;
       channel = n .channel;
       key = n .key;
@@ -48,6 +49,7 @@ structOf n =
       instrument = n .state .instrument;
       endless = n .endless;
       end = n .end;
+      priority = n .priority;
       keyed = n .keyed;
       channel = n .channel;
       key = n .key;
@@ -65,6 +67,17 @@ startedIn ns n missed = record { notes = notesIn ns n; missed = missed }
 unfoldable pub startedOver : cycle.Started Held → List Note → Started
 startedOver s old = record { notes = over (each structOf (s .notes)) old; count = length (s .notes); missed = s .missed }
 
+-- the place of the oldest note without priority; with none, how many notes there are
+unfoldable pub oldestWithout : List Note → ℕ
+oldestWithout [] = 0
+oldestWithout (n ∷ ns) = cond (n .priority) (suc (oldestWithout ns)) 0
+
+-- a list without the element at a place
+unfoldable pub leftOut : {A : Type 0} → ℕ → List A → List A
+leftOut place [] = []
+leftOut zero (x ∷ xs) = xs
+leftOut (suc place) (x ∷ xs) = x ∷ leftOut place xs
+
 abbrev pub bandIn : List Note → ℕ → List Float → cycle.Band Held
 bandIn ns n mix = record { notes = notesIn ns n; mix = mix }
 
@@ -74,13 +87,13 @@ bandIn ns n mix = record { notes = notesIn ns n; mix = mix }
 unfoldable pub bornNote : List ℕ → List Float → Instrument → Line → ℕ → Label → ℕ → Float → Note
 bornNote code vals x l position label name duration =
     newNote (once vals (stretch (x .istart) (x .iend) code) (freshOf (take (x .fields) (take (l .count) (l .values))))) (isLabelled label) (labelNumber label) name
-    (eq duration withoutEnd) (position + ticksIn duration) false 0 0 false
+    (eq duration withoutEnd) (position + ticksIn duration) (l .priority) false 0 0 false
 
 -- the note that a note-on starts
 unfoldable pub pressedNote : List ℕ → List Float → Instrument → ℕ → Message → Note
 pressedNote code vals x name m =
     newNote (once vals (stretch (x .istart) (x .iend) code) (freshOf (take (x .fields) (frequencyOf (m .key) ∷ loudnessOf (m .velocity) ∷ [])))) false 0 name
-    true 0 true (m .channel) (m .key) false
+    true 0 false true (m .channel) (m .key) false
 
 unfoldable pub controlledNote : Instrument → Note → ℕ → ℕ → Float → Note
 controlledNote x n label variable value =

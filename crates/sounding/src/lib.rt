@@ -18,8 +18,9 @@ ghost use Rattle.players.specs.Holds.{sixteen};
 ghost use Rattle.synth.specs.Passes.{stretch, freshOf, once};
 ghost use Rattle.synth.specs.Notes.{withValues};
 ghost use Rattle.synth.specs.Room.{numbersIn};
+ghost use Rattle.kept_orchestra.specs.Kept.{instrumentIn};
 ghost use Rattle.kept_voices.specs.Voices.{voices, named};
-ghost use Rattle.sounding.specs.Notes.{noteOf, structOf, notesIn, startedIn, startedOver, bornNote, pressedNote, isHeldIn, controlledNote, controlledIn, controlsIn, controlledAll, ranNote, ranMix, goesOnIn};
+ghost use Rattle.sounding.specs.Notes.{noteOf, structOf, notesIn, startedIn, startedOver, oldestWithout, leftOut, bornNote, pressedNote, isHeldIn, controlledNote, controlledIn, controlsIn, controlledAll, ranNote, ranMix, goesOnIn};
 ghost use Rattle.sounding.specs.Started.{StartedBy};
 
 // The notes that sound, from the first on, and how many were missed.
@@ -114,9 +115,10 @@ fn begun<'a>(code: &'a [u64], vals: &'a [f32], x: Instrument, note: Note) -> Not
 
 // The note that an instr line starts at a position; its i pass has run.
 fn note_of<'a>(
+    table: [Instrument; 8],
+    n: usize,
     code: &'a [u64],
     vals: &'a [f32],
-    x: Instrument,
     l: Line,
     position: u64,
     label: Label,
@@ -124,8 +126,10 @@ fn note_of<'a>(
     duration: f32,
 ) -> Note
     requires { ⌜ position ≤ positionLimit ⌝ }
-    ensures { λ r. ⌜ r ≡ bornNote (now (code .entry)) (now (vals .entry)) x l position label instrument duration ⌝ }
+    ensures { λ r. ⌜ r ≡ bornNote (now (code .entry)) (now (vals .entry)) (instrumentIn (take n table) instrument) l position label instrument duration ⌝ }
 {
+    let f = kept_orchestra::find(table, n, instrument);
+    let x = f.instrument;
     let given = l.values;
     let values = fresh_values(given, l.count, x.fields);
     let ticks = timebase::beats_to_ticks(duration);
@@ -136,6 +140,7 @@ fn note_of<'a>(
         instrument,
         duration == -1.0,
         position + ticks,
+        l.priority,
         false,
         0,
         0,
@@ -165,6 +170,7 @@ fn pressed_note<'a>(
         instrument,
         true,
         0,
+        false,
         true,
         m.channel,
         m.key,
@@ -201,7 +207,47 @@ fn with_miss(v: Started) -> Started
     }
 }
 
-// What a due line starts: an instr line a note, where fewer than the most notes sound.
+// The place of the oldest note without priority; with none, how many notes there are.
+fn oldest_without(v: Started) -> usize
+    requires { ⌜ v .count ≤ 16 ⌝ }
+    ensures { λ r. ⌜ r ≡ oldestWithout (take (v .count) (v .notes)) ⌝ }
+{
+    let notes = v.notes;
+    let m = v.count;
+    let mut i: usize = 0;
+    while i < m {
+        let x = notes[i];
+        if !x.priority {
+            return i;
+        }
+        i += 1;
+    }
+    m
+}
+
+// The note at a place cut off: the later ones move down, what lies behind them stays, and one more is missed.
+fn cut_off(v: Started, place: usize) -> Started
+    requires { ⌜ (place < v .count) × (v .count ≤ 16) × (v .missed < 128) ⌝ }
+    ensures { λ r. ⌜ (r .notes ≡ over (leftOut place (take (v .count) (v .notes))) (v .notes)) × (r .count + 1 ≡ v .count) × (r .missed ≡ v .missed + 1) ⌝ }
+{
+    let notes = v.notes;
+    let m = v.count - 1;
+    let mut a = notes;
+    let mut i = place;
+    while i < m {
+        let x = notes[i + 1];
+        a[i] = x;
+        i += 1;
+    }
+    with_miss(Started {
+        notes: a,
+        count: m,
+        missed: v.missed,
+    })
+}
+
+// What a due line starts: an instr line a note, where fewer than the most notes sound, or where it has priority and a note has none, which
+// is cut off. A birth is worked only where the note starts.
 fn start_line<'a>(
     table: [Instrument; 8],
     n: usize,
@@ -222,12 +268,38 @@ fn start_line<'a>(
             duration,
         } => {
             if v.count < MOST_NOTES {
-                let f = kept_orchestra::find(table, n, instrument);
-                let x = f.instrument;
-                let note = note_of(code, vals, x, l, position, label, instrument, duration);
+                let note = note_of(
+                    table,
+                    n,
+                    code,
+                    vals,
+                    l,
+                    position,
+                    label,
+                    instrument,
+                    duration,
+                );
                 return with_note(v, note);
             }
-            with_miss(v)
+            if !l.priority {
+                return with_miss(v);
+            }
+            let place = oldest_without(v);
+            if v.count <= place {
+                return with_miss(v);
+            }
+            let note = note_of(
+                table,
+                n,
+                code,
+                vals,
+                l,
+                position,
+                label,
+                instrument,
+                duration,
+            );
+            with_note(cut_off(v, place), note)
         }
         Event::Control {
             label: _,

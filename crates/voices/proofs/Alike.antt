@@ -16,7 +16,7 @@ use Rattle.lowered.specs.Statements.{AllFit}
 use Rattle.keys.specs.Keys.{frequencyOf, loudnessOf}
 use Rattle.messages.specs.declared.Message.{Message}
 use Rattle.players.specs.Lists.{keep, fold, each, All}
-use Rattle.players.specs.Cycle.{Voices, Ran, Note, Started, Band, samples, isLabelled, labelNumber, withState, letGo, isHeld, letGoOldest, joinedBy, born, startedBy, started, controlledBy, controlEvent, controlled, pressed, afterMessage, afterMessages, runFrom, runAll, lastTempo, limited, goesOn}
+use Rattle.players.specs.Cycle.{Voices, Ran, Note, Started, Band, samples, isLabelled, labelNumber, withState, letGo, isHeld, letGoOldest, canCut, cutOldest, joinedBy, born, startedBy, started, controlledBy, controlEvent, controlled, pressed, afterMessage, afterMessages, runFrom, runAll, lastTempo, limited, goesOn}
 use Rattle.players.specs.Holds.{Settings, Due, Plays, Holds, laterThan, dueOf, endsBy, marked, answerOf, startedOf, soundsOf, bandOf, blockOf, played, cycled}
 use Rattle.players.specs.Plain.{plainStart, plainAt, answerAt, blockAt}
 use Rattle.players.proofs.Lists.{all-keep, all-append}
@@ -43,15 +43,26 @@ module _ {S : Type 0} (Good : S → Type 0) where
   zeros-fit zero = tt
   zeros-fit (suc n) = (ofBits-fits binary32 0, zeros-fit n)
 
-  -- one note more, where there is room
+  cut-good : (ns : List (Note S)) → Notes ns → Notes (cutOldest ns)
+  unfolding cutOldest
+  cut-good [] h = tt
+  cut-good (n ∷ ns) h = go (n .priority) (cut-good ns (h .1))
+    where
+      go : (b : Bool) → Notes (cutOldest ns) → Notes (cond b (n ∷ cutOldest ns) ns)
+      go true r = (h .0, r)
+      go false r = h .1
+
+  -- one note more, where there is room or one can be cut off
   joined-good : (most : ℕ) (s : Started S) (n : Note S) → Notes (s .notes) → Good (n .state) → Notes (joinedBy most s n .notes)
   unfolding joinedBy
-  joined-good most s n h g = go (ltb (length (s .notes)) most)
+  joined-good most s n h g = go (ltb (length (s .notes)) most) (n .priority && canCut (s .notes))
     where
-      go : (b : Bool)
-          → Notes (cond {A = Started S} b (record { notes = s .notes ++ (n ∷ []); missed = s .missed }) (record { notes = s .notes; missed = s .missed + 1 }) .notes)
-      go true = all-append (λ (m : Note S). Good (m .state)) (s .notes) (n ∷ []) h (g, tt)
-      go false = h
+      go : (b c : Bool)
+          → Notes (cond {A = Started S} b (record { notes = s .notes ++ (n ∷ []); missed = s .missed })
+          (cond c (record { notes = cutOldest (s .notes) ++ (n ∷ []); missed = s .missed + 1 }) (record { notes = s .notes; missed = s .missed + 1 })) .notes)
+      go true c = all-append (λ (m : Note S). Good (m .state)) (s .notes) (n ∷ []) h (g, tt)
+      go false true = all-append (λ (m : Note S). Good (m .state)) (cutOldest (s .notes)) (n ∷ []) (cut-good (s .notes) h) (g, tt)
+      go false false = h
 
   module _ {v w : Voices S} (a : Alike v w) where
     -- ---- step 3
@@ -64,6 +75,7 @@ module _ {S : Type 0} (Good : S → Type 0) where
           label = labelNumber label;
           endless = eq d withoutEnd;
           end = pos + ticksIn d;
+          priority = l .priority;
           keyed = false;
           channel = 0;
           key = 0;
@@ -167,6 +179,7 @@ module _ {S : Type 0} (Good : S → Type 0) where
           label = 0;
           endless = true;
           end = 0;
+          priority = false;
           keyed = true;
           channel = m .channel;
           key = m .key;

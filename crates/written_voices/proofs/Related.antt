@@ -14,7 +14,7 @@ use Rattle.score_line.specs.declared.Line.{Line}
 use Rattle.keys.specs.Keys.{frequencyOf, loudnessOf}
 use Rattle.messages.specs.declared.Message.{Message}
 use Rattle.players.specs.Lists.{keep, fold, each, All}
-use Rattle.players.specs.Cycle.{Voices, Note, Started, samples, isDue, earlier, insert, ordered, withState, joinedBy, born, startedBy, started, controlledBy, controlEvent, controlled, runFrom, runAll, anyEnd, positionLimit, lastTempo, limited, goesOn, Band, letGo, isHeld, letGoOldest, pressed, afterMessage, afterMessages}
+use Rattle.players.specs.Cycle.{Voices, Note, Started, samples, isDue, earlier, insert, ordered, withState, canCut, cutOldest, joinedBy, born, startedBy, started, controlledBy, controlEvent, controlled, runFrom, runAll, anyEnd, positionLimit, lastTempo, limited, goesOn, Band, letGo, isHeld, letGoOldest, pressed, afterMessage, afterMessages}
 use Rattle.players.specs.Holds.{Settings, Holds, behind, dueAt, laterThan, dueOf, endsBy, marked, answerOf, startedOf, bandOf, blockOf, played, cycled, Due, withMessages, soundsOf}
 use Rattle.players.specs.Plain.{plainStart, plainAt, answerAt, blockAt}
 use Rattle.players.specs.Calls.{numbered, Moment, takenIn, messagesTaken, allTaken}
@@ -56,6 +56,7 @@ module _ {S S′ : Type 0} (R : S → S′ → Type 0) (Ok : Line → Event → 
     pub label : m .label ≡ n .label
     pub endless : m .endless ≡ n .endless
     pub end : m .end ≡ n .end
+    pub priority : m .priority ≡ n .priority
     pub keyed : m .keyed ≡ n .keyed
     pub channel : m .channel ≡ n .channel
     pub key : m .key ≡ n .key
@@ -84,15 +85,54 @@ module _ {S S′ : Type 0} (R : S → S′ → Type 0) (Ok : Line → Event → 
     notes : Notes (s .notes) (t .notes)
     missed : s .missed ≡ t .missed
 
+  -- the same note is cut off
+  can-cut : (xs : List (Note S)) (ys : List (Note S′)) → Notes xs ys → canCut xs ≡ canCut ys
+  unfolding canCut
+  can-cut [] [] h = refl
+  can-cut [] (y ∷ ys) h = absurd h
+  can-cut (x ∷ xs) [] h = absurd h
+  can-cut (x ∷ xs) (y ∷ ys) h = λ i. cond (h .0 .priority i) (can-cut xs ys (h .1) i) true
+
+  cut-alike : (xs : List (Note S)) (ys : List (Note S′)) → Notes xs ys → Notes (cutOldest xs) (cutOldest ys)
+  unfolding cutOldest
+  cut-alike [] [] h = tt
+  cut-alike [] (y ∷ ys) h = absurd h
+  cut-alike (x ∷ xs) [] h = absurd h
+  cut-alike (x ∷ xs) (y ∷ ys) h =
+      subst (λ (c : Bool). Notes (cond (x .priority) (x ∷ cutOldest xs) xs) (cond c (y ∷ cutOldest ys) ys)) (h .0 .priority)
+      (go (x .priority) (cut-alike xs ys (h .1)))
+    where
+      go : (b : Bool) → Notes (cutOldest xs) (cutOldest ys) → Notes (cond b (x ∷ cutOldest xs) xs) (cond b (y ∷ cutOldest ys) ys)
+      go true r = (h .0, r)
+      go false r = h .1
+
   joined : (most : ℕ) (s : Started S) (t : Started S′) (x : Note S) (y : Note S′) → Begun s t → Same x y → Begun (joinedBy most s x) (joinedBy most t y)
   unfolding joinedBy
-  joined most s t x y h g = rw (long (s .notes) (t .notes) (h .notes)) (go (ltb (length (t .notes)) most))
+  joined most s t x y h g =
+      subst (Goal room cuts (ltb (length (t .notes)) most)) (λ i. g .priority i && can-cut (s .notes) (t .notes) (h .notes) i)
+      (subst (λ (b : Bool). Goal room cuts b cuts) (ap (λ (n : ℕ). ltb n most) (long (s .notes) (t .notes) (h .notes))) (go room cuts))
     where
-      go : (b : Bool)
-          → Begun (cond {A = Started S} b (record { notes = s .notes ++ (x ∷ []); missed = s .missed }) (record { notes = s .notes; missed = s .missed + 1 }))
-          (cond {A = Started S′} b (record { notes = t .notes ++ (y ∷ []); missed = t .missed }) (record { notes = t .notes; missed = t .missed + 1 }))
-      go true = record { notes = one-more (s .notes) (t .notes) x y (h .notes) g; missed = h .missed }
-      go false = record { notes = h .notes; missed = ap (λ m. m + 1) (h .missed) }
+      room : Bool
+      room = ltb (length (s .notes)) most
+
+      cuts : Bool
+      cuts = x .priority && canCut (s .notes)
+
+      Goal : (b c d e : Bool) → Type 0
+      Goal b c d e =
+          Begun (cond {A = Started S} b (record { notes = s .notes ++ (x ∷ []); missed = s .missed })
+          (cond c (record { notes = cutOldest (s .notes) ++ (x ∷ []); missed = s .missed + 1 }) (record { notes = s .notes; missed = s .missed + 1 })))
+          (cond {A = Started S′} d (record { notes = t .notes ++ (y ∷ []); missed = t .missed })
+          (cond e (record { notes = cutOldest (t .notes) ++ (y ∷ []); missed = t .missed + 1 }) (record { notes = t .notes; missed = t .missed + 1 })))
+
+      go : (b c : Bool) → Goal b c b c
+      go true c = record { notes = one-more (s .notes) (t .notes) x y (h .notes) g; missed = h .missed }
+      go false true =
+          record {
+            notes = one-more (cutOldest (s .notes)) (cutOldest (t .notes)) x y (cut-alike (s .notes) (t .notes) (h .notes)) g;
+            missed = ap (λ m. m + 1) (h .missed);
+          }
+      go false false = record { notes = h .notes; missed = ap (λ m. m + 1) (h .missed) }
 
   kept : (pos : ℕ) (xs : List (Note S)) (ys : List (Note S′)) → Notes xs ys → Notes (keep (goesOn pos) xs) (keep (goesOn pos) ys)
   unfolding keep goesOn
@@ -126,7 +166,7 @@ module _ {S S′ : Type 0} (R : S → S′ → Type 0) (Ok : Line → Event → 
           → Notes (cond b (letGo x ∷ xs) (x ∷ letGoOldest channel key xs)) (cond b (letGo y ∷ ys) (y ∷ letGoOldest channel key ys))
       go true r =
           let g = h .0 in (
-            record { labelled = g .labelled; label = g .label; endless = g .endless; end = g .end; keyed = g .keyed; channel = g .channel; key = g .key; released = refl; state = g .state },
+            record { labelled = g .labelled; label = g .label; endless = g .endless; end = g .end; priority = g .priority; keyed = g .keyed; channel = g .channel; key = g .key; released = refl; state = g .state },
             h .1,
           )
       go false r = (h .0, r)
@@ -138,7 +178,7 @@ module _ {S S′ : Type 0} (R : S → S′ → Type 0) (Ok : Line → Event → 
     unfolding born
     begins most pos l s t (Instr label name d) o h =
         joined most s t (born v pos l label name d) (born w pos l label name d) h
-        (record { labelled = refl; label = refl; endless = refl; end = refl; keyed = refl; channel = refl; key = refl; released = refl; state = a .birth name (take (l .count) (l .values)) })
+        (record { labelled = refl; label = refl; endless = refl; end = refl; priority = refl; keyed = refl; channel = refl; key = refl; released = refl; state = a .birth name (take (l .count) (l .values)) })
     begins most pos l s t (Control label x y) o h = h
     begins most pos l s t End o h = h
     begins most pos l s t (Tempo d) o h = h
@@ -161,7 +201,7 @@ module _ {S S′ : Type 0} (R : S → S′ → Type 0) (Ok : Line → Event → 
       where
         go : (b : Bool) → Same (cond b (withState m (v .control x y (m .state))) m) (cond b (withState n (w .control x y (n .state))) n)
         go true =
-            record { labelled = h .labelled; label = h .label; endless = h .endless; end = h .end; keyed = h .keyed; channel = h .channel; key = h .key; released = h .released; state = a .control l label x y (m .state) (n .state) o (h .state) }
+            record { labelled = h .labelled; label = h .label; endless = h .endless; end = h .end; priority = h .priority; keyed = h .keyed; channel = h .channel; key = h .key; released = h .released; state = a .control l label x y (m .state) (n .state) o (h .state) }
         go false = h
 
     all-one : (l : Line) (label x : ℕ) (y : Float) (ms : List (Note S)) (ns : List (Note S′)) → Ok l (Control label x y) → Notes ms ns
@@ -194,7 +234,7 @@ module _ {S S′ : Type 0} (R : S → S′ → Type 0) (Ok : Line → Event → 
             (cond b (joinedBy most t (pressed w chosen m)) (record { notes = letGoOldest (m .channel) (m .key) (t .notes); missed = t .missed }))
         go true =
             joined most s t (pressed v chosen m) (pressed w chosen m) h
-            (record { labelled = refl; label = refl; endless = refl; end = refl; keyed = refl; channel = refl; key = refl; released = refl; state = a .birth chosen (frequencyOf (m .key) ∷ loudnessOf (m .velocity) ∷ []) })
+            (record { labelled = refl; label = refl; endless = refl; end = refl; priority = refl; keyed = refl; channel = refl; key = refl; released = refl; state = a .birth chosen (frequencyOf (m .key) ∷ loudnessOf (m .velocity) ∷ []) })
         go false = record { notes = marked-alike (m .channel) (m .key) (s .notes) (t .notes) (h .notes); missed = h .missed }
 
     messages-alike : (most chosen : ℕ) (ms : List Message) (s : Started S) (t : Started S′) → Begun s t
@@ -217,7 +257,7 @@ module _ {S S′ : Type 0} (R : S → S′ → Type 0) (Ok : Line → Event → 
         let r = runs ms ns (w .run (n .state) mix .mix) (h .1) in
         let e = a .mix (m .state) (n .state) mix (g .state) in (
           (
-            record { labelled = g .labelled; label = g .label; endless = g .endless; end = g .end; keyed = g .keyed; channel = g .channel; key = g .key; released = g .released; state = a .run (m .state) (n .state) mix (g .state) },
+            record { labelled = g .labelled; label = g .label; endless = g .endless; end = g .end; priority = g .priority; keyed = g .keyed; channel = g .channel; key = g .key; released = g .released; state = a .run (m .state) (n .state) mix (g .state) },
             subst (λ (z : List Float). Notes (runFrom v ms z .notes) (runFrom w ns (w .run (n .state) mix .mix) .notes)) (sym e) (r .0),
           ),
           ap (λ (z : List Float). runFrom v ms z .mix) e ∙ r .1,

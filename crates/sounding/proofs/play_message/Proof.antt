@@ -5,6 +5,7 @@ use Rattle.players.specs.Cycle as cycle
 use Rattle.kept_voices.specs.Voices.{Held}
 use Rattle.sounding.specs.Started.{StartedBy}
 use Rattle.sounding.proofs.Steps.{start-room, start-full}
+use Rattle.sounding.proofs.OneNote.{pressed-yields}
 use Rattle.sounding.proofs.Band.{press-starts, off-marks}
 use Rattle.sounding.proofs.play_message.Statement.{statement}
 use Rattle.sounding.proofs.play_message.Tie as tie
@@ -21,7 +22,7 @@ play-message-spec =
     (λ c. let t = c .before in
     let s = t .before .before .before .before .before in
     start-full _ (s .args .v) _ _ (simp length-map at (s .good .1 .1 .1 .1 .0 .1 .1 .0 .1 .0 .1)) (t .if2 .left) (s .pre .0) (c .with-miss .ensures)
-    (press-starts _ _ _ _ _ _ (t .before .before .if1 .taken) _ refl _ refl))
+    (press-starts _ _ _ _ _ _ (t .before .before .if1 .taken) _ refl _ refl) (pressed-yields _ _ _ _ _ _))
     (λ c κs. search needs)
     (λ c. let s = c .before .before .before .before in
     subst (λ (x : cycle.Started Held). StartedBy x (s .args .v) (c .let-go-oldest .result)) (off-marks _ _ _ _ _ _ (c .before .if1 .left)) (c .let-go-oldest .ensures)))
