@@ -165,7 +165,7 @@ name-here name r h =
 
 -- ---- so many names
 
-abbrev Many : ℕ → Names → Type 0
+abbrev pub Many : ℕ → Names → Type 0
 Many k names = (length names ≡ k) × LawfulNames names
 
 -- names that are none
@@ -183,7 +183,7 @@ with-names k l name r h e m (begun names b d (n, g) f) =
     begun (name ∷ names) b d (ap suc n, (h, g))
     (ap (λ (x : List Bool). x ++ (b ∷ d)) e ∙ append-assoc (nameBits name) r (b ∷ d) ∙ ap (λ (x : List Bool). nameBits name ++ x) f)
 
-names-met : (k : ℕ) (l : List Bool) → Met namesBits (Many k) l (namesFrom k l)
+pub names-met : (k : ℕ) (l : List Bool) → Met namesBits (Many k) l (namesFrom k l)
 unfolding namesFrom namesBits LawfulNames
 names-met zero l = whole [] l (refl, tt) refl
 names-met (suc k) l = go (λ r. names-met k r) (nameFrom l) (name-met l)
