@@ -3,7 +3,8 @@
 # (the best of three), which a loaded machine changes little.
 #   bench/run.sh             after 'rt check bench play': the panel's bench (16 notes, 1,000 cycles), a tone of 10 operators by
 #                            the play program, and the same tone as bench's through Debian's sfront (SAOL to C, gcc -O2)
-#   bench/run.sh scores      after 'rt check bench_scores': the same score read as bits and as text, in bytes a second
+#   bench/run.sh scores      after 'rt check bench_scores': the same score read as bits and as text, in bytes a second, and the longest symbol
+#                            table unpacked and asked for its last name, in milliseconds
 #   bench/run.sh pieces [PLAY]   each piece of pieces.py by the play program (or by another, to compare) and by sfront; what a
 #                            panel, or sfront's program, does without notes is taken off the instructions, not off the times
 # Needs python3, valgrind, sfront and gcc.
@@ -83,6 +84,8 @@ scores() {
         awk -v n="$kind" -v bytes="$(wc -c <"$work/score.$kind")" -v us="$(best sh -c "'$here/../target/bin/bench_scores' $word <'$work/score.$kind'")" 'BEGIN {
             printf "%-8s %9d bytes, %7.1f MB a second\n", n, bytes, 30 * bytes / us }'
     done
+    awk -v bytes="$(wc -c <"$work/score.names")" -v us="$(best sh -c "'$here/../target/bin/bench_scores' a name <'$work/score.names'")" 'BEGIN {
+        printf "%-8s %9d bytes, %7.2f ms to unpack 65,535 names and ask for the last\n", "names", bytes, us / 30000 }'
 }
 
 if [ "${1:-}" = pieces ]; then

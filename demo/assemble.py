@@ -1,8 +1,10 @@
 #!/usr/bin/env python3
 """Turns a written orchestra, and a score that uses its names, into the panel's byte files.
 
-    assemble.py ORCHESTRA              writes ORCHESTRA.bin beside it and tells the symbol of each name
-    assemble.py ORCHESTRA SCORE        writes ORCHESTRA.bin and SCORE.bin
+    assemble.py ORCHESTRA              writes ORCHESTRA.bin and ORCHESTRA.names beside it and tells the symbol of each name
+    assemble.py ORCHESTRA SCORE        writes ORCHESTRA.bin, ORCHESTRA.names and SCORE.bin
+
+ORCHESTRA.names is the symbol table, which tells the names to a display.
 
 The orchestra is SAOL text within document 01's grammar. A word that is no keyword is a name; names get symbols
 from 0 in the order in which they first appear. A number with a point or an exponent becomes a 32-bit float, one
@@ -38,6 +40,8 @@ NAME = re.compile(r"[A-Za-z_]\w*$")
 LARGEST = Fraction((2 << 127) - (1 << 104))
 
 # Document 01's sizes.
+# A symbol table's count has 16 bits, and a name's length 4.
+MOST_LISTED, LONGEST_NAME = 65535, 15
 MOST_BYTES, MOST_TOKENS, MOST_BRACKETS, MOST_BETWEEN = 16384, 2048, 24, 128
 MOST_INSTRUMENTS, MOST_NAMES, MOST_VALUES, MOST_WAITING = 8, 16, 8, 64
 
@@ -551,6 +555,24 @@ def score_of(path, instruments, symbols, report):
     return score.bits.bytes(), len(lines)
 
 
+# ---- the symbol table
+
+def table_of(symbols, report):
+    """A 16-bit count, then for each symbol from 0 a 4-bit length and that many bytes; a name that is too long has length 0."""
+    bits = Bits()
+    names = list(symbols.of)[:MOST_LISTED]
+    bits.put(16, len(names))
+    for name in names:
+        letters = name.encode()
+        if len(letters) > LONGEST_NAME:
+            report.warn(name, f"longer than {LONGEST_NAME} letters, so the symbol table has no name for it")
+            letters = b""
+        bits.put(4, len(letters))
+        for letter in letters:
+            bits.put(8, letter)
+    return bits.bytes()
+
+
 # ---- the files
 
 def write_all(files):
@@ -578,10 +600,10 @@ def assembled(orchestra, score, report):
     tokens, instruments = orchestra_of(orchestra, symbols, report)
     made = f"{orchestra}.bin: {len(tokens)} bytes"
     if score is None:
-        write_all([(orchestra + ".bin", tokens)])
+        write_all([(orchestra + ".bin", tokens), (orchestra + ".names", table_of(symbols, report))])
         return made + "".join(f"\ns{symbol} {name}" for name, symbol in symbols.of.items())
     lines, count = score_of(score, instruments, symbols, report)
-    write_all([(orchestra + ".bin", tokens), (score + ".bin", lines)])
+    write_all([(orchestra + ".bin", tokens), (orchestra + ".names", table_of(symbols, report)), (score + ".bin", lines)])
     return made + f"; {score}.bin: {len(lines)} bytes, {count} lines"
 
 

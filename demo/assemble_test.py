@@ -52,6 +52,8 @@ CASES = [
     (RIGHT, "0 a control swell 1\n" + END,
      "t.sco:1:13: warning: no instrument imports `swell`; the line will change nothing"),
     (RIGHT, "0 lead\n" + END, "t.sco:1: not a line of the four kinds"),
+    (RIGHT.replace("grow", "growing_by_steps"), END,
+     "growing_by_steps: warning: longer than 15 letters, so the symbol table has no name for it"),
     (RIGHT, END, ""),
 ]
 
@@ -66,7 +68,7 @@ def said(folder, orchestra, score):
     try:
         with contextlib.redirect_stderr(io.StringIO()) as words, contextlib.redirect_stdout(io.StringIO()):
             status = assemble.main(["t.orc", "t.sco"])
-        made = os.path.exists("t.orc.bin") or os.path.exists("t.sco.bin")
+        made = any(os.path.exists(name) for name in ("t.orc.bin", "t.orc.names", "t.sco.bin"))
     finally:
         os.chdir(there)
     return words.getvalue().strip(), status, made
@@ -92,10 +94,12 @@ def demo_differs():
             assemble.main([orchestra])
         with open(orchestra + ".bin", "rb") as file:
             made = file.read()
+        with open(orchestra + ".names", "rb") as file:
+            names = file.read()
     played = os.path.join(HERE, "..", "crates", "play", "data")
     with open(os.path.join(HERE, "tune.sasl"), "rb") as file:
         score = file.read()
-    for kept, expected in ((os.path.join(HERE, "tune.orc.bin"), made), (os.path.join(played, "tune.orc.bin"), made),
+    for kept, expected in ((os.path.join(HERE, "tune.orc.bin"), made), (os.path.join(HERE, "tune.orc.names"), names), (os.path.join(played, "tune.orc.bin"), made),
                            (os.path.join(played, "tune.sasl"), score)):
         with open(kept, "rb") as file:
             if file.read() != expected:

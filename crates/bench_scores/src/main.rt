@@ -1,4 +1,7 @@
-// The score on standard input, read over and over: as text where an argument is given, else as bits. bench/run.sh times it.
+// The score on standard input, read over and over: as text where an argument is given, else as bits. With two arguments it is a
+// symbol table, which is unpacked and asked for its last name. bench/run.sh times it.
+mod naming;
+
 const ROOM: usize = 1048576;
 
 const TIMES: u32 = 30;
@@ -29,9 +32,28 @@ fn repeated(bytes: &[u8], text: bool) -> u8 {
     number
 }
 
+// The length of the last name.
+fn repeated_names(bytes: &[u8]) -> u8 {
+    let mut buffer = room();
+    let mut number: u8 = 0;
+    let mut left = TIMES;
+    while left > 0 {
+        number = naming::unpacked(bytes, &mut buffer);
+        left -= 1;
+    }
+    number
+}
+
+fn last_answer(bytes: &[u8], text: bool) -> u8 {
+    if 2 < os::arg_count() {
+        return repeated_names(bytes);
+    }
+    repeated(bytes, text)
+}
+
 fn told(bytes: &[u8], n: usize, text: bool) {
     if n <= bytes.len() {
-        let number = repeated(&bytes[..n], text);
+        let number = last_answer(&bytes[..n], text);
         io::print_decimal(1, n as u64);
         io::write_all(1, b" bytes, 30 times, answer ");
         io::print_decimal(1, number as u64);

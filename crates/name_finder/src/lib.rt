@@ -35,16 +35,17 @@ fn place_in(list: &[u8], symbol: u16) -> Place
         if list.len() - start < length {
             return Place { from: 0, to: 0 };
         }
-        at = start + length;
+        let next = start + length;
         name = noted(
             i,
             wanted,
             Place {
                 from: start,
-                to: at,
+                to: next,
             },
             name,
         );
+        at = next;
         i += 1;
     }
     name

@@ -1,5 +1,6 @@
 // Plays an orchestra and a score into a WAV file, or as a WAV to standard output.
 mod files;
+mod instrument;
 mod names;
 mod tape;
 mod words;
@@ -9,6 +10,9 @@ use panel::Brought;
 use panel::Panel;
 
 const DEFAULT_CEILING: u32 = 32767;
+
+// Refusal 4.
+const NO_INSTRUMENT: u8 = 4;
 
 // The score into a panel: typed as text where its name says so.
 fn brought(panel: Panel, path: &[u8], score: &[u8]) -> Brought {
@@ -26,6 +30,13 @@ fn refused(path: &[u8], length: usize, line: usize, a: Answer) {
     words::refused_score(path, length, line, a);
 }
 
+// Where a line names no instrument, which one it is for.
+fn explained(path: &[u8], score: &[u8], line: usize, a: Answer) {
+    if answer::number(a) == NO_INSTRUMENT {
+        instrument::told(path, score, line);
+    }
+}
+
 // The score into a panel, and then the piece.
 fn performed(panel: Panel, path: &[u8], score: &[u8], out: &[u8]) {
     let r = brought(panel, path, score);
@@ -36,6 +47,7 @@ fn performed(panel: Panel, path: &[u8], score: &[u8], out: &[u8]) {
         return;
     }
     refused(path, score.len(), r.line, a);
+    explained(path, score, r.line, a);
 }
 
 // The first n bytes of a buffer are the score, if it did not fill the buffer.
@@ -78,7 +90,7 @@ fn played(ceiling: u32, orchestra: &[u8], score: &[u8], out: &[u8]) {
     }
 }
 
-// The ceiling that is named last; 0, which is refused, where it is no number.
+// The ceiling that is named behind OUT; 0, which is refused, where it is no number.
 fn ceiling() -> u32 {
     if os::arg_count() < 5 {
         return DEFAULT_CEILING;
@@ -112,7 +124,7 @@ fn main() {
         words::usage();
         return;
     }
-    if 5 < given {
+    if 6 < given {
         words::usage();
         return;
     }

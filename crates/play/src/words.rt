@@ -9,7 +9,7 @@ fn say(text: &[u8]) {
 }
 
 pub fn usage() {
-    say(b"play: usage: play ORCHESTRA SCORE OUT [CEILING]\n");
+    say(b"play: usage: play ORCHESTRA SCORE OUT [CEILING [NAMES]]\n");
     say(b"  SCORE is text where its name ends in .sasl or .txt, and else the bytes of a score.\n");
     say(
         b"  Plays the score's lines through the orchestra into a WAV file: 32,000 Hz, 16 bits, one channel.\n",
@@ -18,6 +18,9 @@ pub fn usage() {
         b"  OUT is a new name or a WAV file that is replaced; - writes the WAV to standard output.\n",
     );
     say(b"  CEILING is the loudest sample, from 1 to 32,767; without it 32,767.\n");
+    say(
+        b"  NAMES is a symbol table; a line that names no instrument is then told with its name.\n",
+    );
     say(
         b"  A piece stops at its end line, or where nothing waits and nothing sounds, or after 10 minutes.\n",
     );
@@ -113,6 +116,26 @@ pub fn refused_text(path: &[u8], line: usize, a: Answer) {
     say(b" counted from 0): ");
     meaning(a);
     numbered(a);
+}
+
+// The instrument of the line that was told.
+pub fn symbol(symbol: u16) {
+    say(b"play: that line is for the instrument s");
+    io::print_decimal(2, symbol as u64);
+    say(b"\n");
+}
+
+pub fn name(name: &[u8]) {
+    if name.len() == 0 {
+        say(b"play: the symbol table has no name for it\n");
+        return;
+    }
+    about(b"its name is ", name);
+    say(b"\n");
+}
+
+pub fn refused_table(path: &[u8], a: Answer) {
+    refused(path, a);
 }
 
 // A score that fills its buffer; one that could not be read was told before.

@@ -228,6 +228,7 @@ fn alone(
 ) -> usize {
     match code {
         b'D' | b'd' | b'E' => decode(code, bytes, first, out, used),
+        b'N' => crate::naming::unpack(bytes, room, out, used),
         _ => write(code, bytes, count, room, out, used),
     }
 }
@@ -285,8 +286,18 @@ fn dispatch(s: Session, r: Record, bytes: &[u8], out: &mut [u8], used: usize) ->
     left(panel, s.present, next)
 }
 
+// A name: both lists stand in `data`, one behind the other.
+fn asked(s: Session, r: Record, data: &[u8], out: &mut [u8], used: usize) -> Done {
+    let panel = s.panel;
+    let next = crate::naming::ask(r.first, r.count as usize, r.room as usize, data, out, used);
+    left(panel, s.present, next)
+}
+
 // Its items are the first bytes of `data`.
 pub fn carry_out(s: Session, r: Record, data: &[u8], out: &mut [u8], used: usize) -> Done {
+    if r.code == b'n' {
+        return asked(s, r, data, out, used);
+    }
     let n = crate::record::size_of(r.code, r.count);
     if n <= data.len() {
         return dispatch(s, r, &data[..n], out, used);

@@ -2,6 +2,7 @@
 // A record is a code and its fields; each kind has a function, and the fields of all kinds are read in one way.
 mod burst;
 mod calls;
+mod naming;
 mod record;
 
 use calls::Session;
@@ -9,11 +10,16 @@ use ports::Port;
 use record::Fault;
 use record::Record;
 
-const ROOM: usize = 32768;
+// The output, and how much of it is used before it goes out: no record writes more than the rest.
+const OUT: usize = 131072;
 
-// The output goes out once it is half full: no record writes more than the other half.
+const USED: usize = 32768;
+
+// The items of the longest record: two lists of names.
+const DATA: usize = 2097152;
+
 fn relieved(p: Port, out: &[u8]) -> Port {
-    if p.used < ROOM {
+    if p.used < USED {
         return p;
     }
     ports::flushed(p, out)
@@ -44,7 +50,7 @@ struct Next {
     more: bool,
 }
 
-fn turn(s: Session, p: Port, input: &mut [u8], out: &mut [u8], data: &mut [u8; 1048576]) -> Next {
+fn turn(s: Session, p: Port, input: &mut [u8], out: &mut [u8], data: &mut [u8; DATA]) -> Next {
     let start = p.taken;
     let r = record::read(p, input, out, data);
     let q = r.port;
@@ -77,7 +83,7 @@ fn turn(s: Session, p: Port, input: &mut [u8], out: &mut [u8], data: &mut [u8; 1
 }
 
 // A proved loop has to end: it counts down from a number that no run uses up.
-fn run(input: &mut [u8], out: &mut [u8], data: &mut [u8; 1048576]) -> Port {
+fn run(input: &mut [u8], out: &mut [u8], data: &mut [u8; DATA]) -> Port {
     let mut s = calls::no_panel();
     let mut p = ports::opened();
     let mut left = u64::MAX;
@@ -93,14 +99,17 @@ fn run(input: &mut [u8], out: &mut [u8], data: &mut [u8; 1048576]) -> Port {
     p
 }
 
-// Room for the longest record's items.
-fn items_buffer() -> [u8; 1048576] {
-    [0; 1048576]
+fn items_buffer() -> [u8; DATA] {
+    [0; DATA]
+}
+
+fn out_buffer() -> [u8; OUT] {
+    [0; OUT]
 }
 
 fn main() {
     let mut input = io::large_buffer();
-    let mut out = io::large_buffer();
+    let mut out = out_buffer();
     let mut data = items_buffer();
     let p = run(&mut input, &mut out, &mut data);
     let q = ports::flushed(p, &out);

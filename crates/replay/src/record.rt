@@ -1,6 +1,9 @@
 // The fields of a record: a code, then, as its kind has them, a first number, a symbol, a count, that many items, and a room.
 use ports::Port;
 
+// The highest symbol.
+const MOST_SYMBOL: u32 = 65535;
+
 pub enum Fault {
     Whole,
     Unknown,
@@ -31,7 +34,7 @@ pub fn is_whole(f: Fault) -> bool {
 }
 
 // Why the input gave no more: it cannot be read, or it has ended.
-fn dry(p: Port) -> Fault {
+pub fn dry(p: Port) -> Fault {
     if p.failed {
         return Fault::Unread;
     }
@@ -42,6 +45,7 @@ fn is_known(code: u8) -> bool {
     match code {
         b'F' | b'S' | b'T' | b'U' | b'B' | b'K' | b'M' | b'C' => true,
         b'D' | b'd' | b'E' | b'W' | b'w' | b'X' => true,
+        b'N' | b'n' => true,
         _ => false,
     }
 }
@@ -49,6 +53,7 @@ fn is_known(code: u8) -> bool {
 fn has_first(code: u8) -> bool {
     match code {
         b'F' | b'B' | b'D' | b'd' | b'E' => true,
+        b'n' => true,
         _ => false,
     }
 }
@@ -57,6 +62,7 @@ fn most_first(code: u8) -> u32 {
     match code {
         b'F' => u32::MAX,
         b'B' => 64,
+        b'n' => MOST_SYMBOL,
         _ => 128,
     }
 }
@@ -74,12 +80,19 @@ fn most_count(code: u8) -> u32 {
 fn has_room(code: u8) -> bool {
     match code {
         b'W' | b'w' | b'X' => true,
+        b'N' | b'n' => true,
         _ => false,
     }
 }
 
+// Where a name is asked for, the number behind the items is the length of the panel's own list.
 fn most_room(code: u8) -> u32 {
-    if code == b'X' { 16384 } else { 8192 }
+    match code {
+        b'X' => 16384,
+        b'N' => 65536,
+        b'n' => 1048576,
+        _ => 8192,
+    }
 }
 
 // How many bytes a number of items takes.
@@ -163,7 +176,7 @@ fn two_bytes(p: Port, wanted: bool, input: &mut [u8], out: &[u8]) -> Choice {
     }
 }
 
-fn stopped(p: Port, fault: Fault, ended: bool) -> Record {
+pub fn stopped(p: Port, fault: Fault, ended: bool) -> Record {
     Record {
         port: p,
         code: 0,
@@ -177,7 +190,7 @@ fn stopped(p: Port, fault: Fault, ended: bool) -> Record {
 }
 
 // The items of a record, into `data`, and its room.
-fn items(
+pub fn items(
     p: Port,
     code: u8,
     first: u32,
@@ -220,7 +233,7 @@ fn counted(
     let fault = count.fault;
     let port = count.port;
     if is_whole(fault) {
-        return items(port, code, first, symbol, count.value, input, out, data);
+        return crate::naming::items(port, code, first, symbol, count.value, input, out, data);
     }
     stopped(port, fault, false)
 }

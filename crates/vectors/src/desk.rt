@@ -318,6 +318,8 @@ enum Call {
     Write,
     WriteUnit,
     WriteText,
+    Unpack,
+    Name,
     Unknown,
 }
 
@@ -404,6 +406,16 @@ fn on_area(text: &[u8], h: Head) -> Call {
     if text::is_name(text, h, b"write_unit") {
         return Call::WriteUnit;
     }
+    on_names(text, h)
+}
+
+fn on_names(text: &[u8], h: Head) -> Call {
+    if text::is_name(text, h, b"unpack") {
+        return Call::Unpack;
+    }
+    if text::is_name(text, h, b"name") {
+        return Call::Name;
+    }
     Call::Unknown
 }
 
@@ -450,6 +462,8 @@ fn called(d: Desk, c: Call, size: usize, bytes: &[u8], numbers: &[u32]) -> Desk 
         Call::WriteText => got(d, crate::areas::write_text(numbers, size)),
         Call::Write => got(d, crate::areas::write(numbers, size)),
         Call::WriteUnit => got(d, crate::areas::write_unit(numbers, size)),
+        Call::Unpack => got(d, crate::naming::unpack(bytes, size)),
+        Call::Name => got(d, crate::naming::name(symbol_of(size), bytes)),
         Call::Unknown => got(d, NO_CALL),
     }
 }

@@ -2,6 +2,7 @@
 // with a title is told with what was expected and what came.
 mod areas;
 mod desk;
+mod naming;
 mod text;
 
 use desk::Desk;
