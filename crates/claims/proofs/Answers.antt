@@ -59,7 +59,7 @@ use Rattle.panel.specs.declared.Panel.{Panel}
 use Rattle.kept_orchestra.specs.declared.Program.{Program}
 use Rattle.loader_claims.specs.Claims.{StandsFor}
 use Rattle.claims.specs.Verdict.{HasFields, here, there, Playable, tooLate, mostLines, Fits, AllFit, Faulty, untimed, unplayable, late, full, Verdict, AtDoor, AtCycle, over, badText, cut, notCarried, outOfRange, tooManyValues, leftOver, faulty, taken, otherLength, overBefore, findsEnd, plays, AtKeyboard, mostMessages, keysOver, keysCut, keysNotCarried, keysFull, keysTaken, withLines, InTurn, none, next, AtBurst, burstCut, burstTooLong, burstNoRoom, burstTaken, once}
-use Rattle.claims.specs.Claims.{unitAnswer, afterOf, reachedOf, BurstCall, BurstAsUnits, past, panelAfter, CallVerdict}
+use Rattle.claims.specs.Claims.{unitAnswer, afterOf, reachedOf, BurstCall, BurstAsUnits, panelAfter, Given}
 use Rattle.claims.proofs.Doors.{differ, differ′, Brings, takes, refuses, brings}
 use Rattle.claims.proofs.Bursts.{unit-line, singly-answers, burst-as-units}
 use Rattle.messages.specs.Message.{none as noStatus}
@@ -71,7 +71,7 @@ use Rattle.messages.proofs.Meaning.{one-meaning, every-call}
 use Rattle.messages.proofs.Faults.{Kind, is-whole, is-cut, is-not-carried, every-kind}
 use Rattle.claims.proofs.Keyboard.{Presses, keys-over, keys-faulty, keys-full, keys-taken, presses, whole-same, fault-same, no-fault}
 use Rattle.claims.proofs.Cycles.{Cycles, off, over-before, ends, plays as goes-on, cycles}
-use Rattle.claims.proofs.Past.{own, stands, kept-after, past-is}
+use Rattle.claims.proofs.Past.{own, stands, kept-after, past-is, placedPast}
 
 -- ---- what a door tells of its lines
 
@@ -690,9 +690,9 @@ in-turn is (u ∷ us) h =
     record { told = record { number = x .number; line = x .line } ∷ y .told; so = next (x .verdict) (y .so) }
 
 module _ {S : Type 0} (is : List Instrument) (h : History S) where
-  record Decided (c : Call) : Type 0 where
-    answers : List Answer
-    verdict : Verdict is h c answers
+  pub record Decided (c : Call) : Type 0 where
+    pub answers : List Answer
+    pub verdict : Verdict is h c answers
 
   at-burst : (bytes area : List ℕ) → Decided (burst bytes area)
   at-burst bytes area = by-kind (every-burst bytes) (every-kind-of-burst bytes)
@@ -707,22 +707,18 @@ module _ {S : Type 0} (is : List Instrument) (h : History S) where
       by-kind s burst-kinds.is-cut = record { answers = one 1 0; verdict = burstCut s }
       by-kind s burst-kinds.is-too-many = record { answers = one 5 0; verdict = burstTooLong s }
 
-  decided : (c : Call) → Decided c
+  pub decided : (c : Call) → Decided c
   decided (bring d handed) = let x = at-door is h d handed in record { answers = one (x .number) (x .line); verdict = once (x .verdict) }
   decided (burst bytes area) = at-burst bytes area
   decided (keyboard bytes) = let x = at-keyboard is h bytes in record { answers = one (x .number) (x .line); verdict = once (x .verdict) }
   decided (cycle block) = let x = at-cycle is h block in record { answers = one (x .number) (x .line); verdict = once (x .verdict) }
 
--- ---- both directions
+-- ---- the verdict by place, as it is given
 
-pub call-verdict : CallVerdict
-unfolding CallVerdict
-call-verdict orchestra is ceiling chosen g cs c =
+pub verdict-by-place : (orchestra : List ℕ) (is : List Instrument) (ceiling chosen : ℕ) → Given orchestra is ceiling chosen → (cs : List Call) (c : Call) (told : List Answer)
+    → Verdict is (placedPast orchestra is ceiling chosen cs) c told → afterOf (panelAfter orchestra is ceiling chosen cs) c .answers ≡ told
+verdict-by-place orchestra is ceiling chosen g cs c told x =
     let p = panelAfter orchestra is ceiling chosen cs in
     let k = kept-after orchestra is ceiling chosen g cs in
-    let e = past-is orchestra is ceiling chosen g cs in
-    let s : StandsFor is (p .program) = subst⁻¹ (StandsFor is) (k .has) (stands orchestra is ceiling chosen g) in
-    let exactly : (told : List Answer) → Verdict is (past orchestra is ceiling chosen cs) c told → afterOf p c .answers ≡ told = λ told x.
-    given is p s (k .long) c told (subst⁻¹ (λ (h : History Held). Verdict is h c told) e x) in
-    let x = decided is (past orchestra is ceiling chosen cs) c in
-    (record { answers = x .answers; told = exactly (x .answers) (x .verdict); given = x .verdict }, exactly)
+    given is p (subst⁻¹ (StandsFor is) (k .has) (stands orchestra is ceiling chosen g)) (k .long) c told
+    (subst⁻¹ (λ (h : History Held). Verdict is h c told) (past-is orchestra is ceiling chosen g cs) x)

@@ -8,4 +8,5 @@ pub mod Cycles
 pub mod Past
 pub mod Answers
 pub mod Written
+pub mod Verdicts
 pub mod Fresh

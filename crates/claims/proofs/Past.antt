@@ -15,7 +15,6 @@ use Rattle.syntax.specs.Tree.{Instrument}
 use Rattle.voices.specs.Tree.{treeVoices}
 use Rattle.voices.proofs.Laws.{Sixteen, alike}
 use Rattle.voices.proofs.Alike.{Alike, Notes, block-same, played-same, played-good}
-use Rattle.written_voices.specs.Voices.{nextBlock}
 use Rattle.kept_voices.specs.Voices.{Held}
 use Rattle.players.specs.Lists.{each, All}
 use Rattle.players.specs.Cycle.{Voices, positionLimit}
@@ -23,7 +22,7 @@ use Rattle.players.specs.Holds.{Settings, Due, settingsOf, Holds, behind, withM
 use Rattle.players.specs.Plain.{plainStart}
 use Rattle.players.specs.Calls.{Door, unit, reads, Call, bring, burst, keyboard, cycle, wholeMessages, messagesIn, Answer, one, After, numbered, linesOf, takenOf, isZero, Last, none, cyclesWith, lastWith, momentOf, traceFrom, trace, afterAll}
 use Rattle.players.specs.Condition3.{PlainAlike, WithinCeiling}
-use Rattle.players.specs.History.{nowhere, at, History, unbegun, withCycle, withMoment, historyFrom}
+use Rattle.players.specs.History.{nowhere, at, History, unbegun, withCycle, withMoment, historyFrom, historyOf}
 use Rattle.players.proofs.Lists.{cond-true, cond-false, all-append, all-map}
 use Rattle.players.proofs.Count.{AllSteady, steady, Slow, within-limit, cap-none, slow-played, starting}
 use Rattle.players.proofs.Ceiling.{block-within}
@@ -44,7 +43,7 @@ use Rattle.bursts.specs.Bursts.{Burst, burstOf, unitsIn}
 use Rattle.panel.specs.Calls.{singly, freshOf, playedOf}
 use Rattle.panel.specs.declared.Panel.{Panel}
 use Rattle.panel.specs.declared.Fresh.{Fresh}
-use Rattle.claims.specs.Claims.{unitAnswer, afterOf, panel, reachedOf, Given, fresh, settings, past, panelAfter, CeilingBinds}
+use Rattle.claims.specs.Claims.{unitAnswer, afterOf, panel, reachedOf, Given, fresh, settings, panelAfter, CeilingBinds}
 use Rattle.claims.proofs.Ranged.{ranged, ranged-steady, reads-ranged}
 use Rattle.claims.proofs.Doors.{differ, differ′, Behind, Brings, takes, refuses, brings}
 use Rattle.claims.proofs.Bursts.{Receives, received, unreceived, receives, taken-of, leaves}
@@ -532,6 +531,10 @@ module _ (program : Program) (ceiling chosen : ℕ) (is : List Instrument) (r : 
 
 -- ---- a fresh panel
 
+-- what a list of calls leaves by its history, the notes' values by place
+abbrev pub placedPast : List ℕ → List Instrument → ℕ → ℕ → List Call → History Held
+placedPast orchestra is ceiling chosen cs = historyOf (treeVoices is) (settings ceiling chosen) (trace panel (fresh orchestra ceiling chosen) cs)
+
 module _ (orchestra : List ℕ) (is : List Instrument) (ceiling chosen : ℕ) (g : Given orchestra is ceiling chosen) where
   abbrev program : Program
   program = loadOf orchestra .program
@@ -573,7 +576,7 @@ module _ (orchestra : List ℕ) (is : List Instrument) (ceiling chosen : ℕ) (g
   pub kept-after : (cs : List Call) → Kept program ceiling chosen is stands (panelAfter orchestra is ceiling chosen cs)
   kept-after cs = kept-all program ceiling chosen is stands cs (fresh orchestra ceiling chosen) fresh-kept
 
-  pub past-is : (cs : List Call) → own (panelAfter orchestra is ceiling chosen cs) ≡ past orchestra is ceiling chosen cs
+  pub past-is : (cs : List Call) → own (panelAfter orchestra is ceiling chosen cs) ≡ placedPast orchestra is ceiling chosen cs
   past-is cs =
       own-all program ceiling chosen is stands cs 0 none (fresh orchestra ceiling chosen) fresh-kept
       ∙ ap (λ (x : History Held). historyFrom (treeVoices is) (settings ceiling chosen) x (trace panel (fresh orchestra ceiling chosen) cs)) fresh-own
@@ -587,7 +590,7 @@ module _ (orchestra : List ℕ) (is : List Instrument) (ceiling chosen : ℕ) (g
 pub block-by-place : (orchestra : List ℕ) (is : List Instrument) (ceiling chosen : ℕ) → Given orchestra is ceiling chosen → (cs : List Call) (lent : List ℤ)
     → isZero (afterOf (panelAfter orchestra is ceiling chosen cs) (cycle lent) .answers) ≡ true
     → afterOf (panelAfter orchestra is ceiling chosen cs) (cycle lent) .block
-    ≡ nextBlock (treeVoices is) (settings ceiling chosen) (settingsOf ceiling chosen) (trace panel (fresh orchestra ceiling chosen) cs)
+    ≡ blockOf (treeVoices is) (settingsOf ceiling chosen) (dueOf (placedPast orchestra is ceiling chosen cs .holds)) (placedPast orchestra is ceiling chosen cs .holds .plays)
 block-by-place orchestra is ceiling chosen g cs lent t =
     sounded (loadOf orchestra .program) ceiling chosen is (stands orchestra is ceiling chosen g) (panelAfter orchestra is ceiling chosen cs) (kept-after orchestra is ceiling chosen g cs) lent t
     ∙ ap (λ (h : History Held). blockOf (treeVoices is) (settingsOf ceiling chosen) (dueOf (h .holds)) (h .holds .plays)) (past-is orchestra is ceiling chosen g cs)

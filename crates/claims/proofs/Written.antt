@@ -4,8 +4,7 @@ use mathlib.Core.Bool.{Bool, true, false, cond}
 use mathlib.Core.List.{List, [], _∷_, _++_, append-nil}
 use Prim.Native.Nat.{ℕ, _≤_}
 use native.Mathlib.Omega.{arith}
-use lib.IntN.{ℤ}
-use lib.ListN.{length, take, length-take}
+use lib.ListN.{length, length-take}
 use lib.Dec.{eqb}
 use borrow.Author.Tests.{eqb-true, eq-eqb}
 use Rattle.score_line.specs.declared.Event.{Event}
@@ -13,10 +12,11 @@ use Rattle.score_line.specs.declared.Event.the-variants.{Instr, Control, End, T
 use Rattle.score_line.specs.declared.Line.{Line}
 use Rattle.syntax.specs.Tree.{Instrument}
 use Rattle.voices.specs.Tree.{instrumentOf, treeVoices}
-use Rattle.written_voices.specs.Voices.{writtenVoices, PlaysAsWritten}
+use Rattle.written_voices.specs.Alike.{HoldsAs}
+use Rattle.written_voices.specs.Voices.{writtenVoices, HeldAs, PlaysAsWritten, PastAsWritten}
 use Rattle.written_voices.specs.Voices as written
 use Rattle.written_voices.proofs.Written.{every-piece, every-past}
-use Rattle.kept_voices.specs.Voices.{Held}
+use Rattle.kept_voices.specs.Voices as byPlace
 use Rattle.answer.specs.Numbers.{numberOf}
 use Rattle.bursts.specs.Bursts.{Burst, burstOf, unitsIn}
 use Rattle.players.specs.Lists.{All, each}
@@ -30,7 +30,7 @@ use Rattle.loader_claims.specs.Claims.{StandsFor}
 use Rattle.panel.specs.declared.Panel.{Panel}
 use Rattle.claims.specs.Verdict.{HasFields, here, there, Playable, Fits, AllFit, Faulty, untimed, unplayable, late, full, AtDoor, over, badText, cut, notCarried, outOfRange, tooManyValues, leftOver, faulty, taken}
 use Rattle.panel.specs.Calls.{bringOf, singly}
-use Rattle.claims.specs.Claims.{unitAnswer, afterOf, panel, Given, fresh, settings, LinesFit, CycleByTree, Condition3}
+use Rattle.claims.specs.Claims.{unitAnswer, afterOf, panel, Given, fresh, settings, past, LinesFit, CycleByTree, Condition3}
 use Rattle.claims.proofs.Ranged.{ranged, AllRanged, reads-ranged}
 use Rattle.claims.proofs.Past.{Kept, own, kept-all, stands, fresh-kept, past-is, block-by-place, by-place}
 use Rattle.claims.proofs.Bursts.{Receives, received, unreceived, receives, taken-of}
@@ -157,15 +157,22 @@ lines-fit orchestra is ceiling chosen g cs = all-fitting orchestra is ceiling ch
 
 -- ---- every cycle of sound
 
+pub written-past : (orchestra : List ℕ) (is : List Instrument) (ceiling chosen : ℕ) → Given orchestra is ceiling chosen → (cs : List Call)
+    → PastAsWritten is (settings ceiling chosen) (trace panel (fresh orchestra ceiling chosen) cs)
+unfolding LinesFit
+written-past orchestra is ceiling chosen g cs =
+    every-past Panel is (settings ceiling chosen) (trace panel (fresh orchestra ceiling chosen) cs) (g .accepted .named) (lines-fit orchestra is ceiling chosen g cs)
+
 pub cycle-by-tree : CycleByTree
-unfolding CycleByTree LinesFit
+unfolding CycleByTree
 cycle-by-tree orchestra is ceiling chosen g cs =
     let e = past-is orchestra is ceiling chosen g cs in
-    let ms = trace panel (fresh orchestra ceiling chosen) cs in (
-      record { holds = ap (λ (h : History Held). h .holds) e; reached = ap (λ (h : History Held). h .reached) e },
-      λ lent t.
-          block-by-place orchestra is ceiling chosen g cs lent t
-          ∙ every-past Panel is (settings ceiling chosen) (settingsOf ceiling chosen) ms (g .accepted .named) (lines-fit orchestra is ceiling chosen g cs),
+    let w = written-past orchestra is ceiling chosen g cs in (
+      record {
+        holds = subst⁻¹ (λ (h : History byPlace.Held). HoldsAs (HeldAs is) (h .holds) (past orchestra is ceiling chosen cs .holds)) e (w .holds);
+        reached = ap (λ (h : History byPlace.Held). h .reached) e ∙ w .reached;
+      },
+      λ lent t. block-by-place orchestra is ceiling chosen g cs lent t ∙ w .block (settingsOf ceiling chosen),
     )
 
 -- ---- condition 3

@@ -13,9 +13,8 @@ use Rattle.score_line.specs.declared.Line.{Line}
 use Rattle.syntax.specs.Tree.{Instrument}
 use Rattle.tokens.specs.Spelling.{Bytes}
 use Rattle.orchestra.specs.Verdict.{Accepted}
-use Rattle.voices.specs.Tree.{treeVoices}
-use Rattle.kept_voices.specs.Voices.{Held}
-use Rattle.written_voices.specs.Voices.{writtenVoices, Fits, nextBlock}
+use Rattle.written_voices.specs.Alike.{HoldsAs}
+use Rattle.written_voices.specs.Voices.{Held, writtenVoices, Fits, HeldAs}
 use Rattle.bursts.specs.Bursts.{Burst, units, fault, mostUnits, burstOf}
 use Rattle.bursts.specs.Bursts as bursts
 use Rattle.players.specs.Lists.{All, each, over}
@@ -25,7 +24,7 @@ use Rattle.messages.specs.Writing.{whole, Says}
 use Rattle.messages.specs.declared.Message.{Message}
 use Rattle.keyboard.specs.Keyboard.{messagesIn}
 use Rattle.keyboard.specs.declared.Messages.{Messages}
-use Rattle.players.specs.Holds.{Settings, settingsOf, dueOf, endsBy}
+use Rattle.players.specs.Holds.{Settings, settingsOf, dueOf, endsBy, blockOf}
 use Rattle.players.specs.Plain.{plainStart}
 use Rattle.players.specs.Calls.{Door, unit, hasTime, reads, Call, bring, burst, keyboard, cycle, numbered, Answer, one, After, Player, isZero, Moment, trace, allTaken, afterAll, answersAll}
 use Rattle.players.specs.Condition3.{PlainAlike, WithinCeiling}
@@ -226,24 +225,25 @@ abbrev pub settings : ℕ → ℕ → ℕ → Settings
 settings ceiling chosen k = settingsOf ceiling chosen
 
 module _ (orchestra : List ℕ) (is : List Instrument) (ceiling chosen : ℕ) where
-  -- what a list of calls leaves by its history, and the panel after it
+  -- what a list of calls leaves by its history, the notes being those of the orchestra as it is written, and the panel after it
   abbrev pub past : List Call → History Held
-  past cs = historyOf (treeVoices is) (settings ceiling chosen) (trace panel (fresh orchestra ceiling chosen) cs)
+  past cs = historyOf (writtenVoices is) (settings ceiling chosen) (trace panel (fresh orchestra ceiling chosen) cs)
 
   abbrev pub panelAfter : List Call → Panel
   panelAfter cs = afterAll panel (fresh orchestra ceiling chosen) cs
 
-  -- Condition 2, every cycle of sound: whatever was handed in, timed or not, late or not, the panel holds what its history says,
+  -- Condition 2, every cycle of sound: whatever was handed in, timed or not, late or not, the panel holds what its history says, each note
+  -- the values of its names,
   pub record HoldsPast (cs : List Call) : Type 0 where
-    pub holds : holdsOf (panelAfter cs) ≡ past cs .holds
+    pub holds : HoldsAs (HeldAs is) (holdsOf (panelAfter cs)) (past cs .holds)
     pub reached : reachedOf (panelAfter cs) ≡ past cs .reached
 
-  -- and a cycle call that answers 0 leaves the block of document 01's cycle, the notes being those of the orchestra as it is written.
+  -- and a cycle call that answers 0 leaves the block of document 01's cycle.
   abbrev pub BlockByPast : List Call → List ℤ → Type 0
   BlockByPast cs lent =
       isZero (afterOf (panelAfter cs) (cycle lent) .answers) ≡ true
       → afterOf (panelAfter cs) (cycle lent) .block
-      ≡ nextBlock (writtenVoices is) (settings ceiling chosen) (settingsOf ceiling chosen) (trace panel (fresh orchestra ceiling chosen) cs)
+      ≡ blockOf (writtenVoices is) (settingsOf ceiling chosen) (dueOf (past cs .holds)) (past cs .holds .plays)
 
   -- Each call gives the answers that its history gives, and is given them exactly then.
   pub record Answered (cs : List Call) (c : Call) : Type 0 where

@@ -32,9 +32,10 @@ use Rattle.players.specs.History.{historyFrom}
 use Rattle.written_voices.specs.Voices.{writtenVoices}
 use Rattle.panel.specs.declared.Panel.{Panel}
 use Rattle.claims.specs.Verdict.{here, taken, once, Verdict}
-use Rattle.claims.specs.Claims.{afterOf, panel, Given, settings, past, Condition3, CallVerdict}
+use Rattle.claims.specs.Claims.{afterOf, panel, Given, settings, Condition3}
 use Rattle.claims.proofs.Written.{condition-3}
-use Rattle.claims.proofs.Answers.{call-verdict}
+use Rattle.claims.proofs.Past.{placedPast}
+use Rattle.claims.proofs.Answers.{verdict-by-place}
 use Rattle.witness.specs.Growing.{ceiling, chosen, bytes, tree, line}
 use Rattle.witness.specs.Calls.{score, lent, calls, started, loaded, cycled, moments, Heard}
 use Rattle.witness.proofs.Sounding.{growing-sounds}
@@ -58,15 +59,15 @@ room : 0 < 64
 room = omega arith
 
 -- its line fits: it is timed, its instrument is there, it is not late, and there is room
-verdict : Verdict tree (past bytes tree ceiling chosen []) (bring stick score) (one 0 0)
+verdict : Verdict tree (placedPast bytes tree ceiling chosen []) (bring stick score) (one 0 0)
 unfolding historyFrom traceFrom plainStart
 verdict =
     once (taken (line ∷ []) (refl, score-read .0, score-read .1)
     (record { timed = λ q. refl; playable = here refl enough; early = refl; room = room }, tt))
 
 taken-whole : afterOf started (bring stick score) .answers ≡ one 0 0
-unfolding CallVerdict afterAll
-taken-whole = call-verdict bytes tree ceiling chosen given [] (bring stick score) .1 (one 0 0) verdict
+unfolding afterAll
+taken-whole = verdict-by-place bytes tree ceiling chosen given [] (bring stick score) (one 0 0) verdict
 
 -- no line comes by a cycle call
 pub no-line : (given : List Answer) → takenOf ([] ∷ []) given ≡ []

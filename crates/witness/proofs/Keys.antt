@@ -1,13 +1,12 @@
 -- The keyboard's piece by the panel's own calls: each answer and each block by its history, computed.
-use mathlib.Core.Path.{_≡_, refl, sym, ap, _∙_, subst, subst⁻¹}
+use mathlib.Core.Path.{_≡_, refl, ap, _∙_, subst, subst⁻¹}
 use mathlib.Core.Bool.{true, cond}
 use mathlib.Core.List.{List, [], _∷_}
 use native.Mathlib.Omega.{arith}
-use Prim.Native.Nat.{ℕ, _+_, _≤_}
+use Prim.Native.Nat.{_≤_}
 use lib.IntN.{ℤ, pos}
-use lib.ListN.{length, replicate}
-use lib.Ieee.{binary32, ofBits, ofInt, toBits, fits, size, add, mul, div, round, lt, le, eq}
-use Rattle.answer.specs.declared.Answer.the-variants.{Taken}
+use lib.ListN.{replicate}
+use lib.Ieee.{ofBits, ofInt, toBits, fits, size, add, mul, div, round, lt, le, eq}
 use Rattle.tokens.specs.declared.Token.{Token}
 use Rattle.tokens.specs.declared.Token.the-variants.{Symbol, Sign}
 use Rattle.tokens.specs.Spelling.{allLawful, spelt, bytesOf}
@@ -27,7 +26,7 @@ use Rattle.messages.specs.declared.Message.{Message}
 use Rattle.messages.proofs.Meaning.{every-call}
 use Rattle.players.specs.Lists.{keep, fold, each}
 use Rattle.players.specs.Cycle.{isDue, insert, ordered, anyEnd, lastTempo, samples, limited, joinedBy, goesOn, isHeld, letGoOldest, started, controlled, pressed as born, afterMessage, afterMessages, runFrom, runAll}
-use Rattle.players.specs.Holds.{Holds, behind, withMessages, sixty, dueAt, laterThan, dueOf, endsBy, answerOf, startedOf, soundsOf, bandOf, blockOf, played, cycled, settingsOf}
+use Rattle.players.specs.Holds.{behind, withMessages, sixty, dueAt, laterThan, dueOf, endsBy, answerOf, startedOf, soundsOf, bandOf, blockOf, played, cycled, settingsOf}
 use Rattle.players.specs.Plain.{plainStart}
 use Rattle.players.specs.Results.{here as some-here}
 use Rattle.float32.specs.Limit.{held, sampleOf}
@@ -36,13 +35,13 @@ use Rattle.voices.specs.Tree.{silent, instrumentOf, importsOf, treeVoices}
 use Rattle.players.specs.Calls.{Call, keyboard, cycle, wholeMessages, Answer, one, isZero, takenOf, traceFrom, afterAll}
 use Rattle.players.specs.History.{History, nowhere, withCycle, historyFrom}
 use Rattle.claims.specs.Verdict.{keysTaken, plays, once, Verdict}
-use Rattle.claims.specs.Claims.{afterOf, Given, settings, past, panelAfter, CallVerdict}
-use Rattle.claims.proofs.Answers.{call-verdict}
-use Rattle.claims.proofs.Past.{block-by-place}
+use Rattle.claims.specs.Claims.{afterOf, Given, settings}
+use Rattle.claims.proofs.Answers.{verdict-by-place}
+use Rattle.claims.proofs.Past.{placedPast, block-by-place}
 use Rattle.kept_voices.specs.Voices.{Held}
 use Rattle.witness.specs.Growing.{ceiling, chosen}
 use Rattle.witness.specs.Calls.{lent}
-use Rattle.witness.specs.Keys.{bytes, tree, pressed, letGo, p0, p1, p2, p3, p4, Sounds, Pressed}
+use Rattle.witness.specs.Keys.{bytes, tree, pressed, letGo, p0, p1, p2, p3, p4, Pressed}
 
 tokens : List Token
 tokens =
@@ -143,58 +142,58 @@ presses e a q =
 -- ---- one call after the other
 
 on-answer : afterOf p0 (keyboard pressed) .answers ≡ one 0 0
-unfolding CallVerdict afterAll historyFrom traceFrom begin
-on-answer = call-verdict bytes tree ceiling chosen given [] (keyboard pressed) .1 (one 0 0) (computed .on)
+unfolding afterAll historyFrom traceFrom begin
+on-answer = verdict-by-place bytes tree ceiling chosen given [] (keyboard pressed) (one 0 0) (computed .on)
 
-past-on : past bytes tree ceiling chosen (keyboard pressed ∷ []) ≡ h1
+past-on : placedPast bytes tree ceiling chosen (keyboard pressed ∷ []) ≡ h1
 unfolding historyFrom traceFrom h1 begin
 past-on = presses refl on-answer (messages-are .0)
 
 first-answer : afterOf p1 (cycle lent) .answers ≡ one 0 0
-unfolding CallVerdict afterAll
+unfolding afterAll
 first-answer =
-    call-verdict bytes tree ceiling chosen given (keyboard pressed ∷ []) (cycle lent) .1 (one 0 0)
+    verdict-by-place bytes tree ceiling chosen given (keyboard pressed ∷ []) (cycle lent) (one 0 0)
     (subst⁻¹ (λ (h : History Held). Verdict tree h (cycle lent) (one 0 0)) past-on (computed .first))
 
 first-block : afterOf p1 (cycle lent) .block ≡ replicate samples (pos 16384)
 unfolding afterAll
 first-block = block-by-place bytes tree ceiling chosen given (keyboard pressed ∷ []) lent (ap isZero first-answer) ∙ ap block past-on ∙ computed .first-block
 
-past-first : past bytes tree ceiling chosen (keyboard pressed ∷ cycle lent ∷ []) ≡ h2
+past-first : placedPast bytes tree ceiling chosen (keyboard pressed ∷ cycle lent ∷ []) ≡ h2
 unfolding historyFrom traceFrom h2
 past-first = ap (withCycle (treeVoices tree) (settings ceiling chosen) 0) past-on
 
 off-answer : afterOf p2 (keyboard letGo) .answers ≡ one 0 0
-unfolding CallVerdict afterAll
+unfolding afterAll
 off-answer =
-    call-verdict bytes tree ceiling chosen given (keyboard pressed ∷ cycle lent ∷ []) (keyboard letGo) .1 (one 0 0)
+    verdict-by-place bytes tree ceiling chosen given (keyboard pressed ∷ cycle lent ∷ []) (keyboard letGo) (one 0 0)
     (subst⁻¹ (λ (h : History Held). Verdict tree h (keyboard letGo) (one 0 0)) past-first (computed .off))
 
 abbrev calls : List Call
 calls = keyboard pressed ∷ cycle lent ∷ keyboard letGo ∷ []
 
-past-off : past bytes tree ceiling chosen calls ≡ h3
+past-off : placedPast bytes tree ceiling chosen calls ≡ h3
 unfolding historyFrom traceFrom h3
 past-off = presses past-first off-answer (messages-are .1)
 
 last-answer : afterOf p3 (cycle lent) .answers ≡ one 0 0
-unfolding CallVerdict afterAll
+unfolding afterAll
 last-answer =
-    call-verdict bytes tree ceiling chosen given calls (cycle lent) .1 (one 0 0)
+    verdict-by-place bytes tree ceiling chosen given calls (cycle lent) (one 0 0)
     (subst⁻¹ (λ (h : History Held). Verdict tree h (cycle lent) (one 0 0)) past-off (computed .last))
 
 last-block : afterOf p3 (cycle lent) .block ≡ replicate samples (pos 16384)
 unfolding afterAll
 last-block = block-by-place bytes tree ceiling chosen given calls lent (ap isZero last-answer) ∙ ap block past-off ∙ computed .last-block
 
-past-last : past bytes tree ceiling chosen (keyboard pressed ∷ cycle lent ∷ keyboard letGo ∷ cycle lent ∷ []) ≡ h4
+past-last : placedPast bytes tree ceiling chosen (keyboard pressed ∷ cycle lent ∷ keyboard letGo ∷ cycle lent ∷ []) ≡ h4
 unfolding historyFrom traceFrom h4
 past-last = ap (withCycle (treeVoices tree) (settings ceiling chosen) 1) past-off
 
 gone-answer : afterOf p4 (cycle lent) .answers ≡ one 0 0
-unfolding CallVerdict afterAll
+unfolding afterAll
 gone-answer =
-    call-verdict bytes tree ceiling chosen given (keyboard pressed ∷ cycle lent ∷ keyboard letGo ∷ cycle lent ∷ []) (cycle lent) .1 (one 0 0)
+    verdict-by-place bytes tree ceiling chosen given (keyboard pressed ∷ cycle lent ∷ keyboard letGo ∷ cycle lent ∷ []) (cycle lent) (one 0 0)
     (subst⁻¹ (λ (h : History Held). Verdict tree h (cycle lent) (one 0 0)) past-last (computed .gone))
 
 gone-block : afterOf p4 (cycle lent) .block ≡ replicate samples (pos 0)

@@ -1,14 +1,13 @@
 -- The richer piece by the panel's own calls: each answer by its history, the cycles by condition 3.
-use mathlib.Core.Path.{_≡_, refl, sym, ap, _∙_, subst, subst⁻¹}
-use mathlib.Core.Bool.{true, false, cond, _&&_}
+use mathlib.Core.Path.{_≡_, refl, ap, _∙_, subst, subst⁻¹}
+use mathlib.Core.Bool.{true, cond, _&&_}
 use mathlib.Core.List.{List, [], _∷_, _++_}
 use native.Mathlib.Omega.{arith}
-use Prim.Native.Nat.{ℕ, zero, suc, _+_, _≤_, _<_}
-use lib.IntN.{ℤ, pos}
-use lib.Dec.{eqb}
+use Prim.Native.Nat.{ℕ, zero, suc, _+_, _≤_}
+use lib.IntN.{ℤ}
 use lib.ListN.{replicate}
-use lib.Ieee.{binary32, ofBits, fits, size, add, mul, round, lt, le, eq, ne}
-use Rattle.syntax.specs.Names.{named, namedBy, has, apart, knownIn, known, eachKept}
+use lib.Ieee.{ofBits, add, mul, round, lt, le, eq, ne}
+use Rattle.syntax.specs.Names.{named, namedBy}
 use Rattle.syntax.specs.Placed.{placeFrom, putIn, put}
 use Rattle.meaning.specs.Placed.{value, assigned, outputs, pass, fresh as freshValues, birth, kPass, aPasses, cycle as noteCycle}
 use Rattle.players.specs.Lists.{keep, fold, each, All}
@@ -24,18 +23,19 @@ use Rattle.kept_voices.specs.Voices as code
 use Rattle.voices.specs.Tree.{silent, instrumentOf, importsOf, treeVoices}
 use Rattle.written_voices.specs.Voices.{writtenVoices}
 use Rattle.score_line.specs.declared.Line.{Line}
-use Rattle.players.specs.Calls.{stick, unit, keypad, bring, cycle, Answer, one, numbered, linesOf, takenOf, isZero, Last, latest, none, Moment, takenIn, lastWith, momentOf, traceFrom, trace, allTaken, afterAll}
+use Rattle.players.specs.Calls.{stick, unit, keypad, bring, cycle, Answer, one, numbered, linesOf, takenOf, isZero, Last, latest, none, Moment, traceFrom, allTaken, afterAll}
 use Rattle.players.specs.Condition3.{inTime, InTime, AsPlain, PlainAlike}
 use Rattle.players.specs.History.{History, nowhere, withCycle, historyFrom}
 use Rattle.panel.specs.declared.Panel.{Panel}
 use Rattle.claims.specs.Verdict.{here, there, taken, plays, once, Verdict, AllFit}
-use Rattle.claims.specs.Claims.{afterOf, panel, fresh, Given, settings, past, Condition3, CallVerdict}
+use Rattle.claims.specs.Claims.{afterOf, panel, fresh, Given, settings, Condition3}
 use Rattle.claims.proofs.Written.{condition-3}
-use Rattle.claims.proofs.Answers.{call-verdict}
+use Rattle.claims.proofs.Past.{placedPast}
+use Rattle.claims.proofs.Answers.{verdict-by-place}
 use Rattle.kept_voices.specs.Voices.{Held}
 use Rattle.witness.specs.Growing.{ceiling, chosen}
 use Rattle.witness.specs.Calls.{lent}
-use Rattle.witness.specs.Rich.{bytes, tree, tone, rest, control, end, onStick, inUnit, onKeypad, before, lines, calls, moments, p1, p2, p3, p4, answersOf, Walked}
+use Rattle.witness.specs.Rich.{bytes, tree, rest, control, end, onStick, inUnit, onKeypad, before, lines, calls, moments, p1, p2, p3, p4, Walked}
 use Rattle.witness.proofs.Hearing.{no-line}
 use Rattle.witness.proofs.Rich.{rich}
 
@@ -66,15 +66,15 @@ rests-fit (suc n) k h = (
   rests-fit n (suc k) (omega arith),
 )
 
-on-stick : Verdict tree (past bytes tree ceiling chosen []) (bring stick onStick) (one 0 0)
+on-stick : Verdict tree (placedPast bytes tree ceiling chosen []) (bring stick onStick) (one 0 0)
 unfolding historyFrom traceFrom plainStart
 on-stick =
     once (taken before (refl, rich .stick .0, rich .stick .1)
     (record { timed = λ q. refl; playable = here refl one-field; early = refl; room = omega arith }, rests-fit 16 1 (omega arith)))
 
 stick-answer : afterOf (fresh bytes ceiling chosen) (bring stick onStick) .answers ≡ one 0 0
-unfolding CallVerdict afterAll
-stick-answer = call-verdict bytes tree ceiling chosen given [] (bring stick onStick) .1 (one 0 0) on-stick
+unfolding afterAll
+stick-answer = verdict-by-place bytes tree ceiling chosen given [] (bring stick onStick) (one 0 0) on-stick
 
 stick-lines : takenOf (linesOf (bring stick onStick)) (afterOf (fresh bytes ceiling chosen) (bring stick onStick) .answers) ≡ before
 stick-lines = ap (takenOf (linesOf (bring stick onStick))) stick-answer ∙ ap (λ (ls : List Line). ls ++ []) (rich .stick .1)
@@ -99,17 +99,17 @@ computed = (
   once (taken (end ∷ []) (refl, rich .keypad .0, rich .keypad .1) (record { timed = λ q. refl; playable = tt; early = refl; room = omega arith }, tt)),
 )
 
-past-stick : past bytes tree ceiling chosen (bring stick onStick ∷ []) ≡ after-stick
+past-stick : placedPast bytes tree ceiling chosen (bring stick onStick ∷ []) ≡ after-stick
 unfolding historyFrom traceFrom after-stick
 past-stick = λ i. record { holds = withMessages (cond (isZero (stick-answer i)) [] []) (behind (stick-lines i) (plainStart (settings ceiling chosen 0) [])); reached = nowhere }
 
 first-answer : afterOf p1 (cycle lent) .answers ≡ one 0 0
-unfolding CallVerdict afterAll
+unfolding afterAll
 first-answer =
-    call-verdict bytes tree ceiling chosen given (bring stick onStick ∷ []) (cycle lent) .1 (one 0 0)
+    verdict-by-place bytes tree ceiling chosen given (bring stick onStick ∷ []) (cycle lent) (one 0 0)
     (subst⁻¹ (λ (h : History Held). Verdict tree h (cycle lent) (one 0 0)) past-stick (computed .0))
 
-past-first : past bytes tree ceiling chosen (bring stick onStick ∷ cycle lent ∷ []) ≡ after-first
+past-first : placedPast bytes tree ceiling chosen (bring stick onStick ∷ cycle lent ∷ []) ≡ after-first
 unfolding historyFrom traceFrom after-first after-stick
 past-first =
     λ i. withCycle (treeVoices tree) (settings ceiling chosen) 0 (record { holds = withMessages (cond (isZero (stick-answer i)) [] []) (behind (stick-lines i) (plainStart (settings ceiling chosen 0) [])); reached = nowhere })
@@ -117,15 +117,15 @@ past-first =
 -- ---- the unit
 
 unit-answer : afterOf p2 (bring unit inUnit) .answers ≡ one 0 0
-unfolding CallVerdict afterAll
+unfolding afterAll
 unit-answer =
-    call-verdict bytes tree ceiling chosen given (bring stick onStick ∷ cycle lent ∷ []) (bring unit inUnit) .1 (one 0 0)
+    verdict-by-place bytes tree ceiling chosen given (bring stick onStick ∷ cycle lent ∷ []) (bring unit inUnit) (one 0 0)
     (subst⁻¹ (λ (h : History Held). Verdict tree h (bring unit inUnit) (one 0 0)) past-first (computed .1))
 
 unit-lines : takenOf (linesOf (bring unit inUnit)) (afterOf p2 (bring unit inUnit) .answers) ≡ control ∷ []
 unit-lines = ap (takenOf (linesOf (bring unit inUnit))) unit-answer ∙ ap (λ (ls : List Line). ls ++ []) (rich .unit .1)
 
-past-unit : past bytes tree ceiling chosen (bring stick onStick ∷ cycle lent ∷ bring unit inUnit ∷ []) ≡ after-unit
+past-unit : placedPast bytes tree ceiling chosen (bring stick onStick ∷ cycle lent ∷ bring unit inUnit ∷ []) ≡ after-unit
 unfolding historyFrom traceFrom after-unit after-first after-stick
 past-unit =
     λ i. let h = withCycle (treeVoices tree) (settings ceiling chosen) 0 (record { holds = withMessages (cond (isZero (stick-answer i)) [] []) (behind (stick-lines i) (plainStart (settings ceiling chosen 0) [])); reached = nowhere }) in
@@ -134,9 +134,9 @@ past-unit =
 -- ---- the keypad
 
 keypad-answer : afterOf p3 (bring keypad onKeypad) .answers ≡ one 0 0
-unfolding CallVerdict afterAll
+unfolding afterAll
 keypad-answer =
-    call-verdict bytes tree ceiling chosen given (bring stick onStick ∷ cycle lent ∷ bring unit inUnit ∷ []) (bring keypad onKeypad) .1 (one 0 0)
+    verdict-by-place bytes tree ceiling chosen given (bring stick onStick ∷ cycle lent ∷ bring unit inUnit ∷ []) (bring keypad onKeypad) (one 0 0)
     (subst⁻¹ (λ (h : History Held). Verdict tree h (bring keypad onKeypad) (one 0 0)) past-unit (computed .2))
 
 keypad-lines : takenOf (linesOf (bring keypad onKeypad)) (afterOf p3 (bring keypad onKeypad) .answers) ≡ end ∷ []

@@ -7,19 +7,19 @@ use lib.Dec.{ltb, eqb}
 use lib.ListN.{length, take, replicate}
 use lib.Ieee.{Float, binary32, ofBits}
 use Rattle.timebase.specs.Time.{cycleIn}
-use Rattle.score_line.specs.declared.Label.{Label}
 use Rattle.score_line.specs.declared.Event.{Event}
 use Rattle.score_line.specs.declared.Event.the-variants.{Instr, Control, End, Tempo}
 use Rattle.score_line.specs.declared.Line.{Line}
 use Rattle.keys.specs.Keys.{frequencyOf, loudnessOf}
 use Rattle.messages.specs.declared.Message.{Message}
 use Rattle.players.specs.Lists.{keep, fold, each, All}
-use Rattle.players.specs.Cycle.{Voices, Note, Started, samples, isDue, earlier, insert, ordered, withState, canCut, cutOldest, joinedBy, born, startedBy, started, controlledBy, controlEvent, controlled, runFrom, runAll, anyEnd, positionLimit, lastTempo, limited, goesOn, Band, letGo, isHeld, letGoOldest, pressed, afterMessage, afterMessages}
+use Rattle.players.specs.Cycle.{Voices, Note, Started, samples, isDue, earlier, insert, ordered, withState, canCut, cutOldest, joinedBy, born, startedBy, started, controlledBy, controlEvent, controlled, runFrom, runAll, anyEnd, positionLimit, lastTempo, limited, goesOn, letGo, isHeld, letGoOldest, pressed, afterMessage, afterMessages}
 use Rattle.players.specs.Holds.{Settings, Holds, behind, dueAt, laterThan, dueOf, endsBy, marked, answerOf, startedOf, bandOf, blockOf, played, cycled, Due, withMessages, soundsOf}
 use Rattle.players.specs.Plain.{plainStart, plainAt, answerAt, blockAt}
 use Rattle.players.specs.Calls.{numbered, Moment, takenIn, messagesTaken, allTaken}
 use Rattle.players.specs.History.{at, History, unbegun, withCycle, withMoment, historyFrom, historyOf}
 use Rattle.players.proofs.Lists.{all-keep, all-append}
+use Rattle.written_voices.specs.Alike.{NoteAs, NotesAs, HoldsAs}
 
 -- ---- what holds of all lines holds of the due ones
 
@@ -51,62 +51,44 @@ module _ {S S′ : Type 0} (R : S → S′ → Type 0) (Ok : Line → Event → 
     pub run : (s : S) (t : S′) (mix : List Float) → R s t → R (v .run s mix .state) (w .run t mix .state)
     pub mix : (s : S) (t : S′) (mix : List Float) → R s t → v .run s mix .mix ≡ w .run t mix .mix
 
-  pub record Same (m : Note S) (n : Note S′) : Type 0 where
-    pub labelled : m .labelled ≡ n .labelled
-    pub label : m .label ≡ n .label
-    pub endless : m .endless ≡ n .endless
-    pub end : m .end ≡ n .end
-    pub priority : m .priority ≡ n .priority
-    pub keyed : m .keyed ≡ n .keyed
-    pub channel : m .channel ≡ n .channel
-    pub key : m .key ≡ n .key
-    pub released : m .released ≡ n .released
-    pub state : R (m .state) (n .state)
-
-  abbrev pub Notes : List (Note S) → List (Note S′) → Type 0
-  Notes [] [] = Unit {0}
-  Notes [] (y ∷ ys) = ⊥
-  Notes (x ∷ xs) [] = ⊥
-  Notes (x ∷ xs) (y ∷ ys) = Same x y × Notes xs ys
-
-  long : (xs : List (Note S)) (ys : List (Note S′)) → Notes xs ys → length xs ≡ length ys
+  long : (xs : List (Note S)) (ys : List (Note S′)) → NotesAs R xs ys → length xs ≡ length ys
   long [] [] h = refl
   long [] (y ∷ ys) h = absurd h
   long (x ∷ xs) [] h = absurd h
   long (x ∷ xs) (y ∷ ys) h = ap suc (long xs ys (h .1))
 
-  one-more : (xs : List (Note S)) (ys : List (Note S′)) (x : Note S) (y : Note S′) → Notes xs ys → Same x y → Notes (xs ++ x ∷ []) (ys ++ y ∷ [])
+  one-more : (xs : List (Note S)) (ys : List (Note S′)) (x : Note S) (y : Note S′) → NotesAs R xs ys → NoteAs R x y → NotesAs R (xs ++ x ∷ []) (ys ++ y ∷ [])
   one-more [] [] x y h g = (g, tt)
   one-more [] (z ∷ ys) x y h g = absurd h
   one-more (z ∷ xs) [] x y h g = absurd h
   one-more (z ∷ xs) (u ∷ ys) x y h g = (h .0, one-more xs ys x y (h .1) g)
 
   record Begun (s : Started S) (t : Started S′) : Type 0 where
-    notes : Notes (s .notes) (t .notes)
+    notes : NotesAs R (s .notes) (t .notes)
     missed : s .missed ≡ t .missed
 
   -- the same note is cut off
-  can-cut : (xs : List (Note S)) (ys : List (Note S′)) → Notes xs ys → canCut xs ≡ canCut ys
+  can-cut : (xs : List (Note S)) (ys : List (Note S′)) → NotesAs R xs ys → canCut xs ≡ canCut ys
   unfolding canCut
   can-cut [] [] h = refl
   can-cut [] (y ∷ ys) h = absurd h
   can-cut (x ∷ xs) [] h = absurd h
   can-cut (x ∷ xs) (y ∷ ys) h = λ i. cond (h .0 .priority i) (can-cut xs ys (h .1) i) true
 
-  cut-alike : (xs : List (Note S)) (ys : List (Note S′)) → Notes xs ys → Notes (cutOldest xs) (cutOldest ys)
+  cut-alike : (xs : List (Note S)) (ys : List (Note S′)) → NotesAs R xs ys → NotesAs R (cutOldest xs) (cutOldest ys)
   unfolding cutOldest
   cut-alike [] [] h = tt
   cut-alike [] (y ∷ ys) h = absurd h
   cut-alike (x ∷ xs) [] h = absurd h
   cut-alike (x ∷ xs) (y ∷ ys) h =
-      subst (λ (c : Bool). Notes (cond (x .priority) (x ∷ cutOldest xs) xs) (cond c (y ∷ cutOldest ys) ys)) (h .0 .priority)
+      subst (λ (c : Bool). NotesAs R (cond (x .priority) (x ∷ cutOldest xs) xs) (cond c (y ∷ cutOldest ys) ys)) (h .0 .priority)
       (go (x .priority) (cut-alike xs ys (h .1)))
     where
-      go : (b : Bool) → Notes (cutOldest xs) (cutOldest ys) → Notes (cond b (x ∷ cutOldest xs) xs) (cond b (y ∷ cutOldest ys) ys)
+      go : (b : Bool) → NotesAs R (cutOldest xs) (cutOldest ys) → NotesAs R (cond b (x ∷ cutOldest xs) xs) (cond b (y ∷ cutOldest ys) ys)
       go true r = (h .0, r)
       go false r = h .1
 
-  joined : (most : ℕ) (s : Started S) (t : Started S′) (x : Note S) (y : Note S′) → Begun s t → Same x y → Begun (joinedBy most s x) (joinedBy most t y)
+  joined : (most : ℕ) (s : Started S) (t : Started S′) (x : Note S) (y : Note S′) → Begun s t → NoteAs R x y → Begun (joinedBy most s x) (joinedBy most t y)
   unfolding joinedBy
   joined most s t x y h g =
       subst (Goal room cuts (ltb (length (t .notes)) most)) (λ i. g .priority i && can-cut (s .notes) (t .notes) (h .notes) i)
@@ -134,7 +116,7 @@ module _ {S S′ : Type 0} (R : S → S′ → Type 0) (Ok : Line → Event → 
           }
       go false false = record { notes = h .notes; missed = ap (λ m. m + 1) (h .missed) }
 
-  kept : (pos : ℕ) (xs : List (Note S)) (ys : List (Note S′)) → Notes xs ys → Notes (keep (goesOn pos) xs) (keep (goesOn pos) ys)
+  kept : (pos : ℕ) (xs : List (Note S)) (ys : List (Note S′)) → NotesAs R xs ys → NotesAs R (keep (goesOn pos) xs) (keep (goesOn pos) ys)
   unfolding keep goesOn
   kept pos [] [] h = tt
   kept pos [] (y ∷ ys) h = absurd h
@@ -142,15 +124,15 @@ module _ {S S′ : Type 0} (R : S → S′ → Type 0) (Ok : Line → Event → 
   kept pos (x ∷ xs) (y ∷ ys) h =
       let e : goesOn pos x ≡ goesOn pos y = λ j. not (h .0 .released j) && (h .0 .endless j || ltb pos (h .0 .end j)) in
       subst
-      (λ (c : Bool). Notes (cond (goesOn pos x) (x ∷ keep (goesOn pos) xs) (keep (goesOn pos) xs)) (cond c (y ∷ keep (goesOn pos) ys) (keep (goesOn pos) ys)))
+      (λ (c : Bool). NotesAs R (cond (goesOn pos x) (x ∷ keep (goesOn pos) xs) (keep (goesOn pos) xs)) (cond c (y ∷ keep (goesOn pos) ys) (keep (goesOn pos) ys)))
       e (go (goesOn pos x) (kept pos xs ys (h .1)))
     where
-      go : (b : Bool) → Notes (keep (goesOn pos) xs) (keep (goesOn pos) ys) → Notes (cond b (x ∷ keep (goesOn pos) xs) (keep (goesOn pos) xs)) (cond b (y ∷ keep (goesOn pos) ys) (keep (goesOn pos) ys))
+      go : (b : Bool) → NotesAs R (keep (goesOn pos) xs) (keep (goesOn pos) ys) → NotesAs R (cond b (x ∷ keep (goesOn pos) xs) (keep (goesOn pos) xs)) (cond b (y ∷ keep (goesOn pos) ys) (keep (goesOn pos) ys))
       go true r = (h .0, r)
       go false r = r
 
   -- a note-off marks the same note
-  marked-alike : (channel key : ℕ) (xs : List (Note S)) (ys : List (Note S′)) → Notes xs ys → Notes (letGoOldest channel key xs) (letGoOldest channel key ys)
+  marked-alike : (channel key : ℕ) (xs : List (Note S)) (ys : List (Note S′)) → NotesAs R xs ys → NotesAs R (letGoOldest channel key xs) (letGoOldest channel key ys)
   unfolding letGoOldest isHeld
   marked-alike channel key [] [] h = tt
   marked-alike channel key [] (y ∷ ys) h = absurd h
@@ -159,11 +141,11 @@ module _ {S S′ : Type 0} (R : S → S′ → Type 0) (Ok : Line → Event → 
       let e : isHeld channel key x ≡ isHeld channel key y =
       λ j. h .0 .keyed j && eqb (h .0 .channel j) channel && eqb (h .0 .key j) key && not (h .0 .released j) in
       subst
-      (λ (c : Bool). Notes (cond (isHeld channel key x) (letGo x ∷ xs) (x ∷ letGoOldest channel key xs)) (cond c (letGo y ∷ ys) (y ∷ letGoOldest channel key ys)))
+      (λ (c : Bool). NotesAs R (cond (isHeld channel key x) (letGo x ∷ xs) (x ∷ letGoOldest channel key xs)) (cond c (letGo y ∷ ys) (y ∷ letGoOldest channel key ys)))
       e (go (isHeld channel key x) (marked-alike channel key xs ys (h .1)))
     where
-      go : (b : Bool) → Notes (letGoOldest channel key xs) (letGoOldest channel key ys)
-          → Notes (cond b (letGo x ∷ xs) (x ∷ letGoOldest channel key xs)) (cond b (letGo y ∷ ys) (y ∷ letGoOldest channel key ys))
+      go : (b : Bool) → NotesAs R (letGoOldest channel key xs) (letGoOldest channel key ys)
+          → NotesAs R (cond b (letGo x ∷ xs) (x ∷ letGoOldest channel key xs)) (cond b (letGo y ∷ ys) (y ∷ letGoOldest channel key ys))
       go true r =
           let g = h .0 in (
             record { labelled = g .labelled; label = g .label; endless = g .endless; end = g .end; priority = g .priority; keyed = g .keyed; channel = g .channel; key = g .key; released = refl; state = g .state },
@@ -191,34 +173,34 @@ module _ {S S′ : Type 0} (R : S → S′ → Type 0) (Ok : Line → Event → 
 
     -- ---- step 4
 
-    one : (l : Line) (label x : ℕ) (y : Float) (m : Note S) (n : Note S′) → Ok l (Control label x y) → Same m n → Same (controlledBy v label x y m) (controlledBy w label x y n)
+    one : (l : Line) (label x : ℕ) (y : Float) (m : Note S) (n : Note S′) → Ok l (Control label x y) → NoteAs R m n → NoteAs R (controlledBy v label x y m) (controlledBy w label x y n)
     unfolding controlledBy
     one l label x y m n o h =
         let e : (m .labelled && eqb label (m .label)) ≡ (n .labelled && eqb label (n .label)) = λ j. h .labelled j && eqb label (h .label j) in
         subst
-        (λ (c : Bool). Same (cond (m .labelled && eqb label (m .label)) (withState m (v .control x y (m .state))) m) (cond c (withState n (w .control x y (n .state))) n))
+        (λ (c : Bool). NoteAs R (cond (m .labelled && eqb label (m .label)) (withState m (v .control x y (m .state))) m) (cond c (withState n (w .control x y (n .state))) n))
         e (go (m .labelled && eqb label (m .label)))
       where
-        go : (b : Bool) → Same (cond b (withState m (v .control x y (m .state))) m) (cond b (withState n (w .control x y (n .state))) n)
+        go : (b : Bool) → NoteAs R (cond b (withState m (v .control x y (m .state))) m) (cond b (withState n (w .control x y (n .state))) n)
         go true =
             record { labelled = h .labelled; label = h .label; endless = h .endless; end = h .end; priority = h .priority; keyed = h .keyed; channel = h .channel; key = h .key; released = h .released; state = a .control l label x y (m .state) (n .state) o (h .state) }
         go false = h
 
-    all-one : (l : Line) (label x : ℕ) (y : Float) (ms : List (Note S)) (ns : List (Note S′)) → Ok l (Control label x y) → Notes ms ns
-        → Notes (each (controlledBy v label x y) ms) (each (controlledBy w label x y) ns)
+    all-one : (l : Line) (label x : ℕ) (y : Float) (ms : List (Note S)) (ns : List (Note S′)) → Ok l (Control label x y) → NotesAs R ms ns
+        → NotesAs R (each (controlledBy v label x y) ms) (each (controlledBy w label x y) ns)
     unfolding each
     all-one l label x y [] [] o h = tt
     all-one l label x y [] (n ∷ ns) o h = absurd h
     all-one l label x y (m ∷ ms) [] o h = absurd h
     all-one l label x y (m ∷ ms) (n ∷ ns) o h = (one l label x y m n o (h .0), all-one l label x y ms ns o (h .1))
 
-    event : (l : Line) (ms : List (Note S)) (ns : List (Note S′)) (ev : Event) → Ok l ev → Notes ms ns → Notes (controlEvent v ms ev) (controlEvent w ns ev)
+    event : (l : Line) (ms : List (Note S)) (ns : List (Note S′)) (ev : Event) → Ok l ev → NotesAs R ms ns → NotesAs R (controlEvent v ms ev) (controlEvent w ns ev)
     event l ms ns (Instr label name d) o h = h
     event l ms ns (Control label x y) o h = all-one l label x y ms ns o h
     event l ms ns End o h = h
     event l ms ns (Tempo d) o h = h
 
-    controls : (ls : List Line) (ms : List (Note S)) (ns : List (Note S′)) → AllOk ls → Notes ms ns → Notes (controlled v ms ls) (controlled w ns ls)
+    controls : (ls : List Line) (ms : List (Note S)) (ns : List (Note S′)) → AllOk ls → NotesAs R ms ns → NotesAs R (controlled v ms ls) (controlled w ns ls)
     unfolding controlled fold
     controls [] ms ns o h = h
     controls (l ∷ ls) ms ns o h = controls ls (controlEvent v ms (l .event)) (controlEvent w ns (l .event)) (o .1) (event l ms ns (l .event) (o .0) h)
@@ -246,8 +228,8 @@ module _ {S S′ : Type 0} (R : S → S′ → Type 0) (Ok : Line → Event → 
 
     -- ---- step 5
 
-    runs : (ms : List (Note S)) (ns : List (Note S′)) (mix : List Float) → Notes ms ns
-        → Notes (runFrom v ms mix .notes) (runFrom w ns mix .notes) × (runFrom v ms mix .mix ≡ runFrom w ns mix .mix)
+    runs : (ms : List (Note S)) (ns : List (Note S′)) (mix : List Float) → NotesAs R ms ns
+        → NotesAs R (runFrom v ms mix .notes) (runFrom w ns mix .notes) × (runFrom v ms mix .mix ≡ runFrom w ns mix .mix)
     unfolding runFrom
     runs [] [] mix h = (tt, refl)
     runs [] (n ∷ ns) mix h = absurd h
@@ -258,7 +240,7 @@ module _ {S S′ : Type 0} (R : S → S′ → Type 0) (Ok : Line → Event → 
         let e = a .mix (m .state) (n .state) mix (g .state) in (
           (
             record { labelled = g .labelled; label = g .label; endless = g .endless; end = g .end; priority = g .priority; keyed = g .keyed; channel = g .channel; key = g .key; released = g .released; state = a .run (m .state) (n .state) mix (g .state) },
-            subst (λ (z : List Float). Notes (runFrom v ms z .notes) (runFrom w ns (w .run (n .state) mix .mix) .notes)) (sym e) (r .0),
+            subst (λ (z : List Float). NotesAs R (runFrom v ms z .notes) (runFrom w ns (w .run (n .state) mix .mix) .notes)) (sym e) (r .0),
           ),
           ap (λ (z : List Float). runFrom v ms z .mix) e ∙ r .1,
         )
@@ -268,12 +250,24 @@ module _ {S S′ : Type 0} (R : S → S′ → Type 0) (Ok : Line → Event → 
     record Cores (c : Holds S) (d : Holds S′) : Type 0 where
       lines : c .waits ≡ d .waits
       messages : c .messages ≡ d .messages
-      notes : Notes (c .plays .notes) (d .plays .notes)
+      notes : NotesAs R (c .plays .notes) (d .plays .notes)
       position : c .plays .position ≡ d .plays .position
       tempo : c .plays .tempo ≡ d .plays .tempo
       missed : c .plays .counts .missed ≡ d .plays .counts .missed
       ended : c .plays .ended ≡ d .plays .ended
       ok : AllOk (c .waits)
+
+    alike : (c : Holds S) (d : Holds S′) → Cores c d → HoldsAs R c d
+    alike c d g =
+        record {
+          waits = g .lines;
+          messages = g .messages;
+          notes = g .notes;
+          position = g .position;
+          tempo = g .tempo;
+          counts = λ j. record { missed = g .missed j };
+          ended = g .ended;
+        }
 
     module _ (q : Settings) (c : Holds S) (d : Holds S′) (h : Cores c d) where
       due-same : dueOf c ≡ dueOf d
@@ -305,7 +299,7 @@ module _ {S S′ : Type 0} (R : S → S′ → Type 0) (Ok : Line → Event → 
           (record { notes = controlled w (t .notes) (dueOf c .lines); missed = t .missed })
           (record { notes = controls (dueOf c .lines) (s .notes) (t .notes) due-ok (begun .notes); missed = begun .missed }))
 
-      band : Notes (bandOf v q (dueOf c) (c .plays) .notes) (bandOf w q (dueOf d) (d .plays) .notes) × (bandOf v q (dueOf c) (c .plays) .mix ≡ bandOf w q (dueOf d) (d .plays) .mix)
+      band : NotesAs R (bandOf v q (dueOf c) (c .plays) .notes) (bandOf w q (dueOf d) (d .plays) .notes) × (bandOf v q (dueOf c) (c .plays) .mix ≡ bandOf w q (dueOf d) (d .plays) .mix)
       unfolding bandOf runAll
       band =
           runs (soundsOf v q (dueOf c) (c .plays) .notes) (soundsOf w q (dueOf d) (d .plays) .notes) (replicate samples (ofBits binary32 0)) (sounding .notes)
@@ -334,7 +328,7 @@ module _ {S S′ : Type 0} (R : S → S′ → Type 0) (Ok : Line → Event → 
           record {
             lines = λ j. keep (λ (l : Line). not (isDue (h .position j) l)) (h .lines j);
             messages = refl;
-            notes = subst (λ (p : ℕ). Notes (keep (goesOn (c .plays .position)) (bandOf v q (dueOf c) (c .plays) .notes)) (keep (goesOn p) (bandOf w q (dueOf d) (d .plays) .notes))) (h .position)
+            notes = subst (λ (p : ℕ). NotesAs R (keep (goesOn (c .plays .position)) (bandOf v q (dueOf c) (c .plays) .notes)) (keep (goesOn p) (bandOf w q (dueOf d) (d .plays) .notes))) (h .position)
                 (kept (c .plays .position) (bandOf v q (dueOf c) (c .plays) .notes) (bandOf w q (dueOf d) (d .plays) .notes) (band .0));
             position = λ j. h .position j + cycleIn (lastTempo (h .tempo j) (due-same j .lines));
             tempo = λ j. lastTempo (h .tempo j) (due-same j .lines);
@@ -436,6 +430,10 @@ module _ {S S′ : Type 0} (R : S → S′ → Type 0) (Ok : Line → Event → 
         past ms o =
             all-moments ms (unbegun (settings 0)) (unbegun (settings 0)) o
             (record { holds = record { lines = refl; messages = refl; notes = tt; position = refl; tempo = refl; missed = refl; ended = refl; ok = tt }; reached = refl })
+
+        pub past-related : (ms : List (Moment P)) → AllOk (allTaken ms)
+            → HoldsAs R (historyOf v settings ms .holds) (historyOf w settings ms .holds) × (historyOf v settings ms .reached ≡ historyOf w settings ms .reached)
+        past-related ms o = let p = past ms o in (alike (historyOf v settings ms .holds) (historyOf w settings ms .holds) (p .holds), p .reached)
 
         pub past-block-related : (q : Settings) (ms : List (Moment P)) → AllOk (allTaken ms)
             → blockOf v q (dueOf (historyOf v settings ms .holds)) (historyOf v settings ms .holds .plays)

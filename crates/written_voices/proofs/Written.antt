@@ -12,17 +12,15 @@ use Rattle.laws.proofs.Choice.{both-true}
 use Rattle.syntax.specs.Tree.{Instrument, importsKind}
 use Rattle.syntax.specs.Names.{Named, namesOf, symbols, has, apart, distinct, namesKept, eachKept, titleOf, nameRules, known, named, namedBy}
 use Rattle.float32.specs.Builtins.{zeroF}
-use Rattle.kept_voices.specs.Voices as by
-use Rattle.voices.specs.Tree.{instrumentOf, silent, bodyOf, treeVoices, noSymbol, setOf}
-use Rattle.meaning.specs.Placed as placed
+use Rattle.voices.specs.Tree.{instrumentOf, silent, treeVoices}
 use Rattle.voices.specs.Claims.{imported}
 use Rattle.voices.proofs.Lines.{control-names}
 use Rattle.meaning.specs.Meaning.{Memory, set, importsIn, control, birth, cycle}
 use Rattle.meaning.specs.Translation.{Stands}
 use Rattle.meaning.proofs.Translation.{birth-agrees, cycle-agrees}
 use Rattle.syntax.proofs.Places.{kept, index, place-is}
-use Rattle.written_voices.specs.Voices.{Held, writtenVoices, Fits, EveryPiece, EveryPast}
-use Rattle.written_voices.proofs.Related.{Related, blocks-related, answers-related, missed-related, position-related, past-block-related}
+use Rattle.written_voices.specs.Voices.{writtenVoices, Fits, HeldAs, EveryPiece, EveryPast}
+use Rattle.written_voices.proofs.Related.{Related, blocks-related, answers-related, missed-related, position-related, past-related, past-block-related}
 
 -- ---- each name once
 
@@ -151,41 +149,37 @@ each-found (x ∷ is) name e =
     go true h g = h
     go false h g = g
 
-record Holds (is : List Instrument) (s : by.Held) (t : Held) : Type 0 where
-  same : s .instrument ≡ t .instrument
-  values : Stands (namesOf (instrumentOf is (s .instrument))) (s .values) (t .memory .values)
-
 born : (is : List Instrument) → eachKept is ≡ true → (name : ℕ) (xs : List Float)
     → Stands (namesOf (instrumentOf is name)) (treeVoices is .birth name xs .values) (birth (instrumentOf is name) xs .memory .values)
 unfolding treeVoices
 born is e name xs = birth-agrees (instrumentOf is name) xs (each-found is name e)
 
-related : (is : List Instrument) → eachKept is ≡ true → Related (Holds is) (Fits is) (treeVoices is) (writtenVoices is)
+related : (is : List Instrument) → eachKept is ≡ true → Related (HeldAs is) (Fits is) (treeVoices is) (writtenVoices is)
 unfolding treeVoices writtenVoices
 related is e =
     record {
-      birth = λ name xs. record { same = refl; values = born is e name xs };
+      birth = λ name xs. record { instrument = refl; values = born is e name xs };
       control = λ l label x y s t o h.
           let k = control-names is x y s o (h .values .size) in
           record {
-            same = h .same;
+            instrument = h .instrument;
             values =
                 subst (λ (vs : List Float). Stands (namesOf (instrumentOf is (s .instrument))) vs (control (instrumentOf is (t .instrument)) x y (t .memory) .values)) (sym k)
-                (subst (λ (j : ℕ). Stands (namesOf (instrumentOf is (s .instrument))) (imported x y (namesOf (instrumentOf is (s .instrument))) (s .values)) (control (instrumentOf is j) x y (t .memory) .values)) (h .same)
+                (subst (λ (j : ℕ). Stands (namesOf (instrumentOf is (s .instrument))) (imported x y (namesOf (instrumentOf is (s .instrument))) (s .values)) (control (instrumentOf is j) x y (t .memory) .values)) (h .instrument)
                 (control-stands (instrumentOf is (s .instrument)) (s .values) (t .memory) x y (each-found is (s .instrument) e) (h .values)));
           };
       run = λ s t mix h.
           let c = cycle-agrees (instrumentOf is (s .instrument)) (s .values) mix (t .memory) (each-found is (s .instrument) e) (h .values) in
           record {
-            same = h .same;
-            values = subst (λ (j : ℕ). Stands (namesOf (instrumentOf is (s .instrument))) (treeVoices is .run s mix .state .values) (cycle (instrumentOf is j) (t .memory) mix .memory .values)) (h .same) (c .0);
+            instrument = h .instrument;
+            values = subst (λ (j : ℕ). Stands (namesOf (instrumentOf is (s .instrument))) (treeVoices is .run s mix .state .values) (cycle (instrumentOf is j) (t .memory) mix .memory .values)) (h .instrument) (c .0);
           };
       mix = λ s t mix h.
           let c = cycle-agrees (instrumentOf is (s .instrument)) (s .values) mix (t .memory) (each-found is (s .instrument) e) (h .values) in
-          c .1 ∙ ap (λ (j : ℕ). cycle (instrumentOf is j) (t .memory) mix .mix) (h .same);
+          c .1 ∙ ap (λ (j : ℕ). cycle (instrumentOf is j) (t .memory) mix .mix) (h .instrument);
     }
 
-named-related : (is : List Instrument) → nameRules is ≡ true → Related (Holds is) (Fits is) (treeVoices is) (writtenVoices is)
+named-related : (is : List Instrument) → nameRules is ≡ true → Related (HeldAs is) (Fits is) (treeVoices is) (writtenVoices is)
 named-related is e =
     related is (both-true (distinct (map titleOf is)) (eachKept is) (both-true (leb (length is) 8) (distinct (map titleOf is) && eachKept is) e .1) .1)
 
@@ -193,11 +187,14 @@ pub every-piece : EveryPiece
 every-piece is settings ls n e o =
     let r = named-related is e in
     record {
-      answers = answers-related (Holds is) (Fits is) r settings ls n o;
-      blocks = blocks-related (Holds is) (Fits is) r settings ls n o;
-      position = position-related (Holds is) (Fits is) r settings ls n o;
-      missed = missed-related (Holds is) (Fits is) r settings ls n o;
+      answers = answers-related (HeldAs is) (Fits is) r settings ls n o;
+      blocks = blocks-related (HeldAs is) (Fits is) r settings ls n o;
+      position = position-related (HeldAs is) (Fits is) r settings ls n o;
+      missed = missed-related (HeldAs is) (Fits is) r settings ls n o;
     }
 
 pub every-past : EveryPast
-every-past P is settings s ms e o = past-block-related (Holds is) (Fits is) (named-related is e) settings s ms o
+every-past P is settings ms e o =
+    let r = named-related is e in
+    let p = past-related (HeldAs is) (Fits is) r settings ms o in
+    record { holds = p .0; reached = p .1; block = λ s. past-block-related (HeldAs is) (Fits is) r settings s ms o }
