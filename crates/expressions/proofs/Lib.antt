@@ -6,5 +6,4 @@ pub mod Complete
 pub mod Sound
 pub mod Unique
 pub mod Runs
-pub mod Ways
 pub mod Examples

@@ -106,6 +106,14 @@ runs-sign ts s (Next at out) {m = m} e = go (signL (drop at ts) s) refl e
         done at out (at + 1) [] refl (rw (f, drop-one ts at)) (omega arith) (q ∙ ap (λ z. Next (at + 1) z) (omega arith)) refl
     go false f q = refused at out [] refl (rw f) q refl
 
+-- nothing more is read
+pub stays : {ts : List Token} {f : List Token → Res} {k at out : ℕ} {g : Got} {m : Areas} → Ready ts k g m → g ≡ Next at out
+    → f (drop at ts) ≡ ok [] (drop at ts) → Runs ts f g m (Next at out) m
+stays (gone e) q x = let z : _≡_ {A = ℕ} 0 1 = cc in absurd (omega arith)
+stays {at = at} {out = out} (come p o e le r) q x =
+    let y : p ≡ at = cc in
+    done at out at [] q x (omega arith) (ap (Next at) (omega arith)) refl
+
 took-ok : {P : List Ins → List Token → Type 0} {c : List Ins} {r : List Token} → All P (ok c r) → P c r
 took-ok (some h) = h
 

@@ -1,16 +1,15 @@
-// The expression reader: from a place among the tokens to postfix code, by precedence climbing.
+// What a token does in an expression, a sign that must be there, and one instruction more: what the reading code is made of.
 use tokens::Token;
 ghost use mathlib.Core.Path.{_≡_};
 ghost use lib.ListN.{drop};
 ghost use Rattle.tokens.specs.Token.{toks};
 ghost use Rattle.expressions.specs.Roles.{headOf, tailOf, isSign, headL, tailL, signL};
-ghost use Rattle.expressions.specs.Reader.{reader, lastly};
-ghost use Rattle.expressions.specs.Areas.{areas, storedAt, oneMore, passed, Place, Ready, Runs};
+ghost use Rattle.expressions.specs.Areas.{areas, storedAt, oneMore, passed, Place};
 
 // The levels of operators, loosest first: ? : is of level 0, and ! and unary - are tighter than all with two sides.
 pub const LOOSEST: u8 = 0;
 
-const EITHER: u8 = 1;
+pub const EITHER: u8 = 1;
 
 const BOTH: u8 = 2;
 
@@ -20,9 +19,9 @@ const ORDER: u8 = 4;
 
 const SUM: u8 = 5;
 
-const PRODUCT: u8 = 6;
+pub const PRODUCT: u8 = 6;
 
-const TIGHTEST: u8 = 7;
+pub const TIGHTEST: u8 = 7;
 
 // What a token may start: a number or a name is pushed.
 pub enum Head {
@@ -175,176 +174,4 @@ pub fn emit(
     args[out] = arg;
     vals[out] = val;
     Got::Next(at, out + 1)
-}
-
-// An operand, and the operators of level `min` and tighter that follow it.
-pub fn expr(
-    kinds: &[u8],
-    words: &[u32],
-    reals: &[f32],
-    got: Got,
-    min: u8,
-    ops: &mut [u8],
-    args: &mut [u16],
-    vals: &mut [f32],
-) -> Got
-    requires { ⌜ Ready (toks (now kinds) (now words) (now reals)) 0 got (areas (now ops) (now args) (now vals)) ⌝ }
-    ensures { λ r. ⌜ Runs (toks (now (kinds .entry)) (now (words .entry)) (now (reals .entry))) (reader .expr min) got (areas (now (ops .entry)) (now (args .entry)) (now (vals .entry))) r (areas (now (ops .exit)) (now (args .exit)) (now (vals .exit))) ⌝ }
-{
-    let Got::Next(at, out) = got else {
-        return Got::Refused;
-    };
-    match head_at(kinds, words, reals, at) {
-        Head::Push(op, arg, val) => {
-            let a = emit(ops, args, vals, Got::Next(at + 1, out), op, arg, val);
-            more(kinds, words, reals, a, min, ops, args, vals)
-        }
-        Head::Unary(op) => {
-            let a = expr(
-                kinds,
-                words,
-                reals,
-                Got::Next(at + 1, out),
-                TIGHTEST,
-                ops,
-                args,
-                vals,
-            );
-            let b = emit(ops, args, vals, a, op, 0, 0.0);
-            more(kinds, words, reals, b, min, ops, args, vals)
-        }
-        Head::Open => {
-            let a = expr(
-                kinds,
-                words,
-                reals,
-                Got::Next(at + 1, out),
-                LOOSEST,
-                ops,
-                args,
-                vals,
-            );
-            let b = pass(kinds, words, reals, a, signs::ROUND_CLOSE);
-            more(kinds, words, reals, b, min, ops, args, vals)
-        }
-        Head::Call(op) => {
-            let a = last(
-                kinds,
-                words,
-                reals,
-                Got::Next(at + 1, out),
-                signs::ROUND_OPEN,
-                op,
-                ops,
-                args,
-                vals,
-            );
-            more(kinds, words, reals, a, min, ops, args, vals)
-        }
-        Head::Call2(op) => {
-            let a = pass(
-                kinds,
-                words,
-                reals,
-                Got::Next(at + 1, out),
-                signs::ROUND_OPEN,
-            );
-            let b = expr(kinds, words, reals, a, LOOSEST, ops, args, vals);
-            let c = last(kinds, words, reals, b, signs::COMMA, op, ops, args, vals);
-            more(kinds, words, reals, c, min, ops, args, vals)
-        }
-        Head::Bad => Got::Refused,
-    }
-}
-
-// The sign before the last argument of a call, that argument, its bracket, and the call's operation.
-fn last(
-    kinds: &[u8],
-    words: &[u32],
-    reals: &[f32],
-    got: Got,
-    s: u8,
-    op: u8,
-    ops: &mut [u8],
-    args: &mut [u16],
-    vals: &mut [f32],
-) -> Got
-    requires { ⌜ Ready (toks (now kinds) (now words) (now reals)) 0 got (areas (now ops) (now args) (now vals)) ⌝ }
-    ensures { λ r. ⌜ Runs (toks (now (kinds .entry)) (now (words .entry)) (now (reals .entry))) (lastly reader s op) got (areas (now (ops .entry)) (now (args .entry)) (now (vals .entry))) r (areas (now (ops .exit)) (now (args .exit)) (now (vals .exit))) ⌝ }
-{
-    let Got::Next(at, out) = pass(kinds, words, reals, got, s) else {
-        return Got::Refused;
-    };
-    let a = expr(
-        kinds,
-        words,
-        reals,
-        Got::Next(at, out),
-        LOOSEST,
-        ops,
-        args,
-        vals,
-    );
-    let b = pass(kinds, words, reals, a, signs::ROUND_CLOSE);
-    emit(ops, args, vals, b, op, 0, 0.0)
-}
-
-// The operators of level `min` and tighter that follow an operand, with their right sides.
-fn more(
-    kinds: &[u8],
-    words: &[u32],
-    reals: &[f32],
-    got: Got,
-    min: u8,
-    ops: &mut [u8],
-    args: &mut [u16],
-    vals: &mut [f32],
-) -> Got
-    requires { ⌜ Ready (toks (now kinds) (now words) (now reals)) 0 got (areas (now ops) (now args) (now vals)) ⌝ }
-    ensures { λ r. ⌜ Runs (toks (now (kinds .entry)) (now (words .entry)) (now (reals .entry))) (reader .more min) got (areas (now (ops .entry)) (now (args .entry)) (now (vals .entry))) r (areas (now (ops .exit)) (now (args .exit)) (now (vals .exit))) ⌝ }
-{
-    let Got::Next(at, out) = got else {
-        return Got::Refused;
-    };
-    match tail_at(kinds, words, reals, at) {
-        Tail::Binary(op, level) => {
-            if min <= level {
-                let a = expr(
-                    kinds,
-                    words,
-                    reals,
-                    Got::Next(at + 1, out),
-                    level + 1,
-                    ops,
-                    args,
-                    vals,
-                );
-                let b = emit(ops, args, vals, a, op, 0, 0.0);
-                more(kinds, words, reals, b, min, ops, args, vals)
-            } else {
-                got
-            }
-        }
-        Tail::Question => {
-            if min == LOOSEST {
-                let a = expr(
-                    kinds,
-                    words,
-                    reals,
-                    Got::Next(at + 1, out),
-                    LOOSEST,
-                    ops,
-                    args,
-                    vals,
-                );
-                let b = pass(kinds, words, reals, a, signs::COLON);
-                let c = expr(kinds, words, reals, b, LOOSEST, ops, args, vals);
-                let d = emit(ops, args, vals, c, signs::QUESTION, 0, 0.0);
-                more(kinds, words, reals, d, min, ops, args, vals)
-            } else {
-                got
-            }
-        }
-        Tail::Stop => got,
-    }
 }

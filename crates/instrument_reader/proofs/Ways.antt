@@ -15,8 +15,7 @@ use Rattle.expressions.specs.Reader.{Res, ok, emit}
 use Rattle.expressions.specs.Areas.{Areas, left, Ready, gone, Runs, refused}
 use Rattle.expressions.proofs.Laws.{All}
 use Rattle.expressions.proofs.Moves.{sign-in}
-use Rattle.expressions.proofs.Runs.{runs-seq, runs-as, runs-after, Past, past-start}
-use Rattle.expressions.proofs.Ways.{stays}
+use Rattle.expressions.proofs.Runs.{runs-seq, runs-as, runs-after, stays, Past, past-start}
 use Rattle.grammar.specs.declared.Lead.{Lead}
 use Rattle.grammar.specs.declared.Lead.the-variants.{Kind, Imports, Stop}
 use Rattle.grammar.specs.declared.Word.{Word}

@@ -13,8 +13,7 @@ use Rattle.expressions.specs.Roles.{signL}
 use Rattle.expressions.specs.Reader.{Res, seq, sign, emit, reader}
 use Rattle.expressions.specs.Areas.{Areas, left, Ready, gone, come, Runs}
 use Rattle.expressions.proofs.Laws.{All, All-weaken, reader-bounded}
-use Rattle.expressions.proofs.Runs.{runs-as, runs-after, ready-runs, Past, past-start}
-use Rattle.expressions.proofs.Ways.{stays}
+use Rattle.expressions.proofs.Runs.{runs-as, runs-after, stays, ready-runs, Past, past-start}
 use Rattle.grammar.specs.declared.Start.{Start}
 use Rattle.grammar.specs.declared.Start.the-variants.{Name, Output, If, Stop}
 use Rattle.grammar.specs.Starts.{startL}

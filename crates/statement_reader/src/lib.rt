@@ -20,7 +20,7 @@ fn set_to(
     ensures { λ r. ⌜ Runs (toks (now (kinds .entry)) (now (words .entry)) (now (reals .entry))) (setTo n) got (areas (now (ops .entry)) (now (args .entry)) (now (vals .entry))) r (areas (now (ops .exit)) (now (args .exit)) (now (vals .exit))) ⌝ }
 {
     let a = expressions::pass(kinds, words, reals, got, signs::BECOMES);
-    let b = expressions::expr(
+    let b = expression_reader::expr(
         kinds,
         words,
         reals,
@@ -50,7 +50,7 @@ fn bracketed(
     ensures { λ r. ⌜ Runs (toks (now (kinds .entry)) (now (words .entry)) (now (reals .entry))) (bracketed s op) got (areas (now (ops .entry)) (now (args .entry)) (now (vals .entry))) r (areas (now (ops .exit)) (now (args .exit)) (now (vals .exit))) ⌝ }
 {
     let a = expressions::pass(kinds, words, reals, got, signs::ROUND_OPEN);
-    let b = expressions::expr(
+    let b = expression_reader::expr(
         kinds,
         words,
         reals,

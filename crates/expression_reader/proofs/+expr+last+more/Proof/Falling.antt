@@ -2,14 +2,14 @@
 use Prim.Native.Nat.{ℕ, _<_}
 use borrow.Fn.Kinds.{In}
 use borrow.Fn.PlainCycle.{Measures, is, falls, and}
-use Rattle.expressions.proofs.expr.Reads as expr
-use Rattle.expressions.proofs.expr.Kinds as expr-kinds
-use Rattle.expressions.proofs.last.Reads as last
-use Rattle.expressions.proofs.last.Kinds as last-kinds
-use Rattle.expressions.proofs.more.Reads as more
-use Rattle.expressions.proofs.more.Kinds as more-kinds
+use Rattle.expression_reader.proofs.expr.Reads as expr
+use Rattle.expression_reader.proofs.expr.Kinds as expr-kinds
+use Rattle.expression_reader.proofs.last.Reads as last
+use Rattle.expression_reader.proofs.last.Kinds as last-kinds
+use Rattle.expression_reader.proofs.more.Reads as more
+use Rattle.expression_reader.proofs.more.Kinds as more-kinds
 use Rattle.tokens.specs.Token.{toks}
 use Rattle.expressions.specs.Areas.{left}
 
 abbrev pub μ-expr : Measures 6 expr-kinds.ps ℕ
 μ-expr κs a = left (toks (a .0 .now) (a .1 .0 .now) (a .1 .1 .0 .now)) (a .1 .1 .1 .0)

@@ -4,28 +4,28 @@ mod Falling
 mod OfExpr
 mod OfMore
 use Prim.Native.Nat.{ℕ, _+_}
-use Rattle.expressions.proofs.expr.Reads as expr
-use Rattle.expressions.proofs.+expr+last+more.Lts-expr as expr-lts
-use Rattle.expressions.proofs.last.Reads as last
-use Rattle.expressions.proofs.+expr+last+more.Lts-last as last-lts
-use Rattle.expressions.proofs.more.Reads as more
-use Rattle.expressions.proofs.+expr+last+more.Lts-more as more-lts
+use Rattle.expression_reader.proofs.expr.Reads as expr
+use Rattle.expression_reader.proofs.+expr+last+more.Lts-expr as expr-lts
+use Rattle.expression_reader.proofs.last.Reads as last
+use Rattle.expression_reader.proofs.+expr+last+more.Lts-last as last-lts
+use Rattle.expression_reader.proofs.more.Reads as more
+use Rattle.expression_reader.proofs.+expr+last+more.Lts-more as more-lts
 use Rattle.expressions.proofs.emit.Reads as emit-reads
 use Rattle.expressions.proofs.pass.Reads as pass-reads
-use Rattle.expressions.proofs.+expr+last+more.{statement}
-use Rattle.expressions.proofs.+expr+last+more.Tie.{close}
+use Rattle.expression_reader.proofs.+expr+last+more.{statement}
+use Rattle.expression_reader.proofs.+expr+last+more.Tie.{close}
 use borrow.Author.Needs.{needs}
 use mathlib.Core.Path.{refl, sym, _∙_}
 use Rattle.tokens.specs.Token.{toks}
 use Rattle.syntax.specs.Program.{ins}
 use Rattle.expressions.specs.Reader.{reader, seq, sign}
 use Rattle.expressions.specs.Reader as Reader
 use Rattle.expressions.specs.Areas.{gone}
 use Rattle.expressions.proofs.Runs.{runs-seq, runs-sign, runs-emit, past-ready, past-place, past-sign, past-passed}
-use Rattle.expressions.proofs.Ways.{past-expr}
-use Rattle.expressions.proofs.+expr+last+more.Proof.Falling.{μ-expr, expr-at, expr-below, μ-last, last-at, μ-more, more-at}
-use Rattle.expressions.proofs.+expr+last+more.Proof.OfExpr.{K-expr, expr-enum-known-got, expr-enum-told, expr-returns, expr-head-at-requires, expr-enum-known-op, expr-add-t34, expr-emit-requires, expr-more-requires, expr-enum-known-op-2, expr-add-t42, expr-expr-requires, expr-emit-requires-2, expr-more-requires-2, expr-enum-told-2, expr-add-t62, expr-expr-requires-2, expr-pass-requires, expr-more-requires-3, expr-enum-known-op-3, expr-add-t76, expr-last-requires, expr-more-requires-4, expr-enum-known-op-4, expr-add-t90, expr-pass-requires-2, expr-expr-requires-3, expr-last-requires-2, expr-more-requires-5, expr-enum-told-3, expr-same-length, expr-same-length-2, expr-same-length-3, expr-returns-2, expr-same-length-4, expr-same-length-5, expr-same-length-6, expr-returns-3, expr-same-length-7, expr-same-length-8, expr-same-length-9, expr-returns-4, expr-same-length-10, expr-same-length-11, expr-same-length-12, expr-returns-5, expr-same-length-13, expr-same-length-14, expr-same-length-15, expr-returns-6, expr-returns-7}
-use Rattle.expressions.proofs.+expr+last+more.Proof.OfMore.{K-more, more-enum-known-got, more-enum-told, more-returns, more-tail-at-requires, more-enum-known-op, more-add-t23, more-add-expr, more-expr-requires, more-emit-requires, more-more-requires, more-enum-told-2, more-add-t46, more-expr-requires-2, more-pass-requires, more-expr-requires-3, more-emit-requires-2, more-more-requires-2, more-enum-told-3, more-same-length, more-same-length-2, more-same-length-3, more-returns-2, more-returns-3, more-same-length-4, more-same-length-5, more-same-length-6, more-returns-4, more-returns-5, more-returns-6}
+use Rattle.expression_reader.proofs.Ways.{past-expr}
+use Rattle.expression_reader.proofs.+expr+last+more.Proof.Falling.{μ-expr, expr-at, expr-below, μ-last, last-at, μ-more, more-at}
+use Rattle.expression_reader.proofs.+expr+last+more.Proof.OfExpr.{K-expr, expr-enum-known-got, expr-enum-told, expr-returns, expr-head-at-requires, expr-enum-known-op, expr-add-t34, expr-emit-requires, expr-more-requires, expr-enum-known-op-2, expr-add-t42, expr-expr-requires, expr-emit-requires-2, expr-more-requires-2, expr-enum-told-2, expr-add-t62, expr-expr-requires-2, expr-pass-requires, expr-more-requires-3, expr-enum-known-op-3, expr-add-t76, expr-last-requires, expr-more-requires-4, expr-enum-known-op-4, expr-add-t90, expr-pass-requires-2, expr-expr-requires-3, expr-last-requires-2, expr-more-requires-5, expr-enum-told-3, expr-same-length, expr-same-length-2, expr-same-length-3, expr-returns-2, expr-same-length-4, expr-same-length-5, expr-same-length-6, expr-returns-3, expr-same-length-7, expr-same-length-8, expr-same-length-9, expr-returns-4, expr-same-length-10, expr-same-length-11, expr-same-length-12, expr-returns-5, expr-same-length-13, expr-same-length-14, expr-same-length-15, expr-returns-6, expr-returns-7}
+use Rattle.expression_reader.proofs.+expr+last+more.Proof.OfMore.{K-more, more-enum-known-got, more-enum-told, more-returns, more-tail-at-requires, more-enum-known-op, more-add-t23, more-add-expr, more-expr-requires, more-emit-requires, more-more-requires, more-enum-told-2, more-add-t46, more-expr-requires-2, more-pass-requires, more-expr-requires-3, more-emit-requires-2, more-more-requires-2, more-enum-told-3, more-same-length, more-same-length-2, more-same-length-3, more-returns-2, more-returns-3, more-same-length-4, more-same-length-5, more-same-length-6, more-returns-4, more-returns-5, more-returns-6}
 
 module _ (t : ℕ) where
   abbrev K-last : last-lts.Claims

@@ -1,25 +1,25 @@
 -- What is left to show of `expr`.
 use Prim.Native.Nat.{ℕ}
-use Rattle.expressions.proofs.expr.Reads as expr
-use Rattle.expressions.proofs.+expr+last+more.Lts-expr as expr-lts
-use Rattle.expressions.proofs.last.Reads as last
-use Rattle.expressions.proofs.more.Reads as more
+use Rattle.expression_reader.proofs.expr.Reads as expr
+use Rattle.expression_reader.proofs.+expr+last+more.Lts-expr as expr-lts
+use Rattle.expression_reader.proofs.last.Reads as last
+use Rattle.expression_reader.proofs.more.Reads as more
 use Rattle.expressions.proofs.emit.Reads as emit-reads
 use Rattle.expressions.proofs.head_at.Reads as head-at-reads
 use Rattle.expressions.proofs.pass.Reads as pass-reads
 use borrow.Author.Needs.{needs}
 use native.Mathlib.Omega.{arith}
 use mathlib.Core.Path.{refl}
 use Rattle.tokens.specs.Token.{toks}
 use Rattle.syntax.specs.Program.{ins}
 use Rattle.expressions.specs.declared.Head.the-variants.{Push, Unary, Open, Call, Call2}
 use Rattle.expressions.specs.Reader.{reader, seq, sign, lastly}
 use Rattle.expressions.specs.Reader as Reader
 use Rattle.expressions.specs.Areas.{gone}
 use Rattle.expressions.proofs.Toks.{length-toks}
 use Rattle.expressions.proofs.Runs.{runs-seq, runs-sign, runs-emit, past-ready, past-place, past-sign, past-emit}
-use Rattle.expressions.proofs.Ways.{head-in, head-past, past-expr, past-last, expr-as, expr-bad}
-use Rattle.expressions.proofs.+expr+last+more.Proof.Falling.{expr-at, expr-below, last-below, more-below}
+use Rattle.expression_reader.proofs.Ways.{head-in, head-past, past-expr, past-last, expr-as, expr-bad}
+use Rattle.expression_reader.proofs.+expr+last+more.Proof.Falling.{expr-at, expr-below, last-below, more-below}
 
 module _ (t : ℕ) where
   abbrev pub K-expr : expr-lts.Claims

@@ -1,24 +1,24 @@
 -- What is left to show of `more`.
 use Prim.Native.Nat.{ℕ, _+_}
-use Rattle.expressions.proofs.expr.Reads as expr
-use Rattle.expressions.proofs.more.Reads as more
-use Rattle.expressions.proofs.+expr+last+more.Lts-more as more-lts
+use Rattle.expression_reader.proofs.expr.Reads as expr
+use Rattle.expression_reader.proofs.more.Reads as more
+use Rattle.expression_reader.proofs.+expr+last+more.Lts-more as more-lts
 use Rattle.expressions.proofs.emit.Reads as emit-reads
 use Rattle.expressions.proofs.pass.Reads as pass-reads
 use Rattle.expressions.proofs.tail_at.Reads as tail-at-reads
 use borrow.Author.Needs.{needs}
 use native.Mathlib.Omega.{arith}
 use mathlib.Core.Path.{refl}
 use native.Mathlib.Nat.{pos-of-ne-zero}
 use Rattle.tokens.specs.Token.{toks}
 use Rattle.syntax.specs.Program.{ins, chooseOp}
 use Rattle.expressions.specs.Reader.{reader, seq, sign}
 use Rattle.expressions.specs.Reader as Reader
 use Rattle.expressions.specs.Areas.{left, gone}
 use Rattle.expressions.proofs.Toks.{length-toks}
 use Rattle.expressions.proofs.Runs.{runs-seq, runs-sign, runs-emit, past-ready, past-place, past-sign, past-emit}
-use Rattle.expressions.proofs.Ways.{tail-in, tail-small, tail-past, past-expr, more-binary, more-question, stop-binary, stop-question, stop-here}
-use Rattle.expressions.proofs.+expr+last+more.Proof.Falling.{expr-below, more-at, more-below}
+use Rattle.expression_reader.proofs.Ways.{tail-in, tail-small, tail-past, past-expr, more-binary, more-question, stop-binary, stop-question, stop-here}
+use Rattle.expression_reader.proofs.+expr+last+more.Proof.Falling.{expr-below, more-at, more-below}
 
 module _ (t : ℕ) where
   abbrev pub K-more : more-lts.Claims

@@ -2,24 +2,24 @@
 use Prim.Native.Nat.{ℕ, zero, suc, _+_, _-_, _≤_, _<_}
 use native.Mathlib.Numerals.{add-one}
 use native.Mathlib.Omega.{arith}
-use mathlib.Core.Path.{_≡_, refl, sym, ap, _∙_}
+use mathlib.Core.Path.{_≡_, refl, sym, _∙_}
 use mathlib.Core.List.{List, [], _∷_}
 use lib.ListN.{length, drop}
 use borrow.Author.Tests.{le-leb, lt-leb}
 use Rattle.tokens.specs.declared.Token.{Token}
 use Rattle.expressions.specs.declared.Got.{Got}
 use Rattle.expressions.specs.declared.Got.the-variants.{Next, Refused}
 use Rattle.expressions.specs.declared.Head.{Head}
 use Rattle.expressions.specs.declared.Head.the-variants.{Push, Unary, Open, Call, Call2, Bad}
 use Rattle.expressions.specs.declared.Tail.{Tail}
 use Rattle.expressions.specs.declared.Tail.the-variants.{Binary, Question, Stop}
 use Rattle.expressions.specs.Roles.{headL, tailL}
-use Rattle.expressions.specs.Reader.{Res, ok, seq, lastly, byHead, right, parts, reader}
-use Rattle.expressions.specs.Areas.{Areas, left, Ready, gone, come, Runs, refused, done}
+use Rattle.expressions.specs.Reader.{seq, lastly, byHead, right, parts, reader}
+use Rattle.expressions.specs.Areas.{Areas, left, Ready, Runs, refused}
 use Rattle.expressions.proofs.Laws.{All-weaken, reader-bounded, expr·law, more·law, lastly-took}
 use Rattle.expressions.proofs.Tables as Tables
 use Rattle.expressions.proofs.Tables.{Tails, tails, levels}
-use Rattle.expressions.proofs.Runs.{runs-as, runs-after, Past, past-start, past-runs}
+use Rattle.expressions.proofs.Runs.{runs-as, runs-after, stays, Past, past-start, past-runs}
 
 -- ---- a token is there
 
@@ -96,13 +96,6 @@ pub expr-bad : (ts : List Token) (j at : ℕ) {out : ℕ} {g : Got} {m : Areas} 
 expr-bad ts j at q x y = let z : headL (drop at ts) ≡ Bad = sym x ∙ y in refused _ _ [] q (expr·law j (drop at ts) ∙ rw z) refl refl
 
 -- ---- what goes on after an operand
-
-pub stays : {ts : List Token} {f : List Token → Res} {k at out : ℕ} {g : Got} {m : Areas} → Ready ts k g m → g ≡ Next at out
-    → f (drop at ts) ≡ ok [] (drop at ts) → Runs ts f g m (Next at out) m
-stays (gone e) q x = let z : _≡_ {A = ℕ} 0 1 = cc in absurd (omega arith)
-stays {at = at} {out = out} (come p o e le r) q x =
-    let y : p ≡ at = cc in
-    done at out at [] q x (omega arith) (ap (Next at) (omega arith)) refl
 
 pub more-binary : (ts : List Token) (j at : ℕ) {out : ℕ} {g r : Got} {m n : Areas} {k : Tail} (o l : ℕ) → g ≡ Next at out → k ≡ tailL (drop at ts)
     → k ≡ Binary o l → j ≤ l → Runs ts (λ z. seq (right reader o (l + 1) z) (reader .more j)) (Next (at + 1) out) m r n → Runs ts (reader .more j) g m r n
