@@ -36,7 +36,8 @@ use Rattle.grammar.proofs.Complete.{complete}
 use Rattle.grammar.proofs.Sound.{Orchestrated, sound}
 use Rattle.instrument_reader.specs.Reading.{Reads, read, refused as unread}
 use Rattle.rules.specs.Formed.{opsOf, argsOf, valsOf}
-use Rattle.rules.specs.Naming.{namesPass, placesPass, placedFrom, namesAfter}
+use Rattle.name_rules.specs.Entries.{namesAfter}
+use Rattle.rules.specs.Naming.{namesPass, placesPass, placedFrom}
 use Rattle.rules.specs.Rating.{ratesPass}
 use Rattle.orchestra.specs.declared.Outcome.{Outcome}
 use Rattle.orchestra.specs.Compiled.{padded}

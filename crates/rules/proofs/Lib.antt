@@ -1,7 +1,4 @@
-mod Seeking
-mod Entering
 mod Passing
-mod Rated
 mod Declaring
 pub mod NamesLaw
 pub mod PlacesLaw

@@ -13,7 +13,8 @@ use Rattle.syntax.specs.Program.{Ins, ins, insArg, actOf, storeOp, chooseOp, ou
 use Rattle.syntax.specs.Names.{Named, namesOf, symbols, has, apart, distinct, knownIn, known, namesKept, eachKept, titleOf, nameRules}
 use Rattle.syntax.specs.declared.Act.{Act}
 use Rattle.syntax.specs.declared.Act.the-variants.{Value, Store, Output, If, Else, End, Declare, Instr}
-use Rattle.rules.specs.Naming.{lawful, namesAfter, titlesAfter, namesFrom, namesPass}
+use Rattle.name_rules.specs.Entries.{lawful, namesAfter, titlesAfter}
+use Rattle.rules.specs.Naming.{namesFrom, namesPass}
 use Rattle.syntax.specs.Program.{unaryOp, binaryOp}
 use Rattle.syntax.proofs.Operations.{unary-value, binary-value}
 use Rattle.rules.specs.Formed.{FormedKinds, FormedAll, opsOf, argsOf}

@@ -13,10 +13,12 @@ use Rattle.syntax.specs.Names.{Named}
 use Rattle.syntax.specs.declared.Act.{Act}
 use Rattle.syntax.specs.declared.Act.the-variants.{Value, Name, Store, Output, If, Else, End, Declare, Instr}
 use lib.Dec.{leb}
-use Rattle.rules.specs.Naming.{lawful, namesAfter, titlesAfter, placedName, namesFrom, placedFrom, namesPass, placesPass}
-use Rattle.rules.specs.Rating.{rates, guard, entered, ratesLawful, ratesAfter, ratesFrom, ratesPass}
-use Rattle.rules.specs.Table.{ownOf, own}
-use Rattle.rules.specs.declared.Rates.{Rates}
+use Rattle.name_rules.specs.Entries.{lawful, namesAfter, titlesAfter, placedName}
+use Rattle.rules.specs.Naming.{namesFrom, placedFrom, namesPass, placesPass}
+use Rattle.rate_rules.specs.Change.{rates, guard, entered, ratesLawful, ratesAfter}
+use Rattle.rules.specs.Rating.{ratesFrom, ratesPass}
+use Rattle.name_rules.specs.Table.{ownOf, own}
+use Rattle.rate_rules.specs.declared.Rates.{Rates}
 
 here : (l : List ℕ) (i : ℕ) → i < length l → drop i l ≡ getD l i 0 ∷ drop (i + 1) l
 here l i lt = drop-cons l i 0 lt ∙ ap (λ n. getD l i 0 ∷ drop n l) (sym (add-one i))

@@ -13,7 +13,8 @@ use Rattle.syntax.specs.Names.{Named, namesOf, symbols, distinct, known, namesK
 use Rattle.syntax.specs.Placed.{place, putIn, put, placed}
 use Rattle.syntax.specs.declared.Act.{Act}
 use Rattle.syntax.specs.declared.Act.the-variants.{Value, Store, Output, If, Else, End, Declare, Instr}
-use Rattle.rules.specs.Naming.{namesAfter, placedName, placedFrom, placesPass}
+use Rattle.name_rules.specs.Entries.{namesAfter, placedName}
+use Rattle.rules.specs.Naming.{placedFrom, placesPass}
 use Rattle.syntax.specs.Program.{unaryOp, binaryOp}
 use Rattle.syntax.proofs.Operations.{unary-value, binary-value}
 use Rattle.rules.specs.Formed.{FormedAll, opsOf, argsOf, valsOf}

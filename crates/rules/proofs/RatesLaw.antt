@@ -16,11 +16,12 @@ use Rattle.syntax.specs.Placed.{speed, speedOfKind}
 use Rattle.syntax.specs.Placed.{rateOf, rate, ratesKept, rateRules}
 use Rattle.syntax.specs.declared.Act.{Act}
 use Rattle.syntax.specs.declared.Act.the-variants.{Value, Store, Output, If, Else, End, Declare, Instr}
-use Rattle.rules.specs.Rating.{rates, entered, ratesLawful, ratesAfter, ratesFrom, ratesPass}
+use Rattle.rate_rules.specs.Change.{rates, entered, ratesLawful, ratesAfter}
+use Rattle.rules.specs.Rating.{ratesFrom, ratesPass}
 use Rattle.syntax.specs.Program.{unaryOp, binaryOp}
 use Rattle.syntax.proofs.Operations.{unary-value, binary-value}
 use Rattle.rules.specs.Formed.{FormedAll, opsOf, argsOf}
-use Rattle.rules.specs.declared.Rates.{Rates}
+use Rattle.rate_rules.specs.declared.Rates.{Rates}
 use Rattle.rules.proofs.Declaring.{declareAll, Kinds, instrument-is, kinds-of}
 use Rattle.rules.proofs.PlacesLaw.{and-left, and-right, at-most-16, each-kept}
 

@@ -1,4 +1,3 @@
 pub mod Naming
 pub mod Rating
-pub mod Table
 pub mod Formed
