@@ -150,7 +150,7 @@ fn parsed(kinds: &[u8], words: &[u32], reals: &[f32]) -> Outcome
 pub fn read(bytes: &[u8]) -> Outcome
     ensures { λ r. ⌜ r ≡ readOf (now (bytes .entry)) ⌝ }
 {
-    let t = tokens::read(bytes);
+    let t = token_reader::read(bytes);
     let a = t.answer;
     if answer::is_taken(a) {
         let count = t.count;

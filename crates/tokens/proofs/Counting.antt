@@ -7,7 +7,6 @@ use mathlib.Core.Bool.{Bool, true, false, _&&_, _||_, cond, and-true, and-false}
 use lib.Dec.{eqb, leb}
 use borrow.Author.Tests.{ne-eqb, le-leb, lt-leb}
 use Rattle.answer.specs.declared.Answer.the-variants.{Taken, BadToken, TooLarge}
-use Rattle.tokens.specs.Scanning.{more}
 use Rattle.tokens.specs.Measures.{opened, since, bracketsKept, stretchesKept}
 use Rattle.tokens.specs.Passes.{found, measure, next, closedOf}
 use Rattle.tokens.specs.declared.Measure.{Measure}
@@ -57,19 +56,6 @@ module _ (n k : ℕ) where
   pub since-more : (k ≡ 20 → ⊥) → (k ≡ 17 → ⊥) → (k ≡ 18 → ⊥) → n + 1 ≡ since n k
   unfolding since
   since-more a b c = rw (ne-eqb k 20 a, ne-eqb k 17 b, ne-eqb k 18 c) (add-one n)
-
-module _ (k : ℕ) where
-  pub more-symbol : k ≡ 0xf0 → 2 ≡ more k
-  more-symbol e = rw e
-
-  pub more-number : (k ≡ 0xf0 → ⊥) → k ≡ 0xf1 → 4 ≡ more k
-  more-number a e = rw e
-
-  pub more-whole : (k ≡ 0xf0 → ⊥) → (k ≡ 0xf1 → ⊥) → k ≡ 0xf2 → 4 ≡ more k
-  more-whole a b e = rw e
-
-  pub more-none : (k ≡ 0xf0 → ⊥) → (k ≡ 0xf1 → ⊥) → (k ≡ 0xf2 → ⊥) → 0 ≡ more k
-  more-none a b c = rw (ne-eqb k 0xf0 a, ne-eqb k 0xf1 b, ne-eqb k 0xf2 c)
 
 module _ (f : Bool) (d r : ℕ) where
   pub limits-kept : d ≤ 24 → r ≤ 128 → f ≡ (f && (leb d 24 && leb r 128))

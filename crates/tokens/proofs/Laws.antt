@@ -19,8 +19,24 @@ use Rattle.tokens.specs.Measures.{kindOf}
 use Rattle.tokens.specs.Reading.{wordOf, realOf, padded}
 use Rattle.tokens.specs.declared.Token.{Token}
 use Rattle.tokens.specs.declared.Token.the-variants.{Number, Symbol, Whole, Sign}
-use Rattle.tokens.proofs.Passing.{after-drop}
-use Rattle.tokens.proofs.Storing.{impossible, with-first, with-rest}
+
+pub impossible : {A : Type 0} → _≡_ {A = ℕ} 0 1 → A
+impossible z = absurd (omega arith)
+
+pub with-first : (u : Token) (g : Got) (t : Token) (ts : List Token) → with u g ≡ some (t ∷ ts) → u ≡ t
+with-first u none t ts e = impossible (cc)
+with-first u (some us) t ts e = cc
+
+pub with-rest : (u : Token) (g : Got) (t : Token) (ts : List Token) → with u g ≡ some (t ∷ ts) → g ≡ some ts
+with-rest u none t ts e = impossible (cc)
+with-rest u (some us) t ts e = let z : us ≡ ts = cc in ap some z
+
+pub after-drop : (n : ℕ) (bs : List ℕ) → tokensAfter n bs ≡ tokensAfter 0 (drop n bs)
+unfolding tokensAfter
+after-drop zero [] = refl
+after-drop (suc n) [] = refl
+after-drop zero (b ∷ bs) = refl
+after-drop (suc n) (b ∷ bs) = after-drop n bs
 
 and-left : (a b : Bool) → (a && b) ≡ true → a ≡ true
 and-left true b e = refl

@@ -1,7 +1,7 @@
-use Rattle.tokens.proofs.Standing.{four-is}
+use Rattle.token_reader.proofs.Standing.{four-is}
 use borrow.Author.Needs.{needs}
-use Rattle.tokens.proofs.four_at.Statement.{statement}
-use Rattle.tokens.proofs.four_at.Tie as tie
+use Rattle.token_reader.proofs.four_at.Statement.{statement}
+use Rattle.token_reader.proofs.four_at.Tie as tie
 
 pub four-at-spec : {M : Type 1} → statement M
 four-at-spec =

@@ -3,9 +3,9 @@ use Prim.Native.Nat.{_+_, _-_}
 use native.Mathlib.Omega.{arith}
 use borrow.Author.Needs.{needs}
 use lib.ListN.{length}
-use Rattle.tokens.proofs.Passing.{Inv, starts, again, ends-closed, ends-bad, ends-short}
-use Rattle.tokens.proofs.scan.Statement.{statement}
-use Rattle.tokens.proofs.scan.Tie as tie
+use Rattle.token_reader.proofs.Passing.{Inv, starts, again, ends-closed, ends-bad, ends-short}
+use Rattle.token_reader.proofs.scan.Statement.{statement}
+use Rattle.token_reader.proofs.scan.Tie as tie
 
 pub scan-spec : {M : Type 1} → statement M
 scan-spec =

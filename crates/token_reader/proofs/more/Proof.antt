@@ -1,7 +1,7 @@
 use native.Mathlib.Omega.{arith}
-use Rattle.tokens.proofs.Counting.{more-symbol, more-number, more-whole, more-none}
-use Rattle.tokens.proofs.more.Statement.{statement}
-use Rattle.tokens.proofs.more.Tie as tie
+use Rattle.token_reader.proofs.Standing.{more-symbol, more-number, more-whole, more-none}
+use Rattle.token_reader.proofs.more.Statement.{statement}
+use Rattle.token_reader.proofs.more.Tie as tie
 
 pub more-spec : {M : Type 1} → statement M
 more-spec =

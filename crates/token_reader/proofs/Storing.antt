@@ -15,17 +15,18 @@ use borrow.Author.Tests.{eqb-true, eqb-false, leb-true}
 use Rattle.answer.specs.Numbers.{numberOf}
 use Rattle.answer.specs.declared.Answer.{Answer}
 use Rattle.answer.specs.declared.Answer.the-variants.{Taken, BadToken, TooLarge}
 use Rattle.tokens.specs.Token.{zeroF}
 use Rattle.tokens.specs.Spelling.{lawful}
 use Rattle.tokens.specs.Scanning.{Got, none, some, with, more, tokensAfter, tokensOf, tokensIn}
 use Rattle.tokens.specs.Measures.{kindOf, bracketsKept, stretchesKept}
 use Rattle.tokens.specs.Passes.{standing, found, finished, start, scanned}
 use Rattle.tokens.specs.Reading.{wordOf, realOf, padded, stored, judged}
 use Rattle.tokens.specs.declared.Token.{Token}
 use Rattle.tokens.specs.declared.Token.the-variants.{Sign}
 use Rattle.tokens.specs.declared.Found.{Found}
-use Rattle.tokens.proofs.Standing.{kind-is}
-use Rattle.tokens.proofs.Passing.{left-next, left-bad, left-end, left-none}
+use Rattle.tokens.proofs.Laws.{impossible, with-first, with-rest}
+use Rattle.token_reader.proofs.Standing.{kind-is}
+use Rattle.token_reader.proofs.Passing.{left-next, left-bad, left-end, left-none}
 
 -- ---- the token that the tokens left begin with stands there
 
@@ -35,20 +36,9 @@ pub record Stands (bs : List ℕ) (at : ℕ) (t : Token) (ts : List Token) : Typ
   pub first : standing bs at ≡ t
   pub rest : tokensAfter 0 (drop (at + 1 + more (getD bs at 0)) bs) ≡ some ts
 
-pub impossible : {A : Type 0} → _≡_ {A = ℕ} 0 1 → A
-impossible z = absurd (omega arith)
-
 end-of : (b : Bool) (t : Token) (ts : List Token) → cond b (some []) none ≡ some (t ∷ ts) → _≡_ {A = ℕ} 0 1
 end-of true t ts e = cc
 end-of false t ts e = cc
-
-pub with-first : (u : Token) (g : Got) (t : Token) (ts : List Token) → with u g ≡ some (t ∷ ts) → u ≡ t
-with-first u none t ts e = impossible (cc)
-with-first u (some us) t ts e = cc
-
-pub with-rest : (u : Token) (g : Got) (t : Token) (ts : List Token) → with u g ≡ some (t ∷ ts) → g ≡ some ts
-with-rest u none t ts e = impossible (cc)
-with-rest u (some us) t ts e = let z : us ≡ ts = cc in ap some z
 
 module _ (bs : List ℕ) (at : ℕ) (t : Token) (ts : List Token) (e : tokensAfter 0 (drop at bs) ≡ some (t ∷ ts)) where
   by-law : (b : Bool) → lawful (standing bs at) ≡ b → at < length bs → (getD bs at 0 ≡ 0xff → ⊥) → Stands bs at t ts

@@ -10,21 +10,15 @@ use lib.Seq.{drop-cons, drop-drop}
 use lib.Dec.{eqb, leb}
 use borrow.Author.Tests.{eq-eqb, ne-eqb, not-true, not-false}
 use Rattle.answer.specs.declared.Answer.the-variants.{BadToken}
 use Rattle.tokens.specs.Spelling.{lawful}
 use Rattle.tokens.specs.Scanning.{Got, none, some, with, ended, more, tokensAfter}
 use Rattle.tokens.specs.Measures.{kindOf, opened, since, bracketsKept, stretchesKept}
 use Rattle.tokens.specs.Passes.{standing, found, next, closedOf, finished, start, scanned}
 use Rattle.tokens.specs.declared.Token.{Token}
 use Rattle.tokens.specs.declared.Measure.{Measure}
 use Rattle.tokens.specs.declared.Found.{Found}
-use Rattle.tokens.proofs.Standing.{kind-is}
-
-pub after-drop : (n : ℕ) (bs : List ℕ) → tokensAfter n bs ≡ tokensAfter 0 (drop n bs)
-unfolding tokensAfter
-after-drop zero [] = refl
-after-drop (suc n) [] = refl
-after-drop zero (b ∷ bs) = refl
-after-drop (suc n) (b ∷ bs) = after-drop n bs
+use Rattle.tokens.proofs.Laws.{after-drop}
+use Rattle.token_reader.proofs.Standing.{kind-is}
 
 -- ---- the tokens of the bytes left at a place
 

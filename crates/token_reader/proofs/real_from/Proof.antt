@@ -1,7 +1,7 @@
-use Rattle.tokens.proofs.Standing.{real-number, real-lost, real-none}
+use Rattle.token_reader.proofs.Standing.{real-number, real-lost, real-none}
 use borrow.Author.Needs.{needs}
-use Rattle.tokens.proofs.real_from.Statement.{statement}
-use Rattle.tokens.proofs.real_from.Tie as tie
+use Rattle.token_reader.proofs.real_from.Statement.{statement}
+use Rattle.token_reader.proofs.real_from.Tie as tie
 
 pub real-from-spec : {M : Type 1} → statement M
 real-from-spec =

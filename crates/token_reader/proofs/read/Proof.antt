@@ -1,7 +1,7 @@
-use Rattle.tokens.proofs.Whole.{read-long, read-taken, scan-taken, read-refused}
+use Rattle.token_reader.proofs.Whole.{read-long, read-taken, scan-taken, read-refused}
 use borrow.Author.Needs.{needs}
-use Rattle.tokens.proofs.read.Statement.{statement}
-use Rattle.tokens.proofs.read.Tie as tie
+use Rattle.token_reader.proofs.read.Statement.{statement}
+use Rattle.token_reader.proofs.read.Tie as tie
 
 pub read-spec : {M : Type 1} → statement M
 read-spec =

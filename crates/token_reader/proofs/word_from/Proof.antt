@@ -1,7 +1,7 @@
-use Rattle.tokens.proofs.Standing.{word-symbol, word-whole, word-none}
+use Rattle.token_reader.proofs.Standing.{word-symbol, word-whole, word-none}
 use borrow.Author.Needs.{needs}
-use Rattle.tokens.proofs.word_from.Statement.{statement}
-use Rattle.tokens.proofs.word_from.Tie as tie
+use Rattle.token_reader.proofs.word_from.Statement.{statement}
+use Rattle.token_reader.proofs.word_from.Tie as tie
 
 pub word-from-spec : {M : Type 1} → statement M
 word-from-spec =

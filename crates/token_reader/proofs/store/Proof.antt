@@ -1,9 +1,9 @@
 use Prim.Native.Nat.{_-_}
 use native.Mathlib.Omega.{arith}
 use borrow.Author.Needs.{needs}
-use Rattle.tokens.proofs.Storing.{Filled, starts, lawful-here, room-left, again, ends}
-use Rattle.tokens.proofs.store.Statement.{statement}
-use Rattle.tokens.proofs.store.Tie as tie
+use Rattle.token_reader.proofs.Storing.{Filled, starts, lawful-here, room-left, again, ends}
+use Rattle.token_reader.proofs.store.Statement.{statement}
+use Rattle.token_reader.proofs.store.Tie as tie
 
 pub store-spec : {M : Type 1} → statement M
 store-spec =

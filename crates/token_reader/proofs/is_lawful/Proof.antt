@@ -1,7 +1,7 @@
-use Rattle.tokens.proofs.Standing.{lawful-symbol, lawful-number, lawful-whole, lawful-none, lawful-sign}
+use Rattle.token_reader.proofs.Standing.{lawful-symbol, lawful-number, lawful-whole, lawful-none, lawful-sign}
 use borrow.Author.Needs.{needs}
-use Rattle.tokens.proofs.is_lawful.Statement.{statement}
-use Rattle.tokens.proofs.is_lawful.Tie as tie
+use Rattle.token_reader.proofs.is_lawful.Statement.{statement}
+use Rattle.token_reader.proofs.is_lawful.Tie as tie
 
 pub is-lawful-spec : {M : Type 1} → statement M
 is-lawful-spec =

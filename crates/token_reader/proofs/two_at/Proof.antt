@@ -1,8 +1,8 @@
 use native.Mathlib.Omega.{arith}
-use Rattle.tokens.proofs.Standing.{two-is}
+use Rattle.token_reader.proofs.Standing.{two-is}
 use borrow.Author.Needs.{needs}
-use Rattle.tokens.proofs.two_at.Statement.{statement}
-use Rattle.tokens.proofs.two_at.Tie as tie
+use Rattle.token_reader.proofs.two_at.Statement.{statement}
+use Rattle.token_reader.proofs.two_at.Tie as tie
 
 pub two-at-spec : {M : Type 1} → statement M
 two-at-spec =

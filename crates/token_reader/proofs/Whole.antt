@@ -9,13 +9,13 @@ use lib.Dec.{leb}
 use borrow.Author.Tests.{lt-ltb, le-ltb}
 use Rattle.answer.specs.Numbers.{isTaken}
 use Rattle.answer.specs.declared.Answer.the-variants.{Taken, TooLarge}
 use Rattle.tokens.specs.Scanning.{Got, none, some, tokensOf}
 use Rattle.tokens.specs.Measures.{bracketsKept, stretchesKept}
 use Rattle.tokens.specs.Passes.{found, finished, start, scanned}
 use Rattle.tokens.specs.Reading.{stored, judged, readOf}
 use Rattle.tokens.specs.declared.Tokens.{Tokens}
 use Rattle.tokens.specs.declared.Found.{Found}
-use Rattle.tokens.proofs.Storing.{impossible}
+use Rattle.tokens.proofs.Laws.{impossible}
 
 taken-by : (g : Got) → isTaken (finished start g .answer) ≡ true → finished start g ≡ found Taken (finished start g .count)
 taken-by none e = impossible (cc)

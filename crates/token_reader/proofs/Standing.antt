@@ -17,12 +17,27 @@ use Rattle.timebase.specs.Range.{checked}
 use Rattle.timebase.specs.declared.Checked.{Checked}
 use Rattle.timebase.specs.declared.Checked.the-variants.{Value, Outside}
 use Rattle.timebase.proofs.Laws.{checked-in, checked-out}
 use Rattle.tokens.specs.Token.{zeroF}
 use Rattle.tokens.specs.Spelling.{lawful}
-use Rattle.tokens.specs.Scanning.{twoOf, fourOf, tokenFrom}
+use Rattle.tokens.specs.Scanning.{more, twoOf, fourOf, tokenFrom}
 use Rattle.tokens.specs.Measures.{kindOf}
 use Rattle.tokens.specs.Passes.{standing}
 use Rattle.tokens.specs.Reading.{wordOf, realOf}
+
+-- ---- how many more bytes a token has
+
+module _ (k : ℕ) where
+  pub more-symbol : k ≡ 0xf0 → 2 ≡ more k
+  more-symbol e = rw e
+
+  pub more-number : (k ≡ 0xf0 → ⊥) → k ≡ 0xf1 → 4 ≡ more k
+  more-number a e = rw e
+
+  pub more-whole : (k ≡ 0xf0 → ⊥) → (k ≡ 0xf1 → ⊥) → k ≡ 0xf2 → 4 ≡ more k
+  more-whole a b e = rw e
+
+  pub more-none : (k ≡ 0xf0 → ⊥) → (k ≡ 0xf1 → ⊥) → (k ≡ 0xf2 → ⊥) → 0 ≡ more k
+  more-none a b c = rw (ne-eqb k 0xf0 a, ne-eqb k 0xf1 b, ne-eqb k 0xf2 c)
 
 -- ---- words
 
