@@ -196,7 +196,7 @@ pub fn unit(s: &[u8]) -> Handed
 pub fn keypad(words: &[u32]) -> Handed
     ensures { λ r. ⌜ r ≡ handedOf (mustBeTimed door.keypad) (reads door.keypad (now (words .entry))) ⌝ }
 {
-    alone(score_line::keypad_line(words))
+    alone(line_reader::keypad_line(words))
 }
 
 fn lacks_time(l: Line, timed: bool) -> bool

@@ -218,7 +218,7 @@ fn first_answer(words: &[u32], n: usize) -> Answer
     requires { ⌜ n ≤ length (now words) ⌝ }
     ensures { λ r. ⌜ r ≡ (keypadLine (take n (now (words .entry)))) .answer ⌝ }
 {
-    let read = score_line::keypad_line(&words[0..n]);
+    let read = line_reader::keypad_line(&words[0..n]);
     read.answer
 }
 

@@ -71,16 +71,16 @@ fn first_words(words: &[u32], n: usize) -> LineRead
     ensures { λ r. ⌜ r ≡ lineInWords (take n (now (words .entry))) 0 ⌝ }
 {
     if n < words.len() {
-        return score_line::line_in_words(&words[..n], 0);
+        return line_reader::line_in_words(&words[..n], 0);
     }
-    score_line::line_in_words(words, 0)
+    line_reader::line_in_words(words, 0)
 }
 
 pub fn end_line(priority: bool, time: f32) -> LineRead
     ensures { λ r. ⌜ r ≡ judgedAt priority time said.end ⌝ }
 {
     let words = [1u32, 0, line_writer::pattern(time), flag_of(priority), END];
-    score_line::line_in_words(&words, 0)
+    line_reader::line_in_words(&words, 0)
 }
 
 pub fn tempo_line(priority: bool, time: f32, tempo: f32) -> LineRead
@@ -94,7 +94,7 @@ pub fn tempo_line(priority: bool, time: f32, tempo: f32) -> LineRead
         TEMPO,
         line_writer::pattern(tempo),
     ];
-    score_line::line_in_words(&words, 0)
+    line_reader::line_in_words(&words, 0)
 }
 
 pub fn control_line(priority: bool, time: f32, label: Label, name: u16, value: f32) -> LineRead
@@ -106,11 +106,11 @@ pub fn control_line(priority: bool, time: f32, label: Label, name: u16, value: f
     match label {
         Label::Labelled(l) => {
             let words = [1u32, 0, t, p, CONTROL, 1, l as u32, name as u32, v];
-            score_line::line_in_words(&words, 0)
+            line_reader::line_in_words(&words, 0)
         }
         Label::Unlabelled => {
             let words = [1u32, 0, t, p, CONTROL, 0, name as u32, v];
-            score_line::line_in_words(&words, 0)
+            line_reader::line_in_words(&words, 0)
         }
     }
 }

@@ -51,7 +51,7 @@ fn read_lines(s: &[u8], count: usize, start: usize) -> ScoreRead
     let mut at = start;
     let mut i: usize = 0;
     while i < count {
-        let read = score_line::line_at(s, at);
+        let read = line_reader::line_at(s, at);
         let answer = read.answer;
         if answer::is_taken(answer) {
             at = read.next;
@@ -105,7 +105,7 @@ fn one_less(n: usize) -> usize
 pub fn next(s: &[u8], c: Cursor) -> Step
     ensures { λ r. ⌜ r ≡ nextOf (bitsOf (now (s .entry))) c ⌝ }
 {
-    let read = score_line::line_at(s, c.at);
+    let read = line_reader::line_at(s, c.at);
     let answer = read.answer;
     let line = read.line;
     Step {
@@ -139,7 +139,7 @@ pub fn read_unit(s: &[u8]) -> LineRead
     match bitstream::read(s, 0, 2) {
         Got::Value(kind, p) => {
             if kind == 0 {
-                whole_line(s, score_line::line_at(s, p))
+                whole_line(s, line_reader::line_at(s, p))
             } else {
                 score_line::refused(Answer::NotCarried)
             }

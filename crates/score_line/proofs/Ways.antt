@@ -37,12 +37,8 @@ use Rattle.score_line.specs.declared.Number.{Number}
 use Rattle.score_line.specs.declared.Number.the-variants as number
 use Rattle.score_line.specs.declared.Real.{Real}
 use Rattle.score_line.specs.declared.Real.the-variants as real
-use Rattle.score_line.specs.declared.WhenRead.{WhenRead}
-use Rattle.score_line.specs.declared.WhenRead.the-variants as when-read
 use Rattle.score_line.specs.declared.LabelRead.{LabelRead}
 use Rattle.score_line.specs.declared.LabelRead.the-variants as label-read
-use Rattle.score_line.specs.declared.EventRead.{EventRead}
-use Rattle.score_line.specs.declared.EventRead.the-variants as event-read
 use Rattle.score_line.specs.LineFormat.{inRange, float, timed, when, label, body, labelled}
 
 -- ---- a result that was matched, as a reading

@@ -34,7 +34,7 @@ Bytes s = (i : ℕ) → getD s i 0 < 2 ^ 8
 abbrev pub Words : List ℕ → Type 0
 Words ws = (i : ℕ) → getD ws i 0 < 2 ^ 32
 
--- ---- lines: `score_line::line_at` and `line_writer::write_line`, `score_line::keypad_line` and `line_writer::line_slot`
+-- ---- lines: `line_reader::line_at` and `line_writer::write_line`, `line_reader::keypad_line` and `line_writer::line_slot`
 
 -- the line and the position past it, with the number 0
 pub record Took (r : LineRead) (l : Line) (p : ℕ) : Type 0 where

@@ -58,7 +58,7 @@ fn zero_from(words: &[u32], at: usize) -> bool
 fn read_slot(slot: &[u32]) -> LineRead
     ensures { λ r. ⌜ r ≡ slotLine (now (slot .entry)) ⌝ }
 {
-    let read = score_line::line_in_words(slot, 0);
+    let read = line_reader::line_in_words(slot, 0);
     let answer = read.answer;
     if answer::is_taken(answer) {
         if zero_from(slot, read.next) {

@@ -5,9 +5,5 @@ use Rattle.score_line.specs.LineFormat.{padded}
 use Rattle.score_line.proofs.refused.Statement.{statement}
 use Rattle.score_line.proofs.refused.Tie as tie
 
-returns : tie.Need-returns
-unfolding refusedLine lineOf padded ofBits
-returns c = refl
-
 pub refused-spec : {M : Type 1} → statement M
-refused-spec = tie.close (tie.spec returns)
+refused-spec = tie.close (tie.spec (λ c. unfold refusedLine lineOf padded ofBits in refl))
