@@ -11,46 +11,8 @@ use Rattle.syntax.specs.Tree.{Expr, number, name, unary, binary, choose, Statem
 use Rattle.signs.specs.Operators.{Unary, Binary}
 use Rattle.syntax.specs.Program.{Ins, ins, unaryOp, binaryOp, compile, code}
 use Rattle.syntax.specs.Grammar.{Derives, real, whole, named, prefixed, bracketed, called, called2, sides, chosen}
-use Rattle.synth.specs.Run.{kindOf}
 use Rattle.lowered.specs.Lowered.{after, past}
-use Rattle.lowered.specs.Statements.{depth, Proper}
-
--- ---- operators
-
-unary-one : (o : Unary) → kindOf (unaryOp o) ≡ 1
-unfolding kindOf
-unary-one Unary.absolute = refl
-unary-one Unary.signum = refl
-unary-one Unary.whole = refl
-unary-one Unary.fraction = refl
-unary-one Unary.not = refl
-unary-one Unary.negative = refl
-
-binary-two : (o : Binary) → kindOf (binaryOp o) ≡ 2
-unfolding kindOf
-binary-two Binary.least = refl
-binary-two Binary.greatest = refl
-binary-two Binary.or = refl
-binary-two Binary.and = refl
-binary-two Binary.equal = refl
-binary-two Binary.unequal = refl
-binary-two Binary.less = refl
-binary-two Binary.greater = refl
-binary-two Binary.atMost = refl
-binary-two Binary.atLeast = refl
-binary-two Binary.plus = refl
-binary-two Binary.minus = refl
-binary-two Binary.times = refl
-binary-two Binary.over = refl
-
--- each operator has its number of operands
-pub proper : (e : Expr) → Proper e
-unfolding Proper
-proper (number x) = tt
-proper (name n) = tt
-proper (unary o e) = (unary-one o, proper e)
-proper (binary o a b) = (binary-two o, (proper a, proper b))
-proper (choose c a b) = (proper c, (proper a, proper b))
+use Rattle.lowered.specs.Statements.{depth}
 
 -- ---- lengths
 

@@ -1,4 +1,4 @@
--- Names put by their places change neither the operands, nor the parts that wait, nor the lengths.
+-- Names put by their places change neither the parts that wait, nor the lengths.
 use Prim.Native.Nat.{ℕ, suc}
 use native.Mathlib.Omega.{arith}
 use mathlib.Core.Path.{_≡_, refl, sym, _∙_}
@@ -8,19 +8,11 @@ use Rattle.syntax.specs.Tree.{Expr, number, name, unary, binary, choose, Statem
 use Rattle.syntax.specs.Program.{compile, code, instrument, program}
 use Rattle.syntax.specs.Names.{Named}
 use Rattle.syntax.specs.Placed.{place, putIn, put, placed}
-use Rattle.lowered.specs.Statements.{depth, Proper}
+use Rattle.lowered.specs.Statements.{depth}
 use Rattle.bounds.specs.Sizes.{Shallow, Small}
 use Rattle.bounds.proofs.Exprs.{length-name, length-unary, length-binary, length-choose, length-assign, length-output, length-branch}
 
 module _ (ms : List Named) where
-  pub proper-put : (e : Expr) → Proper e → Proper (putIn ms e)
-  unfolding Proper putIn
-  proper-put (number x) p = tt
-  proper-put (name c) p = tt
-  proper-put (unary o e) p = (p .0, proper-put e (p .1))
-  proper-put (binary o a b) p = (p .0, (proper-put a (p .1 .0), proper-put b (p .1 .1)))
-  proper-put (choose c a b) p = (proper-put c (p .0), (proper-put a (p .1 .0), proper-put b (p .1 .1)))
-
   pub depth-put : (e : Expr) → depth (putIn ms e) ≡ depth e
   unfolding depth putIn
   depth-put (number x) = refl
@@ -56,7 +48,7 @@ module _ (ms : List Named) where
       )
 
   pub shallow-put : (e : Expr) → Shallow e → Shallow (putIn ms e)
-  shallow-put e s = record { proper = proper-put e (s .proper); deep = omega (arith, depth-put e) }
+  shallow-put e s = record { deep = omega (arith, depth-put e) }
 
   pub small-put : (g : ℕ) (t : Statements) → Small g t → Small g (put ms t)
   unfolding Small put

@@ -78,7 +78,7 @@ module _ (vals : List Float) where
   -- ---- statements
 
   workable : (n : ℕ) (e : Expr) → Shallow e → Stands vals n (compile e) → n + length (compile e) ≤ 2048 → Workable vals n e
-  workable n e h s l = record { proper = h .proper; deep = h .deep; short = omega (arith, after-length n e); held = holds n e s }
+  workable n e h s l = record { deep = h .deep; short = omega (arith, after-length n e); held = holds n e s }
 
   pub playable : (n g : ℕ) (t : Statements) → Small g t → Stands vals n (code t) → n + length (code t) ≤ 2048 → Playable vals n g t
   unfolding Playable Small code

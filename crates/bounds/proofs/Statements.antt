@@ -10,7 +10,7 @@ use Rattle.syntax.specs.Tree.{Expr, Statements, done}
 use Rattle.syntax.specs.Program.{code}
 use Rattle.syntax.specs.Grammar.{IsExpr, Stmts, none, set, out, when, either}
 use Rattle.bounds.specs.Sizes.{Shallow, Small}
-use Rattle.bounds.proofs.Exprs.{proper, depth-tokens, compile-tokens, length-done, length-assign, length-output, length-branch}
+use Rattle.bounds.proofs.Exprs.{depth-tokens, compile-tokens, length-done, length-assign, length-output, length-branch}
 use Rattle.bounds.proofs.Measures.{Kept, Plain, Inner, pass-plain, pass-round, pass-round-end, pass-block, pass-block-end, pass-semicolon, plain-symbol, plain-sign, within}
 
 -- the measures go on, with n brackets open and some tokens since the last of ; { }
@@ -25,7 +25,7 @@ module _ {e : Expr} {ts : List Token} (d : IsExpr e ts) (n k : ℕ) (r : List To
   expr-past = within d n k r l h
 
   pub expr-shallow : Shallow e
-  expr-shallow = let i = expr-past in record { proper = proper e; deep = omega (arith, depth-tokens d, i .short) }
+  expr-shallow = let i = expr-past in record { deep = omega (arith, depth-tokens d, i .short) }
 
 -- ( expression ) and what follows
 pub record Round (e : Expr) (n : ℕ) (r : List Token) : Type 0 where

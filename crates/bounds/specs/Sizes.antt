@@ -12,20 +12,20 @@ use Rattle.syntax.specs.Program.{Ins, declare, declared, instrument, program}
 use Rattle.syntax.specs.Placed.{placed}
 use Rattle.expressions.specs.Areas.{valOf}
 use Rattle.syntax.specs.Grammar.{Orchestra}
+use Rattle.operations.specs.Words.{mostIfs, mostParts, programSize}
 use Rattle.lowered.specs.Lowered.{lowered}
-use Rattle.lowered.specs.Statements.{depth, Proper, Playable}
+use Rattle.lowered.specs.Statements.{depth, Playable}
 
--- an expression whose operators have their operands, and of which no more than 128 parts wait
+-- an expression of which no more than 128 parts wait
 pub record Shallow (e : Expr) : Type 0 where
-  pub proper : Proper e
-  pub deep : depth e ≤ 128
+  pub deep : depth e ≤ mostParts
 
 -- statements of such expressions, with g ifs open and never more than 24
 unfoldable pub Small : ℕ → Statements → Type 0
 Small g done = Unit {0}
 Small g (assign c e t) = Shallow e × Small g t
 Small g (output e t) = Shallow e × Small g t
-Small g (branch e a b t) = Shallow e × ((g < 24) × (Small (suc g) a × (Small (suc g) b × Small g t)))
+Small g (branch e a b t) = Shallow e × ((g < mostIfs) × (Small (suc g) a × (Small (suc g) b × Small g t)))
 
 -- the numbers of a program
 abbrev pub numbers : List Ins → List Float
@@ -47,7 +47,7 @@ allLowered r n (i ∷ is) = lowered r (bodyAt n i) 0 (i .body) ++ allLowered r (
 
 -- The sizes of document 01 suffice: within the token measures, the program has at most 2,048 instructions.
 abbrev pub ProgramFits : Type 0
-ProgramFits = (is : List Instrument) (ts : List Token) → Orchestra is ts → measured ts ≡ true → length (program (map placed is)) ≤ 2048
+ProgramFits = (is : List Instrument) (ts : List Token) → Orchestra is ts → measured ts ≡ true → length (program (map placed is)) ≤ programSize
 
 -- The straight-line code of every instrument can be passed, with the numbers of the program, and with anything after them.
 abbrev pub OrchestraPlayable : Type 0
@@ -65,4 +65,4 @@ InstrumentPlayable =
 -- The straight-line code of a pass of every instrument has at most 2,048 instructions.
 abbrev pub LoweredFits : Type 0
 LoweredFits =
-    (is : List Instrument) (ts : List Token) (r : ℕ) → Orchestra is ts → measured ts ≡ true → length (allLowered r 0 (map placed is)) ≤ 2048
+    (is : List Instrument) (ts : List Token) (r : ℕ) → Orchestra is ts → measured ts ≡ true → length (allLowered r 0 (map placed is)) ≤ programSize

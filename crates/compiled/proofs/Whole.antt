@@ -8,12 +8,12 @@ use lib.Ieee.{Float}
 use borrow.Author.Tests.{ne-eqb}
 use Rattle.syntax.specs.Tree.{Expr, number, name, unary, binary, choose, Statements, done, assign, output, branch, Declaration, Instrument, fieldKind}
 use Rattle.syntax.specs.Program.{unaryOp, binaryOp}
-use Rattle.syntax.specs.Program.{Ins, ins, insArg, actOf, compile, code as codeOfTree, declare, declared, instrument, program, storeOp, outputOp, ifOp, elseOp, endOp, chooseOp}
-use Rattle.syntax.specs.declared.Act.the-variants.{Declare, Instr}
+use Rattle.syntax.specs.Program.{Ins, ins, insArg, actOf, instrOp, compile, code as codeOfTree, declare, declared, instrument, program, storeOp, outputOp, ifOp, elseOp, endOp, chooseOp}
+use Rattle.syntax.specs.declared.Act.the-variants.{Value, Declare, Instr}
+use Rattle.syntax.proofs.Operations.{unary-value, binary-value}
 use Rattle.rules.specs.Formed.{FormedKinds, opsOf, argsOf}
-use Rattle.synth.specs.Run.{kindOf}
 use Rattle.lowered.specs.Lowered.{after, past, lowered}
-use Rattle.lowered.specs.Statements.{Proper, Playable}
+use Rattle.lowered.specs.Statements.{Playable}
 use Rattle.lowering.specs.Fold.{Low, low, rest, lowerOne, lowerAll}
 use Rattle.lowering.specs.Orchestra.{Code, code, noted, walkFrom}
 use Rattle.lowering.proofs.Steps.{emit-room}
@@ -28,41 +28,40 @@ use Rattle.compiled.specs.Compiled.{KindsAll, startsFrom}
 
 unfoldable Quiet : List Ins → Type 0
 Quiet [] = Unit {0}
-Quiet (i ∷ c) = (i .op ≡ 1 → ⊥) × Quiet c
+Quiet (i ∷ c) = (i .op ≡ instrOp → ⊥) × Quiet c
 
 quiet-append : (a b : List Ins) → Quiet a → Quiet b → Quiet (a ++ b)
 unfolding Quiet
 quiet-append [] b p q = q
 quiet-append (i ∷ a) b p q = (p .0, quiet-append a b (p .1) q)
 
--- an operator's number is not 1
-not-one : (o k : ℕ) → kindOf o ≡ suc k → o ≡ 1 → ⊥
-unfolding kindOf
-not-one o k h e = let q : suc k ≡ 0 = sym h ∙ ap kindOf e in omega arith
+-- what is a value to the walk begins none
+not-first : (o : ℕ) → actOf o ≡ Value → o ≡ instrOp → ⊥
+not-first o h e = let z : Instr ≡ Value = sym (ap actOf e) ∙ h in let y : _≡_ {A = ℕ} 0 1 = cc in omega arith
 
-quiet-expr : (e : Expr) → Proper e → Quiet (compile e)
-unfolding Quiet compile Proper
-quiet-expr (number x) p = (λ z. omega arith, tt)
-quiet-expr (name c) p = (λ z. omega arith, tt)
-quiet-expr (unary o e) p = quiet-append (compile e) (ins (unaryOp o) ∷ []) (quiet-expr e (p .1)) (not-one (unaryOp o) 0 (p .0), tt)
-quiet-expr (binary o a b) p =
-    quiet-append (compile a ++ compile b) (ins (binaryOp o) ∷ []) (quiet-append (compile a) (compile b) (quiet-expr a (p .1 .0)) (quiet-expr b (p .1 .1))) (not-one (binaryOp o) 1 (p .0), tt)
-quiet-expr (choose c a b) p =
+quiet-expr : (e : Expr) → Quiet (compile e)
+unfolding Quiet compile
+quiet-expr (number x) = (λ z. omega arith, tt)
+quiet-expr (name c) = (λ z. omega arith, tt)
+quiet-expr (unary o e) = quiet-append (compile e) (ins (unaryOp o) ∷ []) (quiet-expr e) (not-first (unaryOp o) (unary-value o), tt)
+quiet-expr (binary o a b) =
+    quiet-append (compile a ++ compile b) (ins (binaryOp o) ∷ []) (quiet-append (compile a) (compile b) (quiet-expr a) (quiet-expr b)) (not-first (binaryOp o) (binary-value o), tt)
+quiet-expr (choose c a b) =
     quiet-append ((compile c ++ compile a) ++ compile b) (ins chooseOp ∷ [])
-    (quiet-append (compile c ++ compile a) (compile b) (quiet-append (compile c) (compile a) (quiet-expr c (p .0)) (quiet-expr a (p .1 .0))) (quiet-expr b (p .1 .1)))
+    (quiet-append (compile c ++ compile a) (compile b) (quiet-append (compile c) (compile a) (quiet-expr c) (quiet-expr a)) (quiet-expr b))
     (λ z. omega arith, tt)
 
 quiet-code : (vals : List Float) (n g : ℕ) (t : Statements) → Playable vals n g t → Quiet (codeOfTree t)
 unfolding Quiet codeOfTree Playable
 quiet-code vals n g done p = tt
 quiet-code vals n g (assign c e t) p =
-    quiet-append (compile e) (insArg storeOp c ∷ codeOfTree t) (quiet-expr e (p .0 .proper)) (λ z. omega arith, quiet-code vals (suc (after n e)) g t (p .1))
+    quiet-append (compile e) (insArg storeOp c ∷ codeOfTree t) (quiet-expr e) (λ z. omega arith, quiet-code vals (suc (after n e)) g t (p .1))
 quiet-code vals n g (output e t) p =
-    quiet-append (compile e) (ins outputOp ∷ codeOfTree t) (quiet-expr e (p .0 .proper)) (λ z. omega arith, quiet-code vals (suc (after n e)) g t (p .1))
+    quiet-append (compile e) (ins outputOp ∷ codeOfTree t) (quiet-expr e) (λ z. omega arith, quiet-code vals (suc (after n e)) g t (p .1))
 quiet-code vals n g (branch e a b t) p =
     let m = suc (after n e) in
     let k = suc (past m a) in
-    quiet-append (compile e) (ins ifOp ∷ (codeOfTree a ++ ins elseOp ∷ (codeOfTree b ++ ins endOp ∷ codeOfTree t))) (quiet-expr e (p .0 .proper)) (
+    quiet-append (compile e) (ins ifOp ∷ (codeOfTree a ++ ins elseOp ∷ (codeOfTree b ++ ins endOp ∷ codeOfTree t))) (quiet-expr e) (
       λ z. omega arith,
       quiet-append (codeOfTree a) (ins elseOp ∷ (codeOfTree b ++ ins endOp ∷ codeOfTree t)) (quiet-code vals m (suc g) a (p .1 .1 .0)) (
         λ z. omega arith,

@@ -1,5 +1,4 @@
 pub mod Sign
 pub mod Whole
 pub mod Magnitude
-pub mod Table
 pub mod Laws

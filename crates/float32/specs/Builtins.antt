@@ -60,3 +60,7 @@ bothOf x y = flagOf (truth x && truth y)
 
 unfoldable pub notOf : Float → Float
 notOf x = flagOf (not (truth x))
+
+-- c ? x : y
+unfoldable pub selectOf : Float → Float → Float → Float
+selectOf c x y = cond (truth c) x y

@@ -1,3 +1,2 @@
 pub mod Builtins
 pub mod Limit
-pub mod Operators

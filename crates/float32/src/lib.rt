@@ -3,9 +3,8 @@
 ghost use mathlib.Core.Path.{_≡_};
 ghost use Prim.Native.Nat.{min as lesser};
 ghost use lib.Ieee as Ieee;
-ghost use Rattle.float32.specs.Builtins.{absOf, sgnOf, intOf, fracOf, minOf, maxOf, flagOf, truth, eitherOf, bothOf, notOf};
+ghost use Rattle.float32.specs.Builtins.{absOf, sgnOf, intOf, fracOf, minOf, maxOf, flagOf, truth, eitherOf, bothOf, notOf, selectOf};
 ghost use Rattle.float32.specs.Limit.{sampleOf};
-ghost use Rattle.float32.specs.Operators.{unaryOf, binaryOf, selectOf};
 
 pub fn abs(x: f32) -> f32
     ensures { λ r. ⌜ r ≡ absOf x ⌝ }
@@ -140,44 +139,6 @@ pub fn minus(x: f32) -> f32
     ensures { λ r. ⌜ r ≡ Ieee.neg x ⌝ }
 {
     -x
-}
-
-// An operator of one operand, by its token number.
-pub fn unary(op: u8, x: f32) -> f32
-    ensures { λ r. ⌜ r ≡ unaryOf op x ⌝ }
-{
-    match op {
-        9 => abs(x),
-        10 => sgn(x),
-        11 => int(x),
-        12 => frac(x),
-        36 => negated(x),
-        37 => minus(x),
-        _ => x,
-    }
-}
-
-// An operator of two operands, by its token number.
-pub fn binary(op: u8, x: f32, y: f32) -> f32
-    ensures { λ r. ⌜ r ≡ binaryOf op x y ⌝ }
-{
-    match op {
-        13 => min(x, y),
-        14 => max(x, y),
-        24 => either(x, y),
-        25 => both(x, y),
-        26 => equal(x, y),
-        27 => differ(x, y),
-        28 => less(x, y),
-        29 => greater(x, y),
-        30 => at_most(x, y),
-        31 => at_least(x, y),
-        32 => x + y,
-        33 => x - y,
-        34 => x * y,
-        35 => x / y,
-        _ => x,
-    }
 }
 
 // c ? x : y

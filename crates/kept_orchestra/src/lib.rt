@@ -24,8 +24,8 @@ pub struct Instrument {
 pub struct Program {
     pub table: [Instrument; 8],
     pub count: usize,
-    pub code: [u64; 6144],
-    pub vals: [f32; 2048],
+    pub code: [u64; operations::CODE],
+    pub vals: [f32; operations::PROGRAM],
 }
 
 // An instrument, and whether it was found.

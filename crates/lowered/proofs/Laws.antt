@@ -10,30 +10,31 @@ use lib.Ieee.Bits.{ofBits-fits}
 use Rattle.syntax.specs.Tree.{Statements}
 use Rattle.syntax.specs.Program.{zeroF}
 use Rattle.meaning.specs.Placed.{Sounding, sounding, pass, birth, kPass, aPasses, fresh}
+use Rattle.operations.specs.Words.{notePlaces, framePlaces}
 use Rattle.synth.specs.Run.{state, run}
-use Rattle.synth.specs.Passes.{laid, frameOf, framePlaces, freshOf, once, Sums, sums, played}
+use Rattle.synth.specs.Passes.{laid, frameOf, freshOf, once, Sums, sums, played}
 use Rattle.lowered.specs.Lowered.{lowered}
 use Rattle.lowered.specs.Statements.{Playable, AllFit, OnceMeans, BirthMeans, KMeans, PlayedMeans}
 use Rattle.lowered.proofs.Guards.{holds}
 use Rattle.lowered.proofs.Passing.{passes}
 
 -- a note's 16 values in a frame, and taken out of it
-framed : (vs : List Float) → length vs ≡ 16 → take 16 (frameOf vs) ≡ vs
+framed : (vs : List Float) → length vs ≡ notePlaces → take notePlaces (frameOf vs) ≡ vs
 unfolding frameOf laid
-framed vs l = take-at (take framePlaces vs) (drop (length vs) (replicate framePlaces zeroF)) 16 (ap length q ∙ l) ∙ q
+framed vs l = take-at (take framePlaces vs) (drop (length vs) (replicate framePlaces zeroF)) notePlaces (ap length q ∙ l) ∙ q
   where
     q : take framePlaces vs ≡ vs
     q = take-all framePlaces vs (omega arith)
 
-frame-size : (vs : List Float) → length vs ≡ 16 → length (frameOf vs) ≡ 192
+frame-size : (vs : List Float) → length vs ≡ notePlaces → length (frameOf vs) ≡ framePlaces
 unfolding frameOf laid
 frame-size vs l =
     length-append (take framePlaces vs) (drop (length vs) (replicate framePlaces zeroF))
     ∙ omega (arith, length-take framePlaces vs, length-drop (length vs) (replicate framePlaces zeroF))
 
-unframed : (f vs : List Float) → length f ≡ 192 → length vs ≡ 16 → laid f vs ≡ take 16 f
+unframed : (f vs : List Float) → length f ≡ framePlaces → length vs ≡ notePlaces → laid f vs ≡ take notePlaces f
 unfolding laid
-unframed f vs a b = rw (b, drop-of-length-le vs {i = length f} (omega arith)) (append-nil (take 16 f))
+unframed f vs a b = rw (b, drop-of-length-le vs {i = length f} (omega arith)) (append-nil (take notePlaces f))
 
 pub once-means : OnceMeans
 unfolding OnceMeans once holds
@@ -58,13 +59,13 @@ padded (v ∷ vs) (suc n) m h = ap (λ (l : List Float). v ∷ l) (padded vs n m
 
 pub fresh-is : (vs : List Float) → freshOf vs ≡ fresh vs
 unfolding freshOf laid fresh
-fresh-is vs = sym (padded vs 16 16 (omega arith))
+fresh-is vs = sym (padded vs notePlaces notePlaces (omega arith))
 
-pub fresh-size : (vs : List Float) → length (freshOf vs) ≡ 16
+pub fresh-size : (vs : List Float) → length (freshOf vs) ≡ notePlaces
 unfolding freshOf laid
 fresh-size vs =
-    length-append (take 16 vs) (drop (length vs) (replicate 16 zeroF))
-    ∙ omega (arith, length-take 16 vs, length-drop (length vs) (replicate 16 zeroF))
+    length-append (take notePlaces vs) (drop (length vs) (replicate notePlaces zeroF))
+    ∙ omega (arith, length-take notePlaces vs, length-drop (length vs) (replicate notePlaces zeroF))
 
 pub birth-means : BirthMeans
 unfolding BirthMeans birth OnceMeans
@@ -78,12 +79,12 @@ k-means vals n t vs p l = once-means vals 1 n t vs p l
 -- ---- the a passes
 
 pub record Meant (t : Statements) (f mix : List Float) (s : Sums) : Type 0 where
-  pub size : length (s .frame) ≡ 192
-  pub values : take 16 (s .frame) ≡ aPasses t (take 16 f) mix .values
-  pub sums : s .mix ≡ aPasses t (take 16 f) mix .mix
+  pub size : length (s .frame) ≡ framePlaces
+  pub values : take notePlaces (s .frame) ≡ aPasses t (take notePlaces f) mix .values
+  pub sums : s .mix ≡ aPasses t (take notePlaces f) mix .mix
 
 module _ (vals : List Float) (n : ℕ) (t : Statements) (p : Playable vals n 0 t) where
-  meant : (f mix : List Float) → length f ≡ 192 → AllFit mix → Meant t f mix (sums vals (lowered 2 n 0 t) f mix)
+  meant : (f mix : List Float) → length f ≡ framePlaces → AllFit mix → Meant t f mix (sums vals (lowered 2 n 0 t) f mix)
   unfolding sums aPasses AllFit holds
   meant f [] l a = record { size = l; values = refl; sums = refl }
   meant f (x ∷ xs) l a =

@@ -7,7 +7,8 @@ use mathlib.Core.Bool.{Bool, true, false, cond}
 use lib.ListN.{length, length-append}
 use lib.Dec.{eqb}
 use Rattle.syntax.specs.Tree.{Expr, number, name, unary, binary, choose}
-use Rattle.lowered.specs.Lowered.{word, partAt, placed, partsTo, parts, bare, into, selected, stored}
+use Rattle.operations.specs.Operations as O
+use Rattle.lowered.specs.Lowered.{instruction, partAt, placed, partsTo, parts, bare, into, selected, stored}
 
 -- whatever place is set last
 parts-same : (n d t to : ℕ) (e : Expr) → length (partsTo n d to e) ≡ length (partsTo n d t e)
@@ -23,7 +24,7 @@ pub stored-length : (g n to : ℕ) (e : Expr) → length (stored g n to e) ≤ s
 unfolding stored into
 stored-length g n to e = go (eqb g 0) (bare e)
   where
-    go : (b c : Bool) → length (cond b (cond c (word 21 to (placed n 0 e) 0 0 ∷ []) (partsTo n 0 to e)) (parts n 0 e ++ selected g to (placed n 0 e) ∷ [])) ≤ suc (length (parts n 0 e))
+    go : (b c : Bool) → length (cond b (cond c (instruction O.copy to (placed n 0 e) 0 0 ∷ []) (partsTo n 0 to e)) (parts n 0 e ++ selected g to (placed n 0 e) ∷ [])) ≤ suc (length (parts n 0 e))
     go true true = omega arith
     go true false = omega (arith, parts-same n 0 (partAt 0) to e)
     go false c = omega (arith, length-append (parts n 0 e) (selected g to (placed n 0 e) ∷ []))

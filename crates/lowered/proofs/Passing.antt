@@ -15,8 +15,9 @@ use Rattle.syntax.specs.Program.{zeroF}
 use Rattle.syntax.specs.Placed.{rateOf, placeOf}
 use Rattle.float32.specs.Builtins.{truth}
 use Rattle.meaning.specs.Placed.{value, Sounding, sounding, assigned, outputs, pass}
+use Rattle.operations.specs.Words.{notePlaces, mostIfs, framePlaces}
 use Rattle.synth.specs.Run.{State, state, step, run}
-use Rattle.lowered.specs.Lowered.{elseAt, after, placed, parts, selected, stored, sent, opened, turned, past, lowered}
+use Rattle.lowered.specs.Lowered.{elseAt, partAt, after, placed, parts, selected, stored, sent, opened, turned, past, lowered}
 use Rattle.lowered.specs.Statements.{Workable, Playable}
 use Rattle.lowered.proofs.Words.{run-append}
 use Rattle.lowered.proofs.Exprs.{Kept, Leaves, leaves, into-sets, getD-same, take-less, placed-small, run-last}
@@ -24,7 +25,7 @@ use Rattle.lowered.proofs.Guards.{sound, holds, Did, holds-kept, nothin
 use Rattle.lowered.proofs.Steps.{selected-does, sent-does, placed-off, Opened, opens, Turned, turns}
 
 -- a statement that this pass leaves out
-idle : (g : ℕ) (F : Sounding → Sounding) (s : State) → length (s .frame) ≡ 192 → T (fits binary32 (s .sample)) → F (sound s) ≡ sound s → Did g F s s
+idle : (g : ℕ) (F : Sounding → Sounding) (s : State) → length (s .frame) ≡ framePlaces → T (fits binary32 (s .sample)) → F (sound s) ≡ sound s → Did g F s s
 idle g F s l h e = record { size = l; fit = h; is = go (holds g (s .frame)); kept = λ i a b. refl }
   where
     go : (b : Bool) → sound s ≡ cond b (F (sound s)) (sound s)
@@ -35,27 +36,27 @@ module _ (vals : List Float) where
   -- ---- after an expression
 
   -- an expression's parts, ready for the word after them
-  ready : (n : ℕ) (e : Expr) (s : State) → Workable vals n e → length (s .frame) ≡ 192 → Leaves vals n 0 e s (run vals (parts n 0 e) s)
-  ready n e s w l = leaves vals e n 0 s (w .proper) (w .held) (omega (arith, w .deep)) (w .short) l
+  ready : (n : ℕ) (e : Expr) (s : State) → Workable vals n e → length (s .frame) ≡ framePlaces → Leaves vals n 0 e s (run vals (parts n 0 e) s)
+  ready n e s w l = leaves vals e n 0 s (w .held) (omega (arith, w .deep)) (w .short) l
 
-  module _ (g : ℕ) (s s₁ : State) (lg : g ≤ 24) (i : Kept 0 s s₁) where
-    still : take 16 (s₁ .frame) ≡ take 16 (s .frame)
-    still = take-less 16 64 (s .frame) (s₁ .frame) (omega arith) (i .kept)
+  module _ (g : ℕ) (s s₁ : State) (lg : g ≤ mostIfs) (i : Kept 0 s s₁) where
+    still : take notePlaces (s₁ .frame) ≡ take notePlaces (s .frame)
+    still = take-less notePlaces (partAt 0) (s .frame) (s₁ .frame) (omega arith) (i .kept)
 
     pub sound-still : sound s₁ ≡ sound s
     sound-still = λ k. sounding (still k) (i .sample k)
 
-    pub guards-still : (j : ℕ) → 16 ≤ j → j < 16 + 2 * g → getD (s₁ .frame) j zeroF ≡ getD (s .frame) j zeroF
-    guards-still j a b = getD-same 64 (s .frame) (s₁ .frame) j (i .kept) (omega arith)
+    pub guards-still : (j : ℕ) → notePlaces ≤ j → j < notePlaces + 2 * g → getD (s₁ .frame) j zeroF ≡ getD (s .frame) j zeroF
+    guards-still j a b = getD-same (partAt 0) (s .frame) (s₁ .frame) j (i .kept) (omega arith)
 
     pub holds-still : holds g (s₁ .frame) ≡ holds g (s .frame)
     holds-still = holds-kept g (s .frame) (s₁ .frame) guards-still
 
   -- ---- an assignment of this pass
 
-  module _ (r g c : ℕ) (e : Expr) (s s₁ : State) (rate : eqb (rateOf c) r ≡ true) (lg : g ≤ 24) (ft : T (fits binary32 (s .sample))) (i : Kept 0 s s₁) where
+  module _ (r g c : ℕ) (e : Expr) (s s₁ : State) (rate : eqb (rateOf c) r ≡ true) (lg : g ≤ mostIfs) (ft : T (fits binary32 (s .sample))) (i : Kept 0 s s₁) where
     abbrev v : Float
-    v = value (take 16 (s .frame)) e
+    v = value (take notePlaces (s .frame)) e
 
     abbrev to : ℕ
     to = placeOf c
@@ -69,12 +70,12 @@ module _ (vals : List Float) where
     assign-is : (b : Bool) → sound (set-to b) ≡ cond b (F (sound s)) (sound s)
     unfolding assigned
     assign-is true =
-        rw rate (λ k. sounding ((take-set-lt 16 (s₁ .frame) to v (omega arith) ∙ ap (λ l. set l to v) (still g s s₁ lg i)) k) (i .sample k))
+        rw rate (λ k. sounding ((take-set-lt notePlaces (s₁ .frame) to v (omega arith) ∙ ap (λ l. set l to v) (still g s s₁ lg i)) k) (i .sample k))
     assign-is false =
         let u = getD (s₁ .frame) to zeroF in
-        let q : set (take 16 (s₁ .frame)) to u ≡ take 16 (s₁ .frame) =
-        ap (set (take 16 (s₁ .frame)) to) (sym (getD-take 16 (s₁ .frame) to zeroF (omega arith))) ∙ set-getD (take 16 (s₁ .frame)) to zeroF in
-        λ k. sounding ((take-set-lt 16 (s₁ .frame) to u (omega arith) ∙ q ∙ still g s s₁ lg i) k) (i .sample k)
+        let q : set (take notePlaces (s₁ .frame)) to u ≡ take notePlaces (s₁ .frame) =
+        ap (set (take notePlaces (s₁ .frame)) to) (sym (getD-take notePlaces (s₁ .frame) to zeroF (omega arith))) ∙ set-getD (take notePlaces (s₁ .frame)) to zeroF in
+        λ k. sounding ((take-set-lt notePlaces (s₁ .frame) to u (omega arith) ∙ q ∙ still g s s₁ lg i) k) (i .sample k)
 
     assigns-at : Did g F s (set-to (holds g (s₁ .frame)))
     assigns-at =
@@ -87,11 +88,11 @@ module _ (vals : List Float) where
         }
 
   -- with no if open the name's place is set at once, with ifs open where the guard holds
-  assigns : (r n g c : ℕ) (e : Expr) (s : State) → eqb (rateOf c) r ≡ true → g ≤ 24 → T (fits binary32 (s .sample)) → Workable vals n e → length (s .frame) ≡ 192
+  assigns : (r n g c : ℕ) (e : Expr) (s : State) → eqb (rateOf c) r ≡ true → g ≤ mostIfs → T (fits binary32 (s .sample)) → Workable vals n e → length (s .frame) ≡ framePlaces
       → Did g (λ (x : Sounding). assigned r c (value (x .values) e) x) s (run vals (stored g n (placeOf c) e) s)
   unfolding stored holds
   assigns r n zero c e s q lg ft w l =
-      let i = into-sets vals e n (placeOf c) s (w .proper) (w .held) (w .deep) (omega arith) (w .short) l in
+      let i = into-sets vals e n (placeOf c) s (w .held) (w .deep) (omega arith) (w .short) l in
       subst⁻¹ (λ (t : State). Did 0 (λ (x : Sounding). assigned r c (value (x .values) e) x) s t) (i .is) (assigns-at r 0 c e s (i .before) q lg ft (i .still))
   assigns r n (suc g) c e s q lg ft w l =
       let i = ready n e s w l in
@@ -103,9 +104,9 @@ module _ (vals : List Float) where
 
   -- ---- an output of the a pass
 
-  module _ (n g : ℕ) (e : Expr) (s s₁ : State) (lg : g ≤ 24) (ft : T (fits binary32 (s .sample))) (i : Leaves vals n 0 e s s₁) where
+  module _ (n g : ℕ) (e : Expr) (s s₁ : State) (lg : g ≤ mostIfs) (ft : T (fits binary32 (s .sample))) (i : Leaves vals n 0 e s s₁) where
     abbrev x₀ : Float
-    x₀ = value (take 16 (s .frame)) e
+    x₀ = value (take notePlaces (s .frame)) e
 
     abbrev G : Sounding → Sounding
     G x = outputs 2 (value (x .values) e) x
@@ -145,10 +146,10 @@ module _ (vals : List Float) where
   blocks false true A B x = refl
   blocks false false A B x = refl
 
-  module _ (n g : ℕ) (e : Expr) (A B : Sounding → Sounding) (s s₁ s₂ s₃ s₄ s₅ : State) (lg : g < 24) (i : Leaves vals n 0 e s s₁)
-      (o : Opened vals g (value (take 16 (s .frame)) e) s₁ s₂) (a : Did (suc g) A s₂ s₃) (u : Turned vals g s₃ s₄) (b : Did (suc g) B s₄ s₅) where
+  module _ (n g : ℕ) (e : Expr) (A B : Sounding → Sounding) (s s₁ s₂ s₃ s₄ s₅ : State) (lg : g < mostIfs) (i : Leaves vals n 0 e s s₁)
+      (o : Opened vals g (value (take notePlaces (s .frame)) e) s₁ s₂) (a : Did (suc g) A s₂ s₃) (u : Turned vals g s₃ s₄) (b : Did (suc g) B s₄ s₅) where
     abbrev t : Bool
-    t = truth (value (take 16 (s .frame)) e)
+    t = truth (value (take notePlaces (s .frame)) e)
 
     abbrev h : Bool
     h = holds g (s .frame)
@@ -157,7 +158,7 @@ module _ (vals : List Float) where
     h₁ = holds-still g s s₁ (omega arith) (i .still)
 
     -- the guards of the ifs around are those of the start
-    kept₃ : (j : ℕ) → 16 ≤ j → j < 16 + 2 * g → getD (s₃ .frame) j zeroF ≡ getD (s .frame) j zeroF
+    kept₃ : (j : ℕ) → notePlaces ≤ j → j < notePlaces + 2 * g → getD (s₃ .frame) j zeroF ≡ getD (s .frame) j zeroF
     kept₃ j p q = a .kept j p (omega arith) ∙ o .kept j p q ∙ guards-still g s s₁ (omega arith) (i .still) j p q
 
     first : holds (suc g) (s₂ .frame) ≡ (h && t)
@@ -192,13 +193,13 @@ module _ (vals : List Float) where
   abbrev Passes : ℕ → ℕ → ℕ → Statements → State → Type 0
   Passes r n g t s = Did g (λ (x : Sounding). pass r t x) s (run vals (lowered r n g t) s)
 
-  assign-first : (r n g c : ℕ) (e : Expr) (s : State) → Workable vals n e → g ≤ 24 → length (s .frame) ≡ 192 → T (fits binary32 (s .sample)) → (b : Bool) → eqb (rateOf c) r ≡ b
+  assign-first : (r n g c : ℕ) (e : Expr) (s : State) → Workable vals n e → g ≤ mostIfs → length (s .frame) ≡ framePlaces → T (fits binary32 (s .sample)) → (b : Bool) → eqb (rateOf c) r ≡ b
       → Did g (λ (x : Sounding). assigned r c (value (x .values) e) x) s (run vals (cond b (stored g n (placeOf c) e) []) s)
   unfolding run assigned
   assign-first r n g c e s w lg l ft true q = assigns r n g c e s q lg ft w l
   assign-first r n g c e s w lg l ft false q = idle g (λ (x : Sounding). assigned r c (value (x .values) e) x) s l ft (rw q)
 
-  output-first : (r n g : ℕ) (e : Expr) (s : State) → Workable vals n e → g ≤ 24 → length (s .frame) ≡ 192 → T (fits binary32 (s .sample)) → (b : Bool) → eqb r 2 ≡ b
+  output-first : (r n g : ℕ) (e : Expr) (s : State) → Workable vals n e → g ≤ mostIfs → length (s .frame) ≡ framePlaces → T (fits binary32 (s .sample)) → (b : Bool) → eqb r 2 ≡ b
       → Did g (λ (x : Sounding). outputs r (value (x .values) e) x) s (run vals (cond b (parts n 0 e ++ sent g (placed n 0 e) ∷ []) []) s)
   unfolding run outputs
   output-first r n g e s w lg l ft true q =
@@ -216,7 +217,7 @@ module _ (vals : List Float) where
       ∙ run-append vals xs (w ∷ (bs ++ ts)) (run vals os (run vals ps s))
       ∙ run-append vals bs ts (step vals w (run vals xs (run vals os (run vals ps s))))
 
-  pub passes : (t : Statements) (r n g : ℕ) (s : State) → Playable vals n g t → g ≤ 24 → length (s .frame) ≡ 192 → T (fits binary32 (s .sample)) → Passes r n g t s
+  pub passes : (t : Statements) (r n g : ℕ) (s : State) → Playable vals n g t → g ≤ mostIfs → length (s .frame) ≡ framePlaces → T (fits binary32 (s .sample)) → Passes r n g t s
   unfolding lowered pass Playable run
   passes done r n g s p lg l ft = nothing g s l ft
   passes (assign c e t) r n g s p lg l ft =
@@ -243,7 +244,7 @@ module _ (vals : List Float) where
       let s₄ = step vals (turned g) s₃ in
       let s₅ = run vals (lowered r k (suc g) b) s₄ in
       let i = ready n e s w l in
-      let o = opens vals g pl (value (take 16 (s .frame)) e) s₁ (p .1 .0) (placed-off n e) (placed-small n 0 e (omega arith) (w .short)) (i .still .size) (i .is) in
+      let o = opens vals g pl (value (take notePlaces (s .frame)) e) s₁ (p .1 .0) (placed-off n e) (placed-small n 0 e (omega arith) (w .short)) (i .still .size) (i .is) in
       let ft₁ = subst⁻¹ (λ (x : Float). T (fits binary32 x)) (i .still .sample) ft in
       let da = passes a r m (suc g) s₂ (p .1 .1 .0) (p .1 .0) (o .size) (subst⁻¹ (λ (x : Sounding). T (fits binary32 (x .sample))) (o .same) ft₁) in
       let u = turns vals g s₃ (p .1 .0) (da .size) in

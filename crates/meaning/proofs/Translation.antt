@@ -12,46 +12,16 @@ use borrow.Author.Tests.{eqb-true, eqb-false}
 use Rattle.laws.proofs.Choice.{both-true}
 use Rattle.syntax.specs.Tree.{Expr, number, name, unary, binary, choose, Statements, done, assign, output, branch, Instrument}
 use Rattle.syntax.specs.Names.{Named, named, namedBy, namesOf, symbols, has, knownIn, known, namesKept}
-use Rattle.syntax.specs.Program.{unaryOp, binaryOp}
 use Rattle.syntax.specs.Rates.{Rate, iRate, kRate, aRate, same, rateOf}
 use Rattle.syntax.specs.Placed.{speed, placeOf, place, putIn, put}
 use Rattle.syntax.proofs.Places.{kept, index, place-is, place-low, apart-in}
 use Rattle.syntax.proofs.Rates.{name-rate, speed-same}
-use Rattle.float32.specs.Builtins.{zeroF, truth}
-use Rattle.float32.specs.Operators.{unaryOf, binaryOf, selectOf}
-use Rattle.signs.specs.Operators.{Unary, Binary, unaryDoes, binaryDoes}
+use Rattle.float32.specs.Builtins.{zeroF, truth, selectOf}
+use Rattle.signs.specs.Operators.{unaryDoes}
 use Rattle.meaning.specs.Placed as placed
 use Rattle.meaning.specs.Meaning as M
 use Rattle.meaning.specs.Meaning.{Environment, Memory, Working, seen, assigned, heard, value, pass, birth, aPasses, cycle}
 use Rattle.meaning.specs.Translation.{bodyOf, Stands, Alike, ValueAgrees, PassAgrees, BirthAgrees, CycleAgrees}
-
--- ---- operators by number are the operators
-
-does : (o : Unary) (x : Float) → unaryOf (unaryOp o) x ≡ unaryDoes o x
-unfolding unaryOf
-does Unary.absolute x = refl
-does Unary.signum x = refl
-does Unary.whole x = refl
-does Unary.fraction x = refl
-does Unary.not x = refl
-does Unary.negative x = refl
-
-both-do : (o : Binary) (x y : Float) → binaryOf (binaryOp o) x y ≡ binaryDoes o x y
-unfolding binaryOf
-both-do Binary.least x y = refl
-both-do Binary.greatest x y = refl
-both-do Binary.or x y = refl
-both-do Binary.and x y = refl
-both-do Binary.equal x y = refl
-both-do Binary.unequal x y = refl
-both-do Binary.less x y = refl
-both-do Binary.greater x y = refl
-both-do Binary.atMost x y = refl
-both-do Binary.atLeast x y = refl
-both-do Binary.plus x y = refl
-both-do Binary.minus x y = refl
-both-do Binary.times x y = refl
-both-do Binary.over x y = refl
 
 -- ---- values and passes
 
@@ -59,10 +29,10 @@ pub value-agrees : ValueAgrees
 unfolding placed.value value putIn knownIn selectOf
 value-agrees ms vs v (number x) s e = refl
 value-agrees ms vs v (name n) s e = s .holds n e
-value-agrees ms vs v (unary o x) s e = ap (unaryOf (unaryOp o)) (value-agrees ms vs v x s e) ∙ does o (value v x)
+value-agrees ms vs v (unary o x) s e = ap (unaryDoes o) (value-agrees ms vs v x s e)
 value-agrees ms vs v (binary o x y) s e =
     let p = both-true (knownIn (symbols ms) x) (knownIn (symbols ms) y) e in
-    rw (value-agrees ms vs v x s (p .0), value-agrees ms vs v y s (p .1)) (both-do o (value v x) (value v y))
+    rw (value-agrees ms vs v x s (p .0), value-agrees ms vs v y s (p .1))
 value-agrees ms vs v (choose c x y) s e =
     let p = both-true (knownIn (symbols ms) c) (knownIn (symbols ms) x && knownIn (symbols ms) y) e in
     let q = both-true (knownIn (symbols ms) x) (knownIn (symbols ms) y) (p .1) in

@@ -7,10 +7,12 @@ use Rattle.signs.specs.Signs.{Sign}
 -- with one operand
 pub data Unary : Type 0 where
   absolute signum whole fraction not negative : Unary
+  deriving Discrete as sameUnary
 
 -- with two
 pub data Binary : Type 0 where
   least greatest or and equal unequal less greater atMost atLeast plus minus times over : Binary
+  deriving Discrete as sameBinary
 
 abbrev pub unarySign : Unary → Sign
 unarySign absolute = S.abs

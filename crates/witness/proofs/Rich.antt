@@ -42,7 +42,6 @@ use Rattle.players.specs.Plain.{plainStart, plainAt, answerAt, blockAt}
 use Rattle.players.specs.Calls.{stick, unit, keypad, text}
 use Rattle.float32.specs.Limit.{held, sampleOf}
 use Rattle.float32.specs.Builtins.{truth}
-use Rattle.float32.specs.Operators.{binaryOf}
 use Rattle.timebase.specs.Time.{ticksIn, cycleOf, cycleIn}
 use Rattle.kept_voices.specs.Voices as code
 use Rattle.voices.specs.Tree.{silent, instrumentOf, importsOf, noSymbol, treeVoices}
@@ -95,7 +94,7 @@ in-time v = (omega arith, omega arith)
 -- the cycles of the plain player
 played-out : Gives (treeVoices tree) 0 (pos 8192) × Gives (treeVoices tree) 1 (pos 16384) × (plainAt (treeVoices tree) (settings ceiling chosen) lines 1 .plays .counts .missed ≡ 1)
     × (answerAt (treeVoices tree) (settings ceiling chosen) lines 2 ≡ 9)
-unfolding answerAt answerOf blockAt blockOf limited bandOf soundsOf startedOf afterMessages runAll runFrom started controlled dueAt laterThan plainAt cycled plainStart sixty endsBy anyEnd played goesOn lastTempo cycleIn cycleOf keep fold each isDue insert ordered joinedBy born controlledBy ticksIn treeVoices instrumentOf importsOf silent sampleOf held binaryOf cycle kPass aPasses pass outputs assigned value fresh birth put putIn namedBy named placeFrom add mul round ofBits lt le eq code.named truth ne
+unfolding answerAt answerOf blockAt blockOf limited bandOf soundsOf startedOf afterMessages runAll runFrom started controlled dueAt laterThan plainAt cycled plainStart sixty endsBy anyEnd played goesOn lastTempo cycleIn cycleOf keep fold each isDue insert ordered joinedBy born controlledBy ticksIn treeVoices instrumentOf importsOf silent sampleOf held cycle kPass aPasses pass outputs assigned value fresh birth put putIn namedBy named placeFrom add mul round ofBits lt le eq code.named truth ne
 played-out = ((refl, refl), (refl, refl), refl, refl)
 
 -- with the notes' values by place

@@ -17,7 +17,6 @@ use Rattle.players.specs.Plain.{plainStart, plainAt, answerAt, blockAt}
 use Rattle.players.specs.Results.{here as some-here}
 use Rattle.float32.specs.Limit.{held, sampleOf}
 use Rattle.float32.specs.Builtins.{truth}
-use Rattle.float32.specs.Operators.{binaryOf}
 use Rattle.timebase.specs.Time.{ticksIn, cycleOf, cycleIn}
 use Rattle.kept_voices.specs.Voices as code
 use Rattle.voices.specs.Tree.{silent, instrumentOf, importsOf, treeVoices}
@@ -92,7 +91,7 @@ after-unit = record { holds = withMessages [] (behind (control ∷ []) (after-fi
 
 -- cycle 0 plays; then nothing waits, and the control line and the end fit
 computed : Verdict tree after-stick (cycle lent) (one 0 0) × Verdict tree after-first (bring unit inUnit) (one 0 0) × Verdict tree after-unit (bring keypad onKeypad) (one 0 0)
-unfolding after-unit after-first after-stick behind withMessages answerAt answerOf blockAt blockOf limited bandOf soundsOf startedOf afterMessages runAll runFrom started controlled dueAt laterThan plainAt cycled plainStart sixty endsBy anyEnd played goesOn lastTempo cycleIn cycleOf keep fold each isDue insert ordered joinedBy born controlledBy ticksIn treeVoices instrumentOf importsOf silent sampleOf held binaryOf noteCycle kPass aPasses pass outputs assigned value freshValues birth put putIn namedBy named placeFrom add mul round ofBits lt le eq code.named truth ne
+unfolding after-unit after-first after-stick behind withMessages answerAt answerOf blockAt blockOf limited bandOf soundsOf startedOf afterMessages runAll runFrom started controlled dueAt laterThan plainAt cycled plainStart sixty endsBy anyEnd played goesOn lastTempo cycleIn cycleOf keep fold each isDue insert ordered joinedBy born controlledBy ticksIn treeVoices instrumentOf importsOf silent sampleOf held noteCycle kPass aPasses pass outputs assigned value freshValues birth put putIn namedBy named placeFrom add mul round ofBits lt le eq code.named truth ne
 computed = (
   once (plays refl refl refl),
   once (taken (control ∷ []) (refl, rich .unit .0, rich .unit .1) (record { timed = λ q. refl; playable = tt; early = refl; room = omega arith }, tt)),

@@ -1,4 +1,4 @@
-use Rattle.float32.specs.Operators.{selectOf}
+use Rattle.float32.specs.Builtins.{selectOf}
 use borrow.Author.Needs.{needs}
 use Rattle.float32.proofs.select.Statement.{statement}
 use Rattle.float32.proofs.select.Tie as tie
