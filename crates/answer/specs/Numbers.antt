@@ -16,13 +16,13 @@ numberOf NotCarried = 2
 numberOf OutOfRange = 3
 -- no such instrument, or more values than it has fields
 numberOf NoInstrument = 4
--- more than 8 values in an instr line
+-- more than 8 values in an instr line; (M-103) a byte behind a burst's 32nd unit
 numberOf TooManyValues = 5
 -- a stick line without a time
 numberOf NoTime = 6
 -- late, and use-if-late not set
 numberOf Late = 7
--- 64 lines already wait, or a lent area is too short
+-- 64 lines, or (M-104) note messages, already wait, or a lent area is too short
 numberOf NoRoom = 8
 -- the piece has ended
 numberOf Ended = 9

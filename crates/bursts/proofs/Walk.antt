@@ -1,5 +1,5 @@
 -- A walk over a burst's bytes, unit by unit: the pass that judges them, and what lies ahead of the pass over the units.
-use mathlib.Core.Path.{_≡_, refl, sym, ap, _∙_, subst, subst⁻¹}
+use mathlib.Core.Path.{_≡_, refl, sym, ap, _∙_, subst⁻¹}
 use mathlib.Core.Bool.{Bool, true, false, true≢false, cond}
 use mathlib.Core.List.{List, [], _∷_, _++_}
 use Prim.Native.Nat.{ℕ, zero, suc, _+_, _-_, _≤_, _<_}
@@ -8,9 +8,7 @@ use lib.Dec.{leb}
 use lib.ListN.{length, take, drop, getD, length-append, length-drop, drop-of-length-le}
 use lib.Seq.{drop-cons, drop-drop, take-append-seam, drop-append-seam}
 use borrow.Author.Tests.{le-leb, lt-leb}
-use Rattle.laws.proofs.Choice.{cond-true, cond-false}
 use Rattle.answer.specs.Numbers.{isTaken}
-use Rattle.answer.specs.declared.Answer.{Answer}
 use Rattle.answer.specs.declared.Answer.the-variants.{Taken, CutShort, TooManyValues}
 use Rattle.bursts.specs.Bursts.{Burst, units, fault, mostUnits, sixteenBits, before, Says, nothing, unit, cutLength, cutUnit, tooMany, behindLast, firstOf, burstFrom, burstOf, unitsIn, toldFrom, told, lengthAt}
 use Rattle.bursts.specs.declared.Cut.{Cut}

@@ -23,7 +23,6 @@ use Rattle.formats.specs.Reading.{Read, got, refused, andThen, numberFrom}
 use Rattle.formats.specs.Format as format
 use Rattle.formats.specs.Description.{pair, choose}
 use Rattle.formats.specs.Description.{format as formatOf}
-use Rattle.formats.specs.declared.Fault.{Fault}
 use Rattle.formats.specs.declared.Fault.the-variants as fault
 use Rattle.score_line.specs.LineFormat.{inRange, symbol, labelled, float, when, Kind, instr, control, end, tempo, kind, Body, body, Values, values, Parts, afterTime, parts, eventOf, line}
 use Rattle.score_line.specs.Reading.{floatFrom, lineOf, lineFrom, refusedLine, lineRead, lineAt, wholeRun, lineInWords, keypadLine}

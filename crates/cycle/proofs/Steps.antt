@@ -10,20 +10,18 @@ use lib.ListN.{length, take}
 use lib.Seq.{take-at}
 use Rattle.timebase.specs.Time.{cycleIn}
 use Rattle.limiter.specs.Block as block
-use Rattle.score_line.specs.declared.Line.{Line}
 use Rattle.synth.specs.declared.Note.{Note}
 use Rattle.players.specs.Lists.{each, keep, over}
-use Rattle.messages.specs.declared.Message.{Message}
 use Rattle.players.specs.Cycle.{Voices, Band, Started, positionLimit, lastTempo, started, controlled, afterMessages, runAll, goesOn}
 use Rattle.players.specs.Cycle as cycle
-use Rattle.players.specs.Holds.{Plays, Due, settingsOf, sixteen, startedOf, soundsOf, bandOf, capped, played}
+use Rattle.players.specs.Holds.{Due, settingsOf, sixteen, startedOf, soundsOf, bandOf, capped, played}
 use Rattle.kept_voices.specs.Voices.{Held, voices}
 use Rattle.sounding.specs.Notes.{noteOf, structOf, notesIn, startedIn as startedNotes, startedOver, controlledAll, goesOnIn}
 use Rattle.kept_orchestra.specs.declared.Instrument.{Instrument}
 use Rattle.sounding.specs.declared.Started.{Started as Starts}
 use Rattle.sounding.proofs.Steps.{length-each, started-are}
 use Rattle.sounding.proofs.Band.{control-all, going as going-as}
-use Rattle.cycle.specs.Steps.{playsOf, laidOver, advanced, performedOf}
+use Rattle.cycle.specs.Steps.{playsOf, advanced, performedOf}
 use Rattle.cycle.specs.declared.Performed.{Performed}
 use Rattle.cycle.specs.declared.Playing.{Playing}
 

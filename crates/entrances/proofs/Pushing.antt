@@ -10,7 +10,6 @@ use Rattle.answer.specs.Numbers.{isTaken}
 use Rattle.answer.specs.declared.Answer.the-variants as answer
 use Rattle.score_line.specs.declared.Line.{Line}
 use Rattle.score.specs.Score.{Score}
-use Rattle.players.specs.Lists.{over}
 use Rattle.players.specs.Calls.{unit, mustBeTimed, hasTime, reads}
 use Rattle.players.proofs.Lists.{cond-true, cond-false}
 use Rattle.players.proofs.Loops.{take-min}

@@ -1,11 +1,11 @@
 -- The units of a burst, brought in one after the other.
-use mathlib.Core.Path.{_≡_, refl, sym, ap, _∙_, subst, subst⁻¹}
-use mathlib.Core.Bool.{Bool, true, false, true≢false, cond}
-use mathlib.Core.List.{List, [], _∷_, _++_}
+use mathlib.Core.Path.{_≡_, refl, sym, ap, _∙_, subst}
+use mathlib.Core.Bool.{Bool, true, false, true≢false}
+use mathlib.Core.List.{List, [], _∷_}
 use Prim.Native.Nat.{ℕ, suc, _+_, _-_, _≤_, _<_}
 use native.Mathlib.Omega.{arith}
 use lib.Dec.{leb}
-use lib.ListN.{length, take, drop, getD, set, length-take, length-drop, drop-of-length-le}
+use lib.ListN.{length, take, drop, getD, set, length-take, drop-of-length-le}
 use lib.Seq.{drop-cons, take-suc, take-all}
 use borrow.Author.Tests.{le-leb, lt-leb}
 use Rattle.answer.specs.Numbers.{numberOf, isTaken}
@@ -20,9 +20,8 @@ use Rattle.players.proofs.Lists.{cond-true, cond-false}
 use Rattle.players.proofs.Loops.{over-set, length-over}
 use Rattle.waiting.specs.declared.Queue.{Queue}
 use Rattle.kept_orchestra.specs.declared.Instrument.{Instrument}
-use Rattle.entrances.specs.Entrances.{broughtIn, Singly, singlyIn, sentIn, areaIn}
+use Rattle.entrances.specs.Entrances.{broughtIn, singlyIn, sentIn, areaIn}
 use Rattle.entrances.specs.declared.Pushed.{Pushed}
-use Rattle.entrances.specs.declared.Sent.{Sent}
 
 -- the first of a list and the others
 first-same : {x y : ℕ} {xs ys : List ℕ} → x ∷ xs ≡ y ∷ ys → x ≡ y

@@ -1,8 +1,8 @@
 -- The walk over a list of names: what lies ahead decides, else what was met. Assumes nothing.
-use Prim.Native.Nat.{ℕ, zero, suc, _+_, _-_, _<_, _≤_}
+use Prim.Native.Nat.{ℕ, suc, _+_, _-_, _<_, _≤_}
 use mathlib.Core.Path.{_≡_, refl, sym, ap, ap₂, _∙_, subst}
 use mathlib.Core.Bool.{Bool, true, false, cond}
-use mathlib.Core.List.{List, [], _∷_, _++_}
+use mathlib.Core.List.{List, [], _∷_}
 use mathlib.Core.Option.{Option, none, some}
 use native.Mathlib.Omega.{arith}
 use native.Mathlib.Nat.{lt-of-not-le, sub-zero}
@@ -13,7 +13,7 @@ use lib.ListN.{length, getD, take, drop, length-drop, drop-of-length-le}
 use lib.Seq.{drop-cons, drop-drop}
 use lib.Dec.{leb, eqb}
 use Rattle.laws.proofs.Choice.{cond-true, cond-false}
-use Rattle.names.specs.Form.{Names, nameOf}
+use Rattle.names.specs.Form.{Names}
 use Rattle.names.specs.Asking.{before, listOf, nameAmong, nameIn, unlessEmpty, nameFound}
 use Rattle.names.proofs.Lists.{list-none, list-entry, list-cut}
 use Rattle.name_finder.specs.Places.{between, Stands}

@@ -1,23 +1,23 @@
 -- The second pass: a table's names laid into the buffer. Assumes nothing.
 use Prim.Native.Nat.{ℕ, zero, suc, _+_, _-_, _*_, _^_, _<_, _≤_}
 use mathlib.Core.Path.{_≡_, refl, sym, ap, ap₂, _∙_, subst, subst⁻¹}
-use mathlib.Core.Bool.{Bool, true, false}
-use mathlib.Core.List.{List, [], _∷_, _++_, append-assoc}
+use mathlib.Core.Bool.{Bool, true}
+use mathlib.Core.List.{List, _∷_, _++_, append-assoc}
 use native.Mathlib.Omega.{arith}
 use native.Mathlib.Nat.{add-assoc}
 use native.Mathlib.Numerals.{add-one}
-use borrow.Author.Tests.{le-leb, lt-leb}
+use borrow.Author.Tests.{lt-leb}
 use lib.ListN.{length, getD, set, take, drop, length-drop, length-append, length-set, take-append-drop}
-use lib.Seq.{take-at, drop-at, drop-drop, drop-append-add, length-take-le, take-suc-set, drop-set-lt, paste, paste-zero, paste-suc, length-paste, take-all, append-snoc}
-use Rattle.laws.proofs.Choice.{cond-true, cond-false}
+use lib.Seq.{take-at, drop-drop, drop-append-add, length-take-le, take-suc-set, drop-set-lt, paste, paste-zero, paste-suc, take-all, append-snoc}
+use Rattle.laws.proofs.Choice.{cond-false}
 use Rattle.answer.specs.declared.Answer.{Answer}
 use Rattle.answer.specs.declared.Answer.the-variants.{Taken, NoRoom}
 use Rattle.bitstream.specs.Bits.{bitsOf, valueOf}
 use Rattle.bitstream.specs.Fields.{Room}
 use Rattle.bitstream.specs.Filling.{bytesFrom}
 use Rattle.bitstream.proofs.Laws.{length-bitsOf}
-use Rattle.names.specs.Form.{Names, countBits, lengthBits, listBytes}
-use Rattle.names.specs.Reading.{Read, got, cut, namesFrom, Table, holds, refused, judged, tableOf}
+use Rattle.names.specs.Form.{Names, lengthBits, listBytes}
+use Rattle.names.specs.Reading.{Read, namesFrom, Table, holds, refused, tableOf}
 use Rattle.names.specs.Asking.{Unpacking, unpacking, laid, unpackingOf}
 use Rattle.names.proofs.Asked.{unpacked}
 use Rattle.name_unpacker.specs.Passes.{numberAt, namesOf, judgement, listed, isWhole, Fits, laidAt, entryAt, Copies, Entry, NameLaid, Left}
@@ -25,7 +25,7 @@ use Rattle.name_unpacker.specs.declared.Judged.{Judged}
 use Rattle.name_unpacker.specs.declared.Judged.the-variants.{Names as Holds, Refused}
 use Rattle.name_unpacker.specs.declared.Unpacked.{Unpacked}
 use Rattle.name_unpacker.proofs.Steps.{size, past, Next, next, length-bytes}
-use Rattle.name_unpacker.proofs.Measuring.{Held, held}
+use Rattle.name_unpacker.proofs.Measuring.{held}
 
 abbrev answered : Answer → ℕ → Unpacked
 answered a n = record { answer = a; length = n }

@@ -1,8 +1,8 @@
 -- The first pass: a table's names measured, and the table judged. Assumes nothing.
-use Prim.Native.Nat.{ℕ, zero, suc, _+_, _-_, _*_, _^_, _<_, _≤_}
+use Prim.Native.Nat.{ℕ, suc, _+_, _-_, _*_, _^_, _<_, _≤_}
 use mathlib.Core.Path.{_≡_, refl, sym, ap, ap₂, _∙_, subst}
 use mathlib.Core.Bool.{Bool, true, false, cond, _&&_}
-use mathlib.Core.List.{List, [], _∷_, _++_}
+use mathlib.Core.List.{List, _∷_, _++_}
 use native.Mathlib.Omega.{arith}
 use native.Mathlib.Nat.{lt-of-not-le}
 use native.Mathlib.Decide.{decLe}
@@ -21,7 +21,7 @@ use Rattle.bitstream.specs.declared.Got.the-variants.{Value, Short}
 use Rattle.bitstream.proofs.Laws.{length-bitsOf, valueOf-lt}
 use Rattle.bitstream.proofs.Fields.{read-back, room-yes}
 use Rattle.names.specs.Form.{Names, countBits, lengthBits, namesBits, listBytes}
-use Rattle.names.specs.Reading.{Read, got, cut, andThen, numberFrom, namesFrom, tableFrom, Table, holds, refused, isFilling, judged, tableOf}
+use Rattle.names.specs.Reading.{Read, got, cut, andThen, numberFrom, namesFrom, tableFrom, holds, refused, isFilling, judged, tableOf}
 use Rattle.names.proofs.Table.{Met, whole, begun, Many, names-met}
 use Rattle.name_unpacker.specs.Passes.{numberAt, namesOf, Counted, measured, judgement}
 use Rattle.name_unpacker.specs.declared.Extent.{Extent}

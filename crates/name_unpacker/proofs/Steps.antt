@@ -1,18 +1,18 @@
 -- A name at a position of a table's bits, and numbers there. Assumes nothing.
 use Prim.Native.Nat.{ℕ, zero, suc, _+_, _-_, _*_, _/_, _^_, _<_, _≤_}
-use mathlib.Core.Path.{_≡_, refl, sym, ap, ap₂, _∙_, subst}
-use mathlib.Core.Bool.{Bool, true, false, cond, true≢false}
-use mathlib.Core.List.{List, [], _∷_, _++_}
+use mathlib.Core.Path.{_≡_, refl, sym, ap, _∙_, subst}
+use mathlib.Core.Bool.{Bool, true, true≢false}
+use mathlib.Core.List.{List, _∷_, _++_}
 use native.Mathlib.Omega.{arith}
-use native.Mathlib.Nat.{lt-of-not-le, lt-of-lt-of-le}
+use native.Mathlib.Nat.{lt-of-not-le}
 use native.Mathlib.Decide.{decLe}
 use borrow.Author.Tests.{le-leb, lt-leb, le-ltb, lt-ltb}
-use lib.ListN.{length, take, drop, length-drop, length-take}
+use lib.ListN.{length, take, drop, length-drop}
 use lib.Seq.{drop-drop, length-take-le}
-use lib.Dec.{leb, ltb}
+use lib.Dec.{ltb}
 use Rattle.laws.proofs.Choice.{cond-true, cond-false}
 use Rattle.bitstream.specs.Bits.{bitsOf, valueOf}
-use Rattle.bitstream.specs.Fields.{Room, farthest}
+use Rattle.bitstream.specs.Fields.{Room}
 use Rattle.bitstream.specs.Filling.{bytesFrom}
 use Rattle.bitstream.specs.Reads.{readAt}
 use Rattle.bitstream.specs.declared.Got.{Got}

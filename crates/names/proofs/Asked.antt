@@ -1,16 +1,16 @@
 -- Unpacked names, asked for. Assumes nothing.
 use Prim.Native.Nat.{ℕ, _≤_}
-use mathlib.Core.Path.{_≡_, refl, sym, ap, _∙_}
-use mathlib.Core.List.{List, [], _++_}
+use mathlib.Core.Path.{_≡_, refl, ap, _∙_}
+use mathlib.Core.List.{List}
 use borrow.Author.Tests.{le-leb}
 use lib.ListN.{length, drop}
 use lib.Seq.{take-at}
 use Rattle.laws.proofs.Choice.{cond-true}
 use Rattle.answer.specs.declared.Answer.the-variants.{Taken}
-use Rattle.names.specs.Form.{Names, nameOf, listBytes}
+use Rattle.names.specs.Form.{Names, listBytes}
 use Rattle.names.specs.Reading.{Table, holds, tableOf}
 use Rattle.names.specs.Asking.{nameIn, nameFound, unlessEmpty, unpackingOf, unpacking, Unpacking, laid}
-use Rattle.names.specs.Claims.{Spells, piece, NamesFound}
+use Rattle.names.specs.Claims.{piece, NamesFound}
 use Rattle.names.proofs.Table.{table-read}
 use Rattle.names.proofs.Lists.{name-in-list}
 

@@ -6,12 +6,12 @@ use mathlib.Core.List.{List, [], _∷_, _++_}
 use mathlib.Core.Option.{Option, none, some}
 use native.Mathlib.Omega.{arith}
 use borrow.Author.Tests.{le-leb, lt-leb, leb-true}
-use lib.ListN.{length, getD, take, drop, length-drop, length-append, take-append-drop}
+use lib.ListN.{length, take, drop, length-drop, length-append, take-append-drop}
 use lib.Seq.{take-at, drop-at, length-take-le}
 use lib.Dec.{leb}
 use Rattle.laws.proofs.Choice.{cond-true, cond-false}
-use Rattle.names.specs.Form.{Names, nameOf, listBytes}
-use Rattle.names.specs.Asking.{before, entryThen, entries, listOf, nameAmong, nameIn}
+use Rattle.names.specs.Form.{Names, listBytes}
+use Rattle.names.specs.Asking.{before, entries, listOf, nameAmong, nameIn}
 use Rattle.names.specs.Claims.{ListRead, ListSpelled, OneList, NameInList, NoNameInOther}
 
 some-inj : (x y : Names) → some x ≡ some y → x ≡ y

@@ -1,5 +1,5 @@
 -- A symbol table: every run of bits is read as what it spells. Assumes nothing.
-use Prim.Native.Nat.{ℕ, zero, suc, _+_, _-_, _*_, _%_, _^_, _<_, _≤_}
+use Prim.Native.Nat.{ℕ, zero, suc, _+_, _-_, _*_, _^_, _<_, _≤_}
 use mathlib.Core.Path.{_≡_, refl, sym, ap, ap₂, _∙_, subst}
 use mathlib.Core.Bool.{Bool, true, false, cond, true≢false}
 use mathlib.Core.List.{List, [], _∷_, _++_, append-assoc, append-nil}
@@ -7,19 +7,18 @@ use native.Mathlib.Nat.{mod-eq-of-lt, lt-of-not-le}
 use native.Mathlib.Omega.{arith}
 use native.Mathlib.Decide.{decLe}
 use borrow.Author.Tests.{le-leb, lt-leb, lt-ltb, ltb-true, eqb-true}
-use lib.ListN.{length, getD, take, drop, replicate, length-drop, length-append, length-replicate, take-append-drop, getD-replicate}
+use lib.ListN.{length, take, drop, replicate, length-drop, length-append, length-replicate, take-append-drop}
 use lib.Seq.{take-at, drop-at, take-add, length-take-le, take-append-le, drop-append-le}
 use lib.Dec.{leb, ltb, eqb}
-use Rattle.laws.proofs.Choice.{cond-true, cond-false, both-true}
-use Rattle.answer.specs.declared.Answer.the-variants.{CutShort}
+use Rattle.laws.proofs.Choice.{cond-true, both-true}
 use Rattle.answer.specs.declared.Answer.the-variants as answers
 use Rattle.bitstream.specs.Bits.{field, bitsOf, valueOf}
 use Rattle.bitstream.specs.Filling.{missing, filledUp, bytesFrom}
 use Rattle.bitstream.proofs.Laws.{length-field, valueOf-field, field-valueOf, valueOf-lt, length-bitsOf}
 use Rattle.bitstream.proofs.Filling.{zeros-value, value-zeros, filled-up, bits-bytesFrom, bytesFrom-bits}
 use Rattle.names.specs.Form.{Names, countBits, lengthBits, nameBits, namesBits, tableBits, Bytes, LawfulName, LawfulNames, LawfulTable}
-use Rattle.names.specs.Reading.{Read, got, cut, andThen, numberFrom, stretchFrom, nameFrom, namesFrom, tableFrom, Table, holds, refused, isFilling, judged, tableOf}
-use Rattle.names.specs.Claims.{Spells, Cut, LeftOver, Verdict, spells, is-cut, left-over, EveryTable, TableRead, TableCut, TableLeftOver, OneTable}
+use Rattle.names.specs.Reading.{Read, got, cut, andThen, numberFrom, stretchFrom, nameFrom, namesFrom, tableFrom, holds, refused, isFilling, judged, tableOf}
+use Rattle.names.specs.Claims.{LeftOver, Verdict, spells, is-cut, left-over, EveryTable, TableRead, TableCut, TableLeftOver, OneTable}
 
 -- what reading bits met: something lawful that stands there, or the beginning of it
 pub data Met {A : Type 0} (spell : A → List Bool) (Lawful : A → Type 0) (l : List Bool) : Read A → Type 0 where

@@ -17,7 +17,7 @@ use Rattle.answer.specs.declared.Answer.{Answer}
 use Rattle.answer.specs.declared.Answer.the-variants.{Taken, BadToken, TooLarge}
 use Rattle.tokens.specs.Token.{zeroF}
 use Rattle.tokens.specs.Spelling.{lawful}
-use Rattle.tokens.specs.Scanning.{Got, none, some, with, more, tokensAfter, tokensOf, tokensIn}
+use Rattle.tokens.specs.Scanning.{Got, none, some, more, tokensAfter, tokensOf, tokensIn}
 use Rattle.tokens.specs.Measures.{kindOf, bracketsKept, stretchesKept}
 use Rattle.tokens.specs.Passes.{standing, found, finished, start, scanned}
 use Rattle.tokens.specs.Reading.{wordOf, realOf, padded, stored, judged}

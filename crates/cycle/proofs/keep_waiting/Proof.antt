@@ -1,5 +1,3 @@
-use mathlib.Core.Path.{_≡_}
-use mathlib.Core.Bool.{true}
 use borrow.Author.Needs.{needs}
 use Rattle.cycle.proofs.Stepping.{keep-law}
 use Rattle.cycle.proofs.keep_waiting.Statement.{statement}

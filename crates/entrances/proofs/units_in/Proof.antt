@@ -2,7 +2,7 @@ use mathlib.Core.Path.{refl}
 use Prim.Native.Nat.{_-_}
 use native.Mathlib.Omega.{arith}
 use borrow.Author.Needs.{needs}
-use lib.ListN.{length, take}
+use lib.ListN.{take}
 use Rattle.bursts.specs.Bursts.{burstOf, unitsIn}
 use Rattle.entrances.proofs.Sending.{Sending, send-start, send-inside, send-length, send-place, send-next, send-queue, send-area}
 use Rattle.entrances.proofs.units_in.Statement.{statement}

@@ -1,5 +1,4 @@
 use borrow.Author.Needs.{needs}
-use native.Mathlib.Omega.{arith}
 use Rattle.name_finder.proofs.Walk.{name-there}
 use Rattle.name_finder.proofs.name_in.Statement.{statement}
 use Rattle.name_finder.proofs.name_in.Tie as tie

@@ -1,4 +1,3 @@
-use borrow.Author.Tests.{eq-eqb, ne-eqb}
 use Rattle.name_finder.proofs.Walk.{is-noted, not-noted}
 use Rattle.name_finder.proofs.noted.Statement.{statement}
 use Rattle.name_finder.proofs.noted.Tie as tie

@@ -1,5 +1,4 @@
 use borrow.Author.Needs.{needs}
-use native.Mathlib.Omega.{arith}
 use Rattle.name_unpacker.proofs.Measuring.{opened, is-counted, not-opened, judge-holds, judge-left-over, judge-cut}
 use Rattle.name_unpacker.proofs.judge.Statement.{statement}
 use Rattle.name_unpacker.proofs.judge.Tie as tie
