@@ -13,7 +13,7 @@ pub struct Cut {
 const MOST_UNITS: usize = 32;
 
 // The bytes of a length.
-const LENGTH_BYTES: usize = 2;
+pub const LENGTH_BYTES: usize = 2;
 
 // The length that two bytes are.
 fn length_of(high: u8, low: u8) -> usize

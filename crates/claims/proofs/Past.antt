@@ -32,7 +32,7 @@ use Rattle.messages.specs.Writing as midi
 use Rattle.messages.specs.Reading.{blank, callOf}
 use Rattle.messages.specs.declared.Message.{Message}
 use Rattle.keyboard.specs.Keyboard.{noMessages, mostMessages, messagesIn as waitingMessages, behind as behindMessages}
-use Rattle.entrances.specs.Entrances.{emptyLine}
+use Rattle.doors.specs.Doors.{emptyLine}
 use Rattle.cycle.specs.OneCycle as oneCycle
 use Rattle.kept_orchestra.specs.declared.Program.{Program}
 use Rattle.loader.specs.Loading.{loadOf}

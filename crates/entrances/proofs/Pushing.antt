@@ -20,10 +20,11 @@ use Rattle.waiting.specs.declared.Admitted.{Admitted}
 use Rattle.waiting.proofs.Admission.{taken-pushed, taken-room}
 use Rattle.kept_orchestra.specs.Kept.{fieldsIn}
 use Rattle.kept_orchestra.specs.declared.Instrument.{Instrument}
-use Rattle.entrances.specs.Entrances.{mostHanded, handedOf, scoreIn, lineIn, pushedAll, broughtIn}
-use Rattle.entrances.specs.declared.Handed.{Handed}
+use Rattle.doors.specs.Doors.{mostHanded, handedOf, scoreIn}
+use Rattle.entrances.specs.Entrances.{lineIn, pushedAll, broughtIn}
+use Rattle.doors.specs.declared.Handed.{Handed}
 use Rattle.entrances.specs.declared.Pushed.{Pushed}
-use Rattle.entrances.proofs.Gathering.{blank}
+use Rattle.doors.proofs.Gathering.{blank}
 
 -- ---- one line
 

@@ -13,8 +13,9 @@ use Rattle.score_line.specs.declared.Line.{Line}
 use Rattle.players.specs.Holds.{sixty}
 use Rattle.players.specs.Calls.{Door, mustBeTimed, reads}
 use Rattle.players.proofs.Lists.{cond-true, cond-false}
-use Rattle.entrances.specs.Entrances.{emptyLine, handedOf, scoreIn, broughtIn}
-use Rattle.entrances.specs.declared.Handed.{Handed}
+use Rattle.doors.specs.Doors.{emptyLine, handedOf, scoreIn}
+use Rattle.entrances.specs.Entrances.{broughtIn}
+use Rattle.doors.specs.declared.Handed.{Handed}
 use Rattle.entrances.proofs.Pushing.{handed-timed, handed-brings}
 use Rattle.panel.specs.State.{tableOf, withQueue, withMessages, emptyNote, startOf}
 use Rattle.panel.specs.Calls.{noPanel, hasChosen, freshOf, broughtOf, bringOf, playKeysOf}

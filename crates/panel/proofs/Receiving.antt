@@ -10,8 +10,9 @@ use Rattle.answer.specs.declared.Answer.the-variants.{Taken, NoRoom}
 use Rattle.bursts.specs.Bursts.{Burst, units, fault, burstOf}
 use Rattle.players.specs.Lists.{over}
 use Rattle.players.specs.Calls.{unit, mustBeTimed, reads}
-use Rattle.entrances.specs.Entrances.{broughtIn, singlyIn, sentIn, areaIn}
-use Rattle.entrances.specs.declared.Sent.{Sent}
+use Rattle.entrances.specs.Entrances.{broughtIn}
+use Rattle.burst_entrance.specs.Singly.{singlyIn, sentIn, areaIn}
+use Rattle.burst_entrance.specs.declared.Sent.{Sent}
 use Rattle.panel.specs.State.{tableOf, withQueue}
 use Rattle.panel.specs.Calls.{broughtOf, bringOf, Singly, singly, receivedOf, receiveOf, answeredIn, areaAfter}
 use Rattle.panel.specs.declared.Panel.{Panel}

@@ -11,7 +11,7 @@ use Rattle.players.specs.Cycle.{Voices}
 use Rattle.players.specs.Holds.{Settings, settingsOf, Holds, sixty}
 use Rattle.keyboard.specs.Keyboard.{noMessages}
 use Rattle.keyboard.specs.declared.Messages.{Messages}
-use Rattle.entrances.specs.Entrances.{emptyLine}
+use Rattle.doors.specs.Doors.{emptyLine}
 use Rattle.kept_voices.specs.Voices.{Held, voices}
 use Rattle.kept_orchestra.specs.declared.Instrument.{Instrument}
 use Rattle.cycle.specs.OneCycle as oneCycle

@@ -2,7 +2,7 @@
 use answer::Answer;
 use cycle::Playing;
 use cycle::State;
-use entrances::Handed;
+use doors::Handed;
 use kept_orchestra::Program;
 use sounding::Notes;
 use waiting::Queue;
@@ -12,7 +12,7 @@ ghost use lib.ListN.{length};
 ghost use Rattle.panel.specs.State.{startOf};
 ghost use Rattle.loader.specs.Loading.{loadOf as loadedFrom};
 ghost use Rattle.players.specs.Calls.{stick, unit, keypad, text};
-ghost use Rattle.entrances.specs.Entrances.{scoreIn};
+ghost use Rattle.doors.specs.Doors.{scoreIn};
 ghost use Rattle.panel.specs.Calls.{noPanel, hasChosen, freshOf, broughtOf, bringOf, receiveOf, areaAfter, playKeysOf, cycleOf, blockAfter};
 
 // What the calls change, beside what a fresh start fixes.
@@ -76,7 +76,7 @@ fn bring(mut p: Panel, h: Handed) -> Brought
 fn start(program: Program, ceiling: u16, chosen: u16, ended: bool) -> Panel
     ensures { λ r. ⌜ r ≡ startOf program ceiling chosen ended ⌝ }
 {
-    let line = entrances::empty_line();
+    let line = doors::empty_line();
     let silence = [0.0f32; 16];
     let note = synth::new_note(silence, false, 0, 0, false, 0, false, false, 0, 0, false);
     let messages = keyboard::no_messages();
@@ -169,28 +169,28 @@ impl Panel {
     pub fn load_score(self, s: &[u8]) -> Brought
         ensures { λ r. ⌜ r ≡ bringOf self stick (now (s .entry)) ⌝ }
     {
-        bring(self, entrances::stick(s))
+        bring(self, doors::stick(s))
     }
 
     // An access unit.
     pub fn receive_unit(self, s: &[u8]) -> Brought
         ensures { λ r. ⌜ r ≡ bringOf self unit (now (s .entry)) ⌝ }
     {
-        bring(self, entrances::unit(s))
+        bring(self, doors::unit(s))
     }
 
     // A keypad line.
     pub fn enter_line(self, words: &[u32]) -> Brought
         ensures { λ r. ⌜ r ≡ bringOf self keypad (now (words .entry)) ⌝ }
     {
-        bring(self, entrances::keypad(words))
+        bring(self, doors::keypad(words))
     }
 
     // A score as text: the whole of it, or nothing, as a stick.
     pub fn load_text(self, s: &[u8]) -> Brought
         ensures { λ r. ⌜ r ≡ bringOf self text (now (s .entry)) ⌝ }
     {
-        bring(self, entrances::text(s))
+        bring(self, doors::text(s))
     }
 
     // A burst of access units: each as if it came singly, in order, with its answer's number in the lent area; or a refusal, and nothing is
@@ -202,7 +202,7 @@ impl Panel {
         let table = self.program.table;
         let mut state = self.state;
         let before = state.queue;
-        let r = entrances::burst_in(
+        let r = burst_entrance::burst_in(
             table,
             self.program.count,
             state.playing.ended,

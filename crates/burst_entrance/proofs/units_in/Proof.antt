@@ -1,0 +1,24 @@
+use mathlib.Core.Path.{refl}
+use Prim.Native.Nat.{_-_}
+use native.Mathlib.Omega.{arith}
+use borrow.Author.Needs.{needs}
+use lib.ListN.{take}
+use Rattle.bursts.specs.Bursts.{burstOf, unitsIn}
+use Rattle.burst_entrance.proofs.Sending.{Sending, send-start, send-inside, send-length, send-place, send-next, send-queue, send-area}
+use Rattle.burst_entrance.proofs.units_in.Statement.{statement}
+use Rattle.burst_entrance.proofs.units_in.Tie as tie
+
+pub units-in-spec : {M : Type 1} → statement M
+units-in-spec =
+    tie.close (tie.spec
+    (λ table n ended s m answers₀ q₀ at₀ i₀ answers q at i. Sending ended (take n table) q₀ s (unitsIn (burstOf s)) m answers₀ q at i answers)
+    (λ table n ended s m answers₀ q₀ at₀ i₀ answers q at i. m - i)
+    (λ c. search send-start)
+    (λ c. let l = send-inside _ _ _ _ _ _ _ _ _ _ (c .loop-test .taken) (c .before .loop .inv) _ refl in search needs)
+    (λ c κs. search needs)
+    (λ c. let l = send-inside _ _ _ _ _ _ _ _ _ _ (c .before .loop-test .taken) (c .before .before .loop .inv) _ (c .length-at .ensures) in search needs)
+    (λ c. search needs) (λ c. search needs)
+    (λ c. let l = send-inside _ _ _ _ _ _ _ _ _ _ (c .before .loop-test .taken) (c .before .before .loop .inv) _ (c .length-at .ensures) in search needs)
+    (λ c κs. search needs) (λ c κs. search needs)
+    (λ c. search send-place) (λ c. omega arith) (λ c. omega arith)
+    (λ c. search send-next) (λ c. send-length _ _ _ _ _ _ _ _ _ _ (c .before .loop .inv)) (λ c. search (send-queue, send-area)))

@@ -1,0 +1,213 @@
+-- What is handed over, gathered line by line by any cursor.
+use mathlib.Core.Path.{_≡_, refl, sym, ap, _∙_, subst, subst⁻¹}
+use mathlib.Core.Bool.{Bool, true, false, true≢false, cond}
+use mathlib.Core.List.{List, [], _∷_}
+use Prim.Native.Nat.{ℕ, suc, _+_, _≤_, _<_, min}
+use native.Mathlib.Omega.{arith}
+use lib.ListN.{length, take, drop, getD, set, replicate, length-take, length-replicate}
+use lib.Seq.{drop-cons, take-suc}
+use Rattle.answer.specs.Numbers.{isTaken}
+use Rattle.answer.specs.declared.Answer.{Answer}
+use Rattle.answer.specs.declared.Answer.the-variants as answer
+use Rattle.formats.specs.declared.Fault.{Fault}
+use Rattle.score_line.specs.Reading.{answerOf}
+use Rattle.score_line.specs.declared.Line.{Line}
+use Rattle.score_line.specs.declared.LineRead.{LineRead}
+use Rattle.bitstream.specs.Reads.{readAt}
+use Rattle.bitstream.specs.Filling.{filled}
+use Rattle.bitstream.specs.declared.Got.{Got}
+use Rattle.bitstream.specs.declared.Got.the-variants.{Value, Short}
+use Rattle.score.specs.Score.{Score, Lines, all, faulty, linesFrom, taken, refusedScore, counted, ended, scoreOf, heard, firstOf, nextOf, Ahead}
+use Rattle.score.specs.declared.Cursor.{Cursor}
+use Rattle.score.specs.declared.Step.{Step}
+use Rattle.score.specs.declared.ScoreRead.{ScoreRead}
+use Rattle.score.proofs.Ways.{fault-not-taken}
+use Rattle.score.proofs.Walk.{ahead-first, ahead-left, ahead-next}
+use Rattle.score_text.specs.Reading.{Text, lines, bad, linesFrom as text-from, judgedFrom, judgement, judged, textOf}
+use Rattle.score_text.specs.Reading.{lineFrom}
+use Rattle.text_line.specs.Results.{lineTold}
+use Rattle.text_line.specs.declared.TextLine.{TextLine}
+use Rattle.text_reader.specs.Texts.{textTold}
+use Rattle.text_reader.specs.Texts.{Ahead as AheadText}
+use Rattle.text_reader.specs.declared.TextRead.{TextRead}
+use Rattle.text_reader.proofs.Walk.{ahead-first as text-first, ahead-next as text-next}
+use Rattle.players.specs.Lists.{over}
+use Rattle.players.specs.Calls.{single}
+use Rattle.players.proofs.Lists.{cond-false}
+use Rattle.players.proofs.Loops.{take-min, over-set}
+use Rattle.doors.specs.Doors.{mostHanded, emptyLine, handedOf}
+use Rattle.doors.specs.declared.Handed.{Handed}
+
+-- the places before any line
+abbrev pub blank : List Line
+blank = replicate mostHanded emptyLine
+
+-- a reading is the lines, or a fault and no lines
+pub data Told : Score → Type 0 where
+  all-read : (ls : List Line) → Told (taken ls)
+  not-read : (a : Answer) (i : ℕ) → isTaken a ≡ false → Told (refusedScore a i)
+
+fault-told : (f : Fault) (i : ℕ) → Told (refusedScore (answerOf f) i)
+fault-told f i = not-read (answerOf f) i (fault-not-taken f)
+
+pub score-told : (bits : List Bool) → Told (scoreOf bits)
+unfolding scoreOf counted ended
+score-told bits = go (readAt bits 0 20)
+  where
+    by-fill : (b : Bool) (ls : List Line) → Told (cond b (taken ls) (refusedScore answer.LeftOver 0))
+    by-fill true ls = all-read ls
+    by-fill false ls = not-read answer.LeftOver 0 refl
+
+    by-lines : (x : Lines) → Told (ended bits x)
+    by-lines (all ls p) = by-fill (filled bits p) ls
+    by-lines (faulty f i) = fault-told f i
+
+    go : (g : Got) → Told (counted bits g)
+    go (Value n p) = by-lines (linesFrom bits n 0 p)
+    go Short = not-read answer.CutShort 0 refl
+
+pub text-told : (bytes : List ℕ) → Told (textOf bytes)
+unfolding textOf
+text-told bytes = go (text-from (length bytes) 0 bytes)
+  where
+    by-lines : (x : Lines) → Told (judgement x)
+    by-lines (all ls p) = all-read ls
+    by-lines (faulty f i) = fault-told f i
+
+    go : (t : Text) → Told (judged t)
+    go (lines ss) = by-lines (judgedFrom 0 ss)
+    go (bad i) = not-read answer.BadText i refl
+
+told-lines : (s : Score) → Told s → isTaken (s .answer) ≡ true → s ≡ taken (s .lines)
+told-lines s (all-read ls) t = refl
+told-lines s (not-read a i e) t = absurd (true≢false (sym t ∙ e))
+
+told-none : (s : Score) → Told s → isTaken (s .answer) ≡ false → s ≡ refusedScore (s .answer) (s .line)
+told-none s (all-read ls) t = absurd (true≢false t)
+told-none s (not-read a i e) t = refl
+
+-- a step of a cursor: where lines lie ahead it gives the first of them, and the others lie ahead of the cursor past it
+abbrev pub Steps : {C : Type 0} → (C → List Line → Type 0) → C → Line → C → Type 0
+Steps Ahead c x d = (l : Line) (ls : List Line) → Ahead c (l ∷ ls) → (x ≡ l) × Ahead d ls
+
+module _ {C : Type 0} (Ahead : C → List Line → Type 0) (ls : List Line) (m : ℕ) where
+  -- a loop up to m: the first i lines are gathered, and the others lie ahead of the cursor
+  pub record Gathered (a : List Line) (c : C) (i : ℕ) : Type 0 where
+    pub most : m ≡ min (length ls) mostHanded
+    pub small : i ≤ m
+    pub here : a ≡ over (take i ls) blank
+    pub ahead : Ahead c (drop i ls)
+
+  pub gather-none : m ≡ min (length ls) mostHanded → (c : C) → Ahead c ls → (l : Line) → l ≡ emptyLine → Gathered (replicate mostHanded l) c 0
+  gather-none e c h l q = record { most = e; small = omega arith; here = ap (replicate mostHanded) q; ahead = h }
+
+  pub gather-next : (a : List Line) (c : C) (i : ℕ) → i < m → Gathered a c i → (x : Line) (d : C) → Steps Ahead c x d → Gathered (set a i x) d (i + 1)
+  gather-next a c i h g x d f =
+      let short : i < length ls = omega (arith, h, g .most) in
+      let n = f (getD ls i emptyLine) (drop (suc i) ls) (subst (Ahead c) (drop-cons ls i emptyLine short) (g .ahead)) in
+      let size : length (take i ls) ≡ i = length-take i ls ∙ omega (arith, short) in
+      let wide : length blank ≡ mostHanded = length-replicate mostHanded emptyLine in
+      let one : suc i ≡ i + 1 = omega arith in
+      record {
+        most = g .most;
+        small = omega arith;
+        here =
+            (λ j. set (g .here j) (sym size j) (n .0 j))
+            ∙ over-set (take i ls) blank (getD ls i emptyLine) (omega (arith, size, wide, h, g .most))
+            ∙ ap (λ (x : List Line). over x blank) (sym (take-suc ls i emptyLine short) ∙ ap (λ (x : ℕ). take x ls) one);
+        ahead = subst (λ (x : ℕ). Ahead d (drop x ls)) one (n .1);
+      }
+
+-- where the loop ends: at most 65 lines
+fewer : (ls : List Line) → take (min (length ls) mostHanded) ls ≡ take mostHanded ls
+fewer ls = let e : min (length ls) mostHanded ≡ min mostHanded (length ls) = omega arith in
+    ap (λ (x : ℕ). take x ls) e ∙ take-min ls mostHanded (length ls) refl
+
+pub gather-end : {C : Type 0} (Ahead : C → List Line → Type 0) (s : Score) → Told s → isTaken (s .answer) ≡ true
+    → (m : ℕ) (a : List Line) (c : C) (i : ℕ) → m ≤ i → Gathered Ahead (s .lines) m a c i
+    → record { timed = true; answer = answer.Taken; line = 0; lines = a; count = i } ≡ handedOf true s
+unfolding handedOf
+gather-end Ahead s t u m a c i h g =
+    let whole = told-lines s t u in
+    let e : i ≡ min (length (s .lines)) mostHanded = omega (arith, g .most, g .small) in
+    let first : take i (s .lines) ≡ take mostHanded (s .lines) = ap (λ (x : ℕ). take x (s .lines)) e ∙ fewer (s .lines) in
+    let size : i ≡ length (take mostHanded (s .lines)) = e ∙ sym (length-take mostHanded (s .lines) ∙ omega arith) in
+    λ j. record {
+      timed = true;
+      answer = sym whole j .answer;
+      line = sym whole j .line;
+      lines = (g .here ∙ ap (λ (x : List Line). over x blank) first) j;
+      count = size j;
+    }
+
+-- a score that was read whole: before its first line, and past each
+pub score-start : (bits : List Bool) → isTaken (scoreOf bits .answer) ≡ true → (c : Cursor) → c ≡ firstOf bits → (m : ℕ) → m ≡ min (c .left) mostHanded
+    → (l : Line) → l ≡ emptyLine → Gathered (Ahead bits) (scoreOf bits .lines) m (replicate mostHanded l) c 0
+score-start bits t c e m k l q =
+    let ls = scoreOf bits .lines in
+    let h = subst⁻¹ (λ (x : Cursor). Ahead bits x ls) e (ahead-first bits ls (told-lines (scoreOf bits) (score-told bits) t)) in
+    gather-none (Ahead bits) ls m (k ∙ ap (λ (x : ℕ). min x mostHanded) (sym (ahead-left bits c ls h))) c h l q
+
+pub score-steps : (bits : List Bool) (c : Cursor) (st : Step) → st ≡ nextOf bits c → Steps (Ahead bits) c (st .line) (st .rest)
+score-steps bits c st e l ls h =
+    let p = ahead-next bits c l ls h in
+    (ap (λ (x : Step). x .line) e ∙ p .line, subst⁻¹ (λ (x : Step). Ahead bits (x .rest) ls) e (p .ahead))
+
+-- a text that was read whole, likewise
+pub text-start : (bytes : List ℕ) → isTaken (textOf bytes .answer) ≡ true → (count : ℕ) → count ≡ length (textOf bytes .lines) → (m : ℕ) → m ≡ min count mostHanded
+    → (l : Line) → l ≡ emptyLine → Gathered (AheadText bytes) (textOf bytes .lines) m (replicate mostHanded l) 0 0
+text-start bytes t count e m k l q =
+    let ls = textOf bytes .lines in
+    gather-none (AheadText bytes) ls m (k ∙ ap (λ (x : ℕ). min x mostHanded) e) 0 (text-first bytes ls (told-lines (textOf bytes) (text-told bytes) t)) l q
+
+pub text-steps : (bytes : List ℕ) (at : ℕ) (st : TextLine) → st ≡ lineTold bytes (lineFrom (drop at bytes)) → Steps (AheadText bytes) at (st .read .line) (st .next)
+text-steps bytes at st e l ls h =
+    let p = text-next bytes at l ls h in
+    (ap (λ (x : TextLine). x .read .line) e ∙ p .line, subst⁻¹ (λ (x : TextLine). AheadText bytes (x .next) ls) e (p .ahead))
+
+-- a fault brings no line
+pub refused-handed : (timed : Bool) (a : Answer) (i : ℕ) (l : Line) → l ≡ emptyLine
+    → record { timed = timed; answer = a; line = i; lines = replicate mostHanded l; count = 0 } ≡ handedOf timed (refusedScore a i)
+unfolding handedOf
+refused-handed timed a i l q = λ j. record { timed = timed; answer = a; line = i; lines = replicate mostHanded (q j); count = 0 }
+
+-- what a first reading told, of the whole
+module _ (s : Score) (t : Told s) (r : ScoreRead) (e : r ≡ heard s) where
+  pub heard-taken : isTaken (r .answer) ≡ true → isTaken (s .answer) ≡ true
+  heard-taken q = ap (λ (x : ScoreRead). isTaken (x .answer)) (sym e) ∙ q
+
+  pub heard-refused : isTaken (r .answer) ≡ false → (h : Handed) → h ≡ handedOf true (refusedScore (r .answer) (r .line)) → h ≡ handedOf true s
+  heard-refused q h k =
+      k ∙ ap (λ (x : ScoreRead). handedOf true (refusedScore (x .answer) (x .line))) e
+      ∙ ap (handedOf true) (sym (told-none s t (ap (λ (x : ScoreRead). isTaken (x .answer)) (sym e) ∙ q)))
+
+-- what the reading of a text tells is what that of a score tells, and how many lines there are
+pub heard-text : (s : Score) (r : TextRead) → r ≡ textTold s → record { answer = r .answer; line = r .line } ≡ heard s
+unfolding textTold
+heard-text s r e = ap (λ (x : TextRead). record { answer = x .answer; line = x .line }) e
+
+pub counted-text : (s : Score) (r : TextRead) → r ≡ textTold s → r .count ≡ length (s .lines)
+unfolding textTold
+counted-text s r e = ap (λ (x : TextRead). x .count) e
+
+-- one line that was read on its own, or none
+module _ (r : LineRead) (l : Line) (q : l ≡ emptyLine) where
+  pub alone-read : (b : Bool) → b ≡ isTaken (r .answer) → b ≡ true
+      → record { timed = false; answer = r .answer; line = 0; lines = set (replicate mostHanded l) 0 (r .line); count = 1 } ≡ handedOf false (single r)
+  unfolding handedOf
+  alone-read b k t = let e : isTaken (r .answer) ≡ true = sym k ∙ t in
+      λ j. record {
+        timed = false;
+        answer = r .answer;
+        line = 0;
+        lines =
+            (ap (λ (x : Line). set (replicate mostHanded x) 0 (r .line)) q
+            ∙ ap (λ (b : Bool). over (take mostHanded (cond b (r .line ∷ []) [])) blank) (sym e)) j;
+        count = length (take mostHanded (cond (sym e j) (r .line ∷ []) []));
+      }
+
+  pub alone-refused : (b : Bool) → b ≡ isTaken (r .answer) → b ≡ false
+      → record { timed = false; answer = r .answer; line = 0; lines = replicate mostHanded l; count = 0 } ≡ handedOf false (single r)
+  alone-refused b k t = let e : isTaken (r .answer) ≡ false = sym k ∙ t in
+      refused-handed false (r .answer) 0 l q
+      ∙ ap (λ (ls : List Line). handedOf false (record { answer = r .answer; line = 0; lines = ls })) (sym (cond-false _ _ e))

@@ -1,0 +1,22 @@
+use Prim.Native.Nat.{_≤_, _-_}
+use native.Mathlib.Omega.{arith}
+use Rattle.bitstream.specs.Bits.{bitsOf}
+use Rattle.score.specs.Score.{scoreOf, Ahead}
+use Rattle.doors.proofs.Gathering.{score-told, Gathered, score-start, score-steps, gather-next, gather-end}
+use Rattle.doors.proofs.gather.Statement.{statement}
+use Rattle.doors.proofs.gather.Tie as tie
+
+pub gather-spec : {M : Type 1} → statement M
+gather-spec =
+    tie.close
+    (tie.spec (λ s lines₀ c₀ m i₀ lines c i. (m ≤ 65) × Gathered (Ahead (bitsOf s)) (scoreOf (bitsOf s) .lines) m lines c i)
+    (λ s lines₀ c₀ m i₀ lines c i. m - i)
+    (λ c κs. tt) (λ c κs. tt) (λ c κs. tt)
+    (λ c. (
+      omega (arith, c .handed-over .ensures),
+      score-start _ (c .before .before .before .before .pre) _ (c .before .first .ensures) _ (c .handed-over .ensures) _ (c .before .before .empty-line .ensures),
+    ))
+    (λ c κs. tt) (λ c. omega arith) (λ c. omega arith) (λ c. omega arith) (λ c. omega arith)
+    (λ c. let at = c .before .before .before .before .loop in
+    (at .inv .0, gather-next _ _ _ _ _ _ (omega arith) (at .inv .1) _ _ (score-steps _ _ _ (c .before .before .next .ensures))))
+    (λ c. gather-end _ _ (score-told _) (c .before .before .before .before .before .before .pre) _ _ _ _ (c .loop-test .left) (c .before .loop .inv .1)))
