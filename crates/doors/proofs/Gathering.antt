@@ -25,8 +25,8 @@ use Rattle.score.proofs.Ways.{fault-not-taken}
 use Rattle.score.proofs.Walk.{ahead-first, ahead-left, ahead-next}
 use Rattle.score_text.specs.Reading.{Text, lines, bad, linesFrom as text-from, judgedFrom, judgement, judged, textOf}
 use Rattle.score_text.specs.Reading.{lineFrom}
-use Rattle.text_line.specs.Results.{lineTold}
-use Rattle.text_line.specs.declared.TextLine.{TextLine}
+use Rattle.text_event.specs.Results.{lineTold}
+use Rattle.text_event.specs.declared.TextLine.{TextLine}
 use Rattle.text_reader.specs.Texts.{textTold}
 use Rattle.text_reader.specs.Texts.{Ahead as AheadText}
 use Rattle.text_reader.specs.declared.TextRead.{TextRead}

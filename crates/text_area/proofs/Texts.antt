@@ -13,7 +13,7 @@ use Rattle.score_area.specs.Area.{areaWords, laid, Left, SlotPut}
 use Rattle.score_area.proofs.Filling.{passed, Filling, filling-start, filling-more, filling-end}
 use Rattle.score_area.proofs.Slots.{taken-is, left-refused, left-short, left-taken}
 use Rattle.score_text.specs.Reading.{textOf}
-use Rattle.text_line.specs.declared.TextLine.{TextLine}
+use Rattle.text_event.specs.declared.TextLine.{TextLine}
 use Rattle.text_reader.specs.Texts.{textTold, lineAt, walked}
 use Rattle.text_reader.specs.declared.TextRead.{TextRead}
 use Rattle.text_reader.proofs.Walk.{walk-all}

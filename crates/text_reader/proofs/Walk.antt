@@ -19,7 +19,7 @@ use Rattle.score.proofs.Ways.{fault-not-taken}
 use Rattle.score_text.specs.Said.{Said, lineSaid}
 use Rattle.score_text.specs.Reading.{lineFrom, mostLines, Text, lines, bad, thenLines, linesFrom, judgedFrom, judgement, judged, textOf}
 use Rattle.score_text.specs.Reading as text
-use Rattle.text_line.specs.Results.{lineTold}
+use Rattle.text_event.specs.Results.{lineTold}
 use Rattle.text_reader.specs.Texts.{lineAt, walked, Ahead}
 use Rattle.text_reader.proofs.Whole.{standing}
 

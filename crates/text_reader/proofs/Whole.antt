@@ -24,9 +24,9 @@ use Rattle.score.proofs.Ways.{fault-not-taken}
 use Rattle.score_text.specs.Said.{Said, lineSaid}
 use Rattle.score_text.specs.Reading.{lineFrom, mostLines, Text, lines, bad, thenLines, unlessNone, linesFrom, judgedFrom, judgement, judged, textOf}
 use Rattle.score_text.specs.Reading as text
-use Rattle.text_line.specs.Results.{noLine, lineTold}
-use Rattle.text_line.specs.declared.TextLine.{TextLine}
-use Rattle.text_line.proofs.Leaves.{Leaves, line-leaves}
+use Rattle.text_event.specs.Results.{noLine, lineTold}
+use Rattle.text_event.specs.declared.TextLine.{TextLine}
+use Rattle.text_event.proofs.Leaves.{Leaves, line-leaves}
 use Rattle.text_reader.specs.Texts.{textTold, badAt, firstOf, countedTo, lineAt}
 use Rattle.text_reader.specs.declared.TextRead.{TextRead}
 

@@ -12,8 +12,8 @@ use Rattle.score.specs.Score.{Score, all}
 use Rattle.score.specs.declared.ScoreRead.{ScoreRead}
 use Rattle.score_text.specs.Said.{Said}
 use Rattle.score_text.specs.Reading.{lineFrom, lines, linesFrom, judgedFrom}
-use Rattle.text_line.specs.Results.{lineTold}
-use Rattle.text_line.specs.declared.TextLine.{TextLine}
+use Rattle.text_event.specs.Results.{lineTold}
+use Rattle.text_event.specs.declared.TextLine.{TextLine}
 use Rattle.text_reader.specs.declared.TextRead.{TextRead}
 
 -- all but the lines, and their number

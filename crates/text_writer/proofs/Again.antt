@@ -44,7 +44,7 @@ use Rattle.line_writer.specs.Writing.{lineFault}
 use Rattle.line_writer.specs.Claims.{taken, isSymbol, storedEvent, stored, meant}
 use Rattle.line_writer.proofs.AnyLine.{every-line-read, every-meant}
 use Rattle.formats.specs.Format.{all as allOf}
-use Rattle.text_writer.specs.LineText.{eventSaid, saidOf, eventNumbers, numbersOf}
+use Rattle.written_line.specs.LineText.{eventSaid, saidOf, eventNumbers, numbersOf}
 use Rattle.text_writer.proofs.Back.{flag-digit, Counts, timed-words, SmallNames}
 
 -- ---- keypad numbers that were read, one after the other

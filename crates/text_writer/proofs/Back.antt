@@ -35,7 +35,7 @@ use Rattle.score_text.specs.Said.{Said, bits, eventWords, wordsOf, lineSaid}
 use Rattle.score_text.specs.Said as said
 use Rattle.score_text.specs.Form.{Behind, Form, instr, control, tempo, end, Written, LawfulName, LawfulValues, LawfulForm, saidBy}
 use Rattle.score_text.specs.Form as form
-use Rattle.text_writer.specs.LineText.{timeSaid, eventSaid, saidOf, PlainValues, PlainForm, Says}
+use Rattle.written_line.specs.LineText.{timeSaid, eventSaid, saidOf, PlainValues, PlainForm, Says}
 
 -- ---- a line's keypad numbers are what it says
 

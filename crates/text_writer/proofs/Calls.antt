@@ -41,11 +41,11 @@ use Rattle.score_writer.specs.declared.Written as call
 use Rattle.score_writer.proofs.Area.{lines-count}
 use Rattle.score_writer.proofs.InSlots.{zero-taken, zero-is, held-from, slots-back}
 use Rattle.score_writer.proofs.Calls.{told-zero, words-long, decodes, decoded-zero, slots-decoded}
-use Rattle.text_writer.specs.LineText.{saidOf, eventNumbers, numbersOf, Says, Unsaid}
+use Rattle.written_line.specs.LineText.{saidOf, eventNumbers, numbersOf, Says, Unsaid}
 use Rattle.text_writer.specs.Writing.{Text, all, lacking, before, textFrom, toldText, leftText, textWritten, textLeft, TextDone}
 use Rattle.text_writer.specs.Claims.{Told, AllSay, no-lines, one-more, TextIs, EveryTextTold, RoomNumber, written, too-short, TextNumber, room, no-text, LikeScore, TextLikeScore, TextReadBack, TextSlotsBack, NeverRefused18, ReadSaid, WrittenAgain, TextReadAgain}
 use Rattle.text_writer.specs.Claims as claims
-use Rattle.text_writer.proofs.Numbers.{float-fits}
+use Rattle.written_line.proofs.Numbers.{float-fits}
 use Rattle.text_writer.proofs.Stored.{lawful-stored}
 use Rattle.text_writer.proofs.Back.{said-line, SmallNames, text-lawful}
 use Rattle.text_writer.proofs.Lines.{line-found, said-not, every-line-told}

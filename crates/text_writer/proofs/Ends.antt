@@ -23,7 +23,7 @@ use Rattle.score_writer.specs.Writing.{mostLines}
 use Rattle.score_writer.specs.Written.{refusal}
 use Rattle.score_writer.specs.declared.Written.{Written}
 use Rattle.score_writer.proofs.InSlots.{fault-back, slot-of}
-use Rattle.text_writer.specs.LineText.{Says, lineText}
+use Rattle.written_line.specs.LineText.{Says, lineText}
 use Rattle.text_writer.specs.Writing.{Text, all, lacking, textFrom, toldText, leftText, textWritten, textLeft, TextDone}
 use Rattle.text_writer.specs.Passes.{measuredPast, Measurable, Layable}
 use Rattle.text_writer.specs.Claims.{Told}

@@ -1,11 +1,8 @@
-pub mod Numbers
 pub mod Stored
 pub mod Back
 pub mod Lines
 pub mod Again
 pub mod Short
-pub mod Pieces
-pub mod Forms
 pub mod Passing
 pub mod Ends
 pub mod Calls

@@ -22,11 +22,11 @@ use Rattle.score_text.specs.Said.{Said}
 use Rattle.score_text.specs.Said as said
 use Rattle.score_text.specs.Form.{Behind, Label, Form, instr, control, tempo, end, Written, LawfulValues, LawfulForm, labelSaid, targetSaid, saidBy}
 use Rattle.score_text.specs.Form as form
-use Rattle.text_writer.specs.NumberText.{numberText}
-use Rattle.text_writer.specs.LineText.{ifThere, timeSaid, eventSaid, saidOf, Single, PlainLabel, PlainTarget, PlainValues, PlainForm, Says, eventNumbers, numbersOf, SomeNoText, here, later, Unsaid, no-time, use-if-late, no-number, single, labelForm, valuesText, eventText, saidText, lineText}
+use Rattle.written_line.specs.NumberText.{numberText}
+use Rattle.written_line.specs.LineText.{ifThere, timeSaid, eventSaid, saidOf, Single, PlainLabel, PlainTarget, PlainValues, PlainForm, Says, eventNumbers, numbersOf, SomeNoText, here, later, Unsaid, no-time, use-if-late, no-number, single, labelForm, valuesText, eventText, saidText, lineText}
 use Rattle.text_writer.specs.Claims.{Told, EveryLineTold}
 use Rattle.text_writer.specs.Claims as claims
-use Rattle.text_writer.proofs.Numbers.{sign-back, NumberTold, plain, none-of, number-told, number-plain}
+use Rattle.written_line.proofs.Numbers.{sign-back, NumberTold, plain, none-of, number-told, number-plain}
 use Rattle.text_writer.proofs.Back.{text-lawful}
 
 -- ---- where there is something

@@ -19,11 +19,11 @@ use Rattle.score_line.specs.declared.LineRead.{LineRead}
 use Rattle.score_text.specs.Form as form
 use Rattle.score_text.specs.Form.{lineBytes, textBytes}
 use Rattle.score_writer.specs.Slots.{slotRead, areaLines}
-use Rattle.text_writer.specs.LineText.{lineText}
-use Rattle.text_writer.specs.Drafts.{Holds}
+use Rattle.written_line.specs.LineText.{lineText}
+use Rattle.written_line.specs.Drafts.{Holds}
 use Rattle.text_writer.specs.Writing.{Text, all, lacking, before, textFrom, leftText}
 use Rattle.text_writer.specs.Passes.{measuredPast, Measurable, Layable, Fits, Put}
-use Rattle.text_writer.specs.declared.Draft.{Draft}
+use Rattle.written_line.specs.declared.Draft.{Draft}
 
 -- ---- a draft and its line
 

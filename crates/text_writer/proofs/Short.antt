@@ -23,9 +23,9 @@ use Rattle.score_text.specs.Said.{Said}
 use Rattle.score_text.specs.Said as said
 use Rattle.score_text.specs.Form.{Behind, Label, Form, instr, control, tempo, end, Written, space, spaces, behindBytes, labelBytes, targetBytes, valueBytes, formBytes, starBytes, lineBytes, LawfulForm, LawfulLabel, saidBy}
 use Rattle.score_text.specs.Form as form
-use Rattle.text_writer.specs.NumberText.{Plain}
-use Rattle.text_writer.specs.LineText.{timeSaid, eventSaid, saidOf, PlainLabel, PlainValues, PlainForm, Says}
-use Rattle.text_writer.proofs.Numbers.{numeral-back}
+use Rattle.written_line.specs.NumberText.{Plain}
+use Rattle.written_line.specs.LineText.{timeSaid, eventSaid, saidOf, PlainLabel, PlainValues, PlainForm, Says}
+use Rattle.written_line.proofs.Numbers.{numeral-back}
 use Rattle.text_writer.proofs.Back.{text-lawful}
 
 number-short : (t : Numeral) → Plain t → length (spelled t) ≤ 10

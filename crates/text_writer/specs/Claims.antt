@@ -18,7 +18,7 @@ use Rattle.score_writer.specs.Slots.{areaLines}
 use Rattle.score_writer.specs.Written.{ScoreDone}
 use Rattle.score_writer.specs.Claims.{Words, SlotsBack, allStored}
 use Rattle.score_writer.specs.declared.Written.{Written}
-use Rattle.text_writer.specs.LineText.{Says, Unsaid, lineText}
+use Rattle.written_line.specs.LineText.{Says, Unsaid, lineText}
 use Rattle.text_writer.specs.Writing.{Text, all, lacking, textFrom, TextDone}
 
 -- ---- a line

@@ -11,7 +11,7 @@ use Rattle.score_text.specs.Form as form
 use Rattle.score_text.specs.Form.{lineBytes, textBytes}
 use Rattle.score_writer.specs.Slots.{slotRead, areaLines}
 use Rattle.score_writer.specs.Writing.{mostLines}
-use Rattle.text_writer.specs.LineText.{lineText}
+use Rattle.written_line.specs.LineText.{lineText}
 use Rattle.text_writer.specs.Writing.{Text, all, lacking, textFrom}
 use Rattle.text_writer.specs.declared.Measure.{Measure}
 

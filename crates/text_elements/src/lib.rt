@@ -1,0 +1,86 @@
+// The elements of a line of text, read at any position among bytes: spaces, the colon, words, names and numbers behind a gap.
+use number_reader::NameRead;
+use number_reader::NumberRead;
+ghost use mathlib.Core.Path.{_≡_};
+ghost use lib.ListN.{drop};
+ghost use Rattle.score_text.specs.Reading.{pastSpaces, gapFrom, colonFrom, wordFrom, nextName, nextNumber};
+ghost use Rattle.number_reader.specs.Results.{numberIs, nameIs};
+ghost use Rattle.text_elements.specs.Passing.{passedIs};
+
+const SPACE: u8 = 32;
+
+const COLON: u8 = 58;
+
+// The position past what had to stand there.
+pub enum Passed {
+    At(usize),
+    Refused,
+}
+
+fn past_spaces(s: &[u8], at: usize) -> usize
+    ensures { λ r. ⌜ drop r (now (s .entry)) ≡ pastSpaces (drop at (now (s .entry))) ⌝ }
+{
+    let mut i = at;
+    while i < s.len() {
+        if s[i] != SPACE {
+            return i;
+        }
+        i += 1;
+    }
+    i
+}
+
+// One space or more.
+pub fn gap_at(s: &[u8], at: usize) -> Passed
+    ensures { λ r. ⌜ passedIs (now (s .entry)) r ≡ gapFrom (drop at (now (s .entry))) ⌝ }
+{
+    if number_reader::starts_with(s, at, SPACE) {
+        return Passed::At(past_spaces(s, at));
+    }
+    Passed::Refused
+}
+
+// A colon, spaces round it optional.
+pub fn colon_at(s: &[u8], at: usize) -> Passed
+    ensures { λ r. ⌜ passedIs (now (s .entry)) r ≡ colonFrom (drop at (now (s .entry))) ⌝ }
+{
+    let p = past_spaces(s, at);
+    if number_reader::starts_with(s, p, COLON) {
+        return Passed::At(past_spaces(s, p + 1));
+    }
+    Passed::Refused
+}
+
+pub fn word_at(s: &[u8], at: usize, word: &[u8]) -> Passed
+    ensures { λ r. ⌜ passedIs (now (s .entry)) r ≡ wordFrom (now (word .entry)) (drop at (now (s .entry))) ⌝ }
+{
+    let mut p = at;
+    let mut i: usize = 0;
+    while i < word.len() {
+        if number_reader::starts_with(s, p, word[i]) {
+            p += 1;
+        } else {
+            return Passed::Refused;
+        }
+        i += 1;
+    }
+    Passed::At(p)
+}
+
+pub fn next_name(s: &[u8], at: usize) -> NameRead
+    ensures { λ r. ⌜ nameIs (now (s .entry)) r ≡ nextName (drop at (now (s .entry))) ⌝ }
+{
+    match gap_at(s, at) {
+        Passed::At(p) => number_reader::name_at(s, p),
+        Passed::Refused => NameRead::Refused,
+    }
+}
+
+pub fn next_number(s: &[u8], at: usize) -> NumberRead
+    ensures { λ r. ⌜ numberIs (now (s .entry)) r ≡ nextNumber (drop at (now (s .entry))) ⌝ }
+{
+    match gap_at(s, at) {
+        Passed::At(p) => number_reader::number_at(s, p),
+        Passed::Refused => NumberRead::Refused,
+    }
+}
