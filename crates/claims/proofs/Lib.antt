@@ -6,6 +6,10 @@ pub mod Keyboard
 pub mod Chosen
 pub mod Cycles
 pub mod Past
+pub mod Fitting
+pub mod Pushing
+pub mod Readings
+pub mod Decided
 pub mod Answers
 pub mod Written
 pub mod Verdicts

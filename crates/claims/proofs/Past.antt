@@ -169,34 +169,6 @@ module _ (program : Program) (ceiling chosen : ℕ) (is : List Instrument) (r : 
   -- ---- a cycle of a history
 
   module _ (k : ℕ) (h : History Held) where
-    over-cycle : h .holds .plays .ended ≡ true → withCycle w (settings ceiling chosen) k h ≡ h
-    unfolding cycled answerOf
-    over-cycle e =
-        let n : answerOf (h .holds) ≡ 9 = cond-true _ _ e in
-        let c : cycled w s (h .holds) ≡ h .holds = cond-true _ _ e in
-        λ i. record { holds = c i; reached = cond (eqb (n i) 0) (at (h .holds .plays .position)) (h .reached) }
-
-    end-cycle : h .holds .plays .ended ≡ false → endsBy (dueOf (h .holds)) (h .holds .plays) ≡ true
-        → withCycle w (settings ceiling chosen) k h ≡ record { holds = record { waits = h .holds .waits; messages = h .holds .messages; plays = marked (h .holds .plays) }; reached = h .reached }
-    unfolding cycled answerOf
-    end-cycle e d =
-        let n : answerOf (h .holds) ≡ 9 = cond-false _ _ e ∙ cond-true _ _ d in
-        let c : cycled w s (h .holds) ≡ record { waits = h .holds .waits; messages = h .holds .messages; plays = marked (h .holds .plays) } = cond-false _ _ e ∙ cond-true _ _ d in
-        λ i. record { holds = c i; reached = cond (eqb (n i) 0) (at (h .holds .plays .position)) (h .reached) }
-
-    play-cycle : h .holds .plays .ended ≡ false → endsBy (dueOf (h .holds)) (h .holds .plays) ≡ false
-        → withCycle w (settings ceiling chosen) k h
-        ≡ record {
-          holds = record { waits = laterThan (h .holds .plays .position) (h .holds .waits); messages = []; plays = played w s (dueOf (h .holds)) (h .holds .plays) };
-          reached = at (h .holds .plays .position);
-        }
-    unfolding cycled answerOf
-    play-cycle e d =
-        let n : answerOf (h .holds) ≡ 0 = cond-false _ _ e ∙ cond-false _ _ d in
-        let c : cycled w s (h .holds) ≡ record { waits = laterThan (h .holds .plays .position) (h .holds .waits); messages = []; plays = played w s (dueOf (h .holds)) (h .holds .plays) } =
-        cond-false _ _ e ∙ cond-false _ _ d in
-        λ i. record { holds = c i; reached = cond (eqb (n i) 0) (at (h .holds .plays .position)) (h .reached) }
-
     nine : h .holds .plays .ended ≡ true → answerOf (h .holds) ≡ 9
     unfolding answerOf
     nine e = cond-true _ _ e
@@ -208,6 +180,28 @@ module _ (program : Program) (ceiling chosen : ℕ) (is : List Instrument) (r : 
     zero-found : h .holds .plays .ended ≡ false → endsBy (dueOf (h .holds)) (h .holds .plays) ≡ false → answerOf (h .holds) ≡ 0
     unfolding answerOf
     zero-found e d = cond-false _ _ e ∙ cond-false _ _ d
+
+    cycle-is : {n : ℕ} {x : Holds Held} → answerOf (h .holds) ≡ n → cycled w s (h .holds) ≡ x
+        → withCycle w (settings ceiling chosen) k h ≡ record { holds = x; reached = cond (eqb n 0) (at (h .holds .plays .position)) (h .reached) }
+    cycle-is n x = λ i. record { holds = x i; reached = cond (eqb (n i) 0) (at (h .holds .plays .position)) (h .reached) }
+
+    over-cycle : h .holds .plays .ended ≡ true → withCycle w (settings ceiling chosen) k h ≡ h
+    unfolding cycled
+    over-cycle e = cycle-is (nine e) (cond-true _ _ e)
+
+    end-cycle : h .holds .plays .ended ≡ false → endsBy (dueOf (h .holds)) (h .holds .plays) ≡ true
+        → withCycle w (settings ceiling chosen) k h ≡ record { holds = record { waits = h .holds .waits; messages = h .holds .messages; plays = marked (h .holds .plays) }; reached = h .reached }
+    unfolding cycled
+    end-cycle e d = cycle-is (nine-found e d) (cond-false _ _ e ∙ cond-true _ _ d)
+
+    play-cycle : h .holds .plays .ended ≡ false → endsBy (dueOf (h .holds)) (h .holds .plays) ≡ false
+        → withCycle w (settings ceiling chosen) k h
+        ≡ record {
+          holds = record { waits = laterThan (h .holds .plays .position) (h .holds .waits); messages = []; plays = played w s (dueOf (h .holds)) (h .holds .plays) };
+          reached = at (h .holds .plays .position);
+        }
+    unfolding cycled
+    play-cycle e d = cycle-is (zero-found e d) (cond-false _ _ e ∙ cond-false _ _ d)
 
   -- ---- the panel's cycle
 
@@ -292,39 +286,28 @@ module _ (program : Program) (ceiling chosen : ℕ) (is : List Instrument) (r : 
       abbrev told : Call → List Answer → History Held
       told c given = with (takenOf (linesOf c) given) (cond (isZero given) (messagesIn c) []) p
 
+      -- a call that plays nothing: what it takes stands behind
+      still : (c : Call) {a : After Panel} → numbered c ≡ false → afterOf p c ≡ a → Kept (a .player) → own (a .player) ≡ told c (a .answers)
+          → (holdsOf p .plays .ended ≡ true → takenOf (linesOf c) (a .answers) ≡ []) → Step c
+      still c u x y own-is no-more =
+          record {
+            kept = subst⁻¹ (λ (a : After Panel). Kept (a .player)) x y;
+            next = ap (λ (a : After Panel). own (a .player)) x ∙ own-is ∙ ap (λ (a : After Panel). told c (a .answers)) (sym x) ∙ sym (cond-false _ _ u);
+            answer = λ t. absurd (differ (sym t ∙ u));
+            block = λ t. λ v. absurd (differ (sym v ∙ u));
+            over = λ e. ap (λ (a : After Panel). takenOf (linesOf c) (a .answers)) x ∙ no-more e;
+          }
+
       door-step : (d : Door) (handed : List ℕ) → Step (bring d handed)
       door-step d handed = go (brings p d handed)
         where
-          c : Call
-          c = bring d handed
-
-          no-more : (n l : ℕ) → eqb n 0 ≡ false → takenOf (linesOf (bring d handed)) (one n l) ≡ []
-          no-more n l e = ap (λ (x : List Line). x ++ []) (cond-false _ _ e)
-
           go : Brings p (reads d handed .lines) (afterOf p (bring d handed)) → Step (bring d handed)
           go (takes l q e f x) =
-              let b = f (k .long) in
-              record {
-                kept = subst⁻¹ (λ (a : After Panel). Kept (a .player)) x (kept-takes p (reads d handed .lines) q b (reads-steady d handed) k);
-                next =
-                    ap (λ (a : After Panel). own (a .player)) x ∙ own-takes p (reads d handed .lines) q b
-                    ∙ ap (λ (xs : List Line). with xs [] p) (sym (append-nil (reads d handed .lines)))
-                    ∙ ap (λ (a : After Panel). told (bring d handed) (a .answers)) (sym x);
-                answer = λ u. absurd (differ′ u);
-                block = λ u. λ t. absurd (differ′ t);
-                over = λ u. absurd (differ (sym u ∙ e));
-              }
+              still (bring d handed) refl x (kept-takes p (reads d handed .lines) q (f (k .long)) (reads-steady d handed) k)
+              (own-takes p (reads d handed .lines) q (f (k .long)) ∙ ap (λ (xs : List Line). with xs [] p) (sym (append-nil (reads d handed .lines)))) (λ u. absurd (differ (sym u ∙ e)))
           go (refuses n l e x) =
-              record {
-                kept = subst⁻¹ (λ (a : After Panel). Kept (a .player)) x k;
-                next =
-                    ap (λ (a : After Panel). own (a .player)) x ∙ own-none p
-                    ∙ (λ i. with (cond (sym e i) (reads d handed .lines) [] ++ []) (cond (sym e i) [] []) p)
-                    ∙ ap (λ (a : After Panel). told (bring d handed) (a .answers)) (sym x);
-                answer = λ u. absurd (differ′ u);
-                block = λ u. λ t. absurd (differ′ t);
-                over = λ u. ap (λ (a : After Panel). takenOf (linesOf (bring d handed)) (a .answers)) x ∙ no-more n l e;
-              }
+              still (bring d handed) refl x k (own-none p ∙ (λ i. with (cond (sym e i) (reads d handed .lines) [] ++ []) (cond (sym e i) [] []) p))
+              (λ u. ap (λ (x : List Line). x ++ []) (cond-false _ _ e))
 
       burst-step : (bytes area : List ℕ) → Step (burst bytes area)
       burst-step bytes area = go (receives p bytes area)
@@ -341,29 +324,10 @@ module _ (program : Program) (ceiling chosen : ℕ) (is : List Instrument) (r : 
               let y = leaves us p (k .long) in
               let ls = taken-of us (singly p us .numbers) in
               let given = one 0 0 ++ each unitAnswer (singly p us .numbers) in
-              record {
-                kept = subst⁻¹ (λ (a : After Panel). Kept (a .player)) x (subst⁻¹ Kept (y .same) (kept-takes p ls (y .queue) (y .behind) (units-steady us (singly p us .numbers)) k));
-                next =
-                    ap (λ (a : After Panel). own (a .player)) x ∙ ap own (y .same) ∙ own-takes p ls (y .queue) (y .behind)
-                    ∙ ap (λ (b : Burst). with (takenOf ([] ∷ each (λ (u : List ℕ). reads unit u .lines) (unitsIn b)) given) [] p) (sym q)
-                    ∙ ap (λ (a : After Panel). told (burst bytes area) (a .answers)) (sym x);
-                answer = λ u. absurd (differ′ u);
-                block = λ u. λ t. absurd (differ′ t);
-                over = λ u.
-                    ap (λ (a : After Panel). takenOf (linesOf (burst bytes area)) (a .answers)) x
-                    ∙ ap (λ (b : Burst). takenOf ([] ∷ each (λ (u : List ℕ). reads unit u .lines) (unitsIn b)) given) q ∙ y .none u;
-              }
-          go (unreceived n z x) =
-              record {
-                kept = subst⁻¹ (λ (a : After Panel). Kept (a .player)) x k;
-                next =
-                    ap (λ (a : After Panel). own (a .player)) x ∙ own-none p
-                    ∙ (λ i. with (sym (nothing n) i) (cond (sym z i) [] []) p)
-                    ∙ ap (λ (a : After Panel). told (burst bytes area) (a .answers)) (sym x);
-                answer = λ u. absurd (differ′ u);
-                block = λ u. λ t. absurd (differ′ t);
-                over = λ u. ap (λ (a : After Panel). takenOf (linesOf (burst bytes area)) (a .answers)) x ∙ nothing n;
-              }
+              still (burst bytes area) refl x (subst⁻¹ Kept (y .same) (kept-takes p ls (y .queue) (y .behind) (units-steady us (singly p us .numbers)) k))
+              (ap own (y .same) ∙ own-takes p ls (y .queue) (y .behind) ∙ ap (λ (b : Burst). with (takenOf ([] ∷ each (λ (u : List ℕ). reads unit u .lines) (unitsIn b)) given) [] p) (sym q))
+              (λ u. ap (λ (b : Burst). takenOf ([] ∷ each (λ (u : List ℕ). reads unit u .lines) (unitsIn b)) given) q ∙ y .none u)
+          go (unreceived n z x) = still (burst bytes area) refl x k (own-none p ∙ (λ i. with (sym (nothing n) i) (cond (sym z i) [] []) p)) (λ u. nothing n)
 
       -- a call that holds no line
       no-line : (given : List Answer) → takenOf ([] ∷ []) given ≡ []
@@ -379,80 +343,37 @@ module _ (program : Program) (ceiling chosen : ℕ) (is : List Instrument) (r : 
         where
           refused : (n : ℕ) → eqb n 0 ≡ false → afterOf p (keyboard bytes) ≡ record { player = p; answers = one n 0; block = []; area = [] } → Step (keyboard bytes)
           refused n e x =
-              record {
-                kept = subst⁻¹ (λ (a : After Panel). Kept (a .player)) x k;
-                next =
-                    ap (λ (a : After Panel). own (a .player)) x ∙ own-none p
-                    ∙ (λ i. with (sym (no-line (one n 0)) i) (cond (sym e i) (wholeMessages (callOf bytes)) []) p)
-                    ∙ ap (λ (a : After Panel). told (keyboard bytes) (a .answers)) (sym x);
-                answer = λ u. absurd (differ′ u);
-                block = λ u. λ t. absurd (differ′ t);
-                over = λ u. no-line (afterOf p (keyboard bytes) .answers);
-              }
+              still (keyboard bytes) refl x k (own-none p ∙ (λ i. with (sym (no-line (one n 0)) i) (cond (sym e i) (wholeMessages (callOf bytes)) []) p)) (λ u. no-line (one n 0))
 
           go : Presses p bytes (afterOf p (keyboard bytes)) → Step (keyboard bytes)
           go (keys-over e x) = refused 9 refl x
           go (keys-faulty f e q z x) = refused (numberOf f) z x
           go (keys-full ms e q l x) = refused 8 refl x
           go (keys-taken ms e q l x) =
-              record {
-                kept = subst⁻¹ (λ (a : After Panel). Kept (a .player)) x (kept-presses p ms l k);
-                next =
-                    ap (λ (a : After Panel). own (a .player)) x ∙ own-presses p ms
-                    ∙ ap (λ (y : midi.Call). with [] (wholeMessages y) p) (sym q)
-                    ∙ ap (λ (a : After Panel). told (keyboard bytes) (a .answers)) (sym x);
-                answer = λ u. absurd (differ′ u);
-                block = λ u. λ t. absurd (differ′ t);
-                over = λ u. absurd (differ (sym u ∙ e));
-              }
+              still (keyboard bytes) refl x (kept-presses p ms l k) (own-presses p ms ∙ ap (λ (y : midi.Call). with [] (wholeMessages y) p) (sym q)) (λ u. refl)
 
-      no-message : (b : Bool) → cond {A = List Message} b [] [] ≡ []
-      no-message true = refl
-      no-message false = refl
-
-      -- nine is not zero
-      unsounded : (b : List ℤ) (m : ℕ) → eqb m 0 ≡ false → afterOf p (cycle b) .answers ≡ one m 0 → isZero (afterOf p (cycle b) .answers) ≡ true → ⊥
-      unsounded b m e x t = differ (sym t ∙ ap isZero x ∙ e)
+      -- a cycle of the list
+      turns : (b : List ℤ) {a : After Panel} → numbered (cycle b) ≡ true → afterOf p (cycle b) ≡ a → Kept (a .player) → own (a .player) ≡ withCycle w (settings ceiling chosen) n (own p)
+          → a .answers ≡ one (answerOf (holdsOf p)) 0 → (isZero (a .answers) ≡ true → a .block ≡ blockOf w s (dueOf (holdsOf p)) (holdsOf p .plays)) → Step (cycle b)
+      turns b u x y own-is told-is sounds =
+          record {
+            kept = subst⁻¹ (λ (a : After Panel). Kept (a .player)) x y;
+            next = ap (λ (a : After Panel). own (a .player)) x ∙ own-is ∙ sym (cond-true _ _ u);
+            answer = λ t. ap (λ (a : After Panel). a .answers) x ∙ told-is;
+            block = λ t. λ v. ap (λ (a : After Panel). a .block) x ∙ sounds (ap (λ (a : After Panel). isZero (a .answers)) (sym x) ∙ t);
+            over = λ t. no-line (afterOf p (cycle b) .answers);
+          }
 
       cycle-step : (b : List ℤ) → Step (cycle b)
       cycle-step b = go (cycles p b)
         where
           go : Cycles p b (afterOf p (cycle b)) → Step (cycle b)
-          go (off u x) =
-              record {
-                kept = subst⁻¹ (λ (a : After Panel). Kept (a .player)) x k;
-                next =
-                    ap (λ (a : After Panel). own (a .player)) x ∙ own-none p
-                    ∙ (λ i. with (sym (no-line (afterOf p (cycle b) .answers)) i) (sym (no-message (isZero (afterOf p (cycle b) .answers))) i) p)
-                    ∙ sym (cond-false _ _ u);
-                answer = λ t. absurd (differ (sym t ∙ u));
-                block = λ t. λ y. absurd (differ (sym y ∙ u));
-                over = λ t. no-line (afterOf p (cycle b) .answers);
-              }
-          go (over-before u e x) =
-              record {
-                kept = subst⁻¹ (λ (a : After Panel). Kept (a .player)) x k;
-                next = ap (λ (a : After Panel). own (a .player)) x ∙ sym (over-cycle n (own p) e) ∙ sym (cond-true _ _ u);
-                answer = λ t. ap (λ (a : After Panel). a .answers) x ∙ ap (λ (m : ℕ). one m 0) (sym (nine n (own p) e));
-                block = λ t. absurd (unsounded b 9 refl (ap (λ (a : After Panel). a .answers) x) t);
-                over = λ t. no-line (afterOf p (cycle b) .answers);
-              }
+          go (off u x) = still (cycle b) u x k (own-none p) (λ t. refl)
+          go (over-before u e x) = turns b u x k (sym (over-cycle n (own p) e)) (ap (λ (m : ℕ). one m 0) (sym (nine n (own p) e))) (λ t. absurd (differ′ t))
           go (ends u e d x) =
-              record {
-                kept = subst⁻¹ (λ (a : After Panel). Kept (a .player)) x (kept-ended p k);
-                next = ap (λ (a : After Panel). own (a .player)) x ∙ own-ended p k ∙ sym (end-cycle n (own p) e d) ∙ sym (cond-true _ _ u);
-                answer = λ t. ap (λ (a : After Panel). a .answers) x ∙ ap (λ (m : ℕ). one m 0) (sym (nine-found n (own p) e d));
-                block = λ t. absurd (unsounded b 9 refl (ap (λ (a : After Panel). a .answers) x) t);
-                over = λ t. no-line (afterOf p (cycle b) .answers);
-              }
+              turns b u x (kept-ended p k) (own-ended p k ∙ sym (end-cycle n (own p) e d)) (ap (λ (m : ℕ). one m 0) (sym (nine-found n (own p) e d))) (λ t. absurd (differ′ t))
           go (plays u e d x) =
-              record {
-                kept = subst⁻¹ (λ (a : After Panel). Kept (a .player)) x (kept-played p k d);
-                next = ap (λ (a : After Panel). own (a .player)) x ∙ own-played p k d ∙ sym (play-cycle n (own p) e d) ∙ sym (cond-true _ _ u);
-                answer = λ t. ap (λ (a : After Panel). a .answers) x ∙ ap (λ (m : ℕ). one m 0) (sym (zero-found n (own p) e d));
-                block = λ t. λ y. ap (λ (a : After Panel). a .block) x ∙ block-is p k;
-                over = λ t. no-line (afterOf p (cycle b) .answers);
-              }
+              turns b u x (kept-played p k d) (own-played p k d ∙ sym (play-cycle n (own p) e d)) (ap (λ (m : ℕ). one m 0) (sym (zero-found n (own p) e d))) (λ t. block-is p k)
 
       step : (c : Call) → Step c
       step (bring d handed) = door-step d handed
@@ -499,7 +420,7 @@ module _ (program : Program) (ceiling chosen : ℕ) (is : List Instrument) (r : 
   sounded p k b t = step 0 none p k (cycle b) .block t (is-numbered (cycles p b))
     where
       is-numbered : Cycles p b (afterOf p (cycle b)) → numbered (cycle b) ≡ true
-      is-numbered (off u x) = absurd (unsounded 0 none p k b 10 refl (ap (λ (a : After Panel). a .answers) x) t)
+      is-numbered (off u x) = absurd (differ′ (ap (λ (a : After Panel). isZero (a .answers)) (sym x) ∙ t))
       is-numbered (over-before u e x) = u
       is-numbered (ends u e d x) = u
       is-numbered (plays u e d x) = u

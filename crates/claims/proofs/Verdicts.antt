@@ -16,7 +16,8 @@ use Rattle.players.specs.History.{Reached, History}
 use Rattle.claims.specs.Verdict.{mostMessages, AllFit, Faulty, AtDoor, over, badText, cut, notCarried, outOfRange, tooManyValues, leftOver, faulty, taken, AtKeyboard, keysOver, keysCut, keysNotCarried, keysFull, keysTaken, AtCycle, otherLength, overBefore, findsEnd, plays, withLines, InTurn, none, next, AtBurst, burstCut, burstTooLong, burstNoRoom, burstTaken, once, Verdict}
 use Rattle.claims.specs.Claims.{past, VerdictGiven, CallVerdict}
 use Rattle.claims.proofs.Past.{placedPast}
-use Rattle.claims.proofs.Answers.{verdict-by-place, decided}
+use Rattle.claims.proofs.Answers.{verdict-by-place}
+use Rattle.claims.proofs.Decided.{decided}
 use Rattle.claims.proofs.Written.{written-past}
 
 -- ---- verdicts: they ask nothing of a history that the notes' values change

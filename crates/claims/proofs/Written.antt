@@ -34,7 +34,8 @@ use Rattle.claims.specs.Claims.{unitAnswer, afterOf, panel, Given, fresh
 use Rattle.claims.proofs.Ranged.{ranged, AllRanged, reads-ranged}
 use Rattle.claims.proofs.Past.{Kept, own, kept-all, stands, fresh-kept, past-is, block-by-place, by-place}
 use Rattle.claims.proofs.Bursts.{Receives, received, unreceived, receives, taken-of}
-use Rattle.claims.proofs.Answers.{at-door-given, at-door, past-unit}
+use Rattle.claims.proofs.Answers.{at-door-given, past-unit}
+use Rattle.claims.proofs.Decided.{at-door}
 
 -- ---- no more values than fields
 

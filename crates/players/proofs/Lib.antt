@@ -7,3 +7,5 @@ pub mod Ceiling
 pub mod Loops
 pub mod Order
 pub mod Results
+pub mod Starting
+pub mod Keys

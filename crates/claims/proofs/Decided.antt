@@ -1,0 +1,176 @@
+-- Every call has a verdict, whatever was called before.
+use mathlib.Core.Path.{_≡_, refl, ap, _∙_, subst}
+use mathlib.Core.Bool.{Bool, true, false, not, cond, _&&_}
+use mathlib.Core.List.{List, [], _∷_, _++_}
+use Prim.Native.Nat.{ℕ, suc, _+_}
+use native.Mathlib.Omega.{arith}
+use lib.IntN.{ℤ}
+use lib.ListN.{length}
+use lib.Dec.{eqb, ltb, leb}
+use borrow.Author.Tests.{ltb-true, ltb-false, leb-true, leb-false}
+use Rattle.answer.specs.declared.Answer as kind
+use Rattle.answer.specs.declared.Answer.the-variants as answer
+use Rattle.score_line.specs.declared.Line.{Line}
+use Rattle.score_text.specs.Reading.{lines}
+use Rattle.syntax.specs.Tree.{Instrument}
+use Rattle.syntax.specs.Names.{has}
+use Rattle.players.specs.Holds.{dueOf, endsBy}
+use Rattle.players.specs.Calls.{Door, unit, mustBeTimed, hasTime, reads, Call, bring, burst, cycle, Answer, one, numbered, keyboard}
+use Rattle.players.specs.History.{History}
+use Rattle.bursts.specs.Bursts as bursts
+use Rattle.bursts.specs.Bursts.{Burst, units, mostUnits}
+use Rattle.bursts.proofs.Meaning as burst-kinds
+use Rattle.bursts.proofs.Meaning.{every-burst, every-kind as every-kind-of-burst}
+use Rattle.claims.specs.Verdict.{Playable, tooLate, mostLines, Fits, AllFit, Faulty, untimed, unplayable, late, full, Verdict, AtDoor, AtCycle, over, badText, cut, notCarried, outOfRange, tooManyValues, leftOver, faulty, taken, otherLength, overBefore, findsEnd, plays, AtKeyboard, mostMessages, keysOver, keysCut, keysNotCarried, keysFull, keysTaken, withLines, InTurn, none, next, burstCut, burstTooLong, burstNoRoom, burstTaken, once}
+use Rattle.claims.proofs.Doors.{differ, differ′}
+use Rattle.messages.specs.Message.{none as noStatus}
+use Rattle.messages.specs.Writing as midi
+use Rattle.messages.specs.Writing.{Says}
+use Rattle.messages.specs.declared.Message.{Message}
+use Rattle.messages.proofs.Meaning.{every-call}
+use Rattle.messages.proofs.Faults.{Kind, is-whole, is-cut, is-not-carried, every-kind}
+use Rattle.claims.proofs.Fitting.{Judged, yes-so, no-so, event-judged}
+use Rattle.claims.proofs.Readings.{Readable, read-whole, read-cut, read-not-carried, read-out-of-range, read-too-many, read-left-over, read-bad-text, reads-so}
+
+module _ {S : Type 0} (is : List Instrument) (h : History S) where
+  -- one answer that a call has
+  pub record Found (P : ℕ → ℕ → Type 0) : Type 0 where
+    pub number : ℕ
+    pub line : ℕ
+    pub verdict : P number line
+
+  module _ (d : Door) where
+    data OneLine (n : ℕ) (l : Line) : Type 0 where
+      fit : Fits is d (h .reached) n l → OneLine n l
+      unfit : (number : ℕ) → Faulty is d (h .reached) n l number → OneLine n l
+
+    implied : (a b : Bool) → (a && not b) ≡ false → a ≡ true → b ≡ true
+    implied true true e q = refl
+    implied true false e q = absurd (differ e)
+    implied false b e q = absurd (differ′ q)
+
+    both : (a b : Bool) → (a && not b) ≡ true → (a ≡ true) × (b ≡ false)
+    both true true e = absurd (differ′ e)
+    both true false e = (refl, refl)
+    both false b e = absurd (differ′ e)
+
+    one-line : (n : ℕ) (l : Line) → OneLine n l
+    one-line n l = by-time (mustBeTimed d && not (hasTime (l .when))) refl
+      where
+        by-room : (mustBeTimed d ≡ true → hasTime (l .when) ≡ true) → Playable is (l .count) (l .event) → tooLate (h .reached) (l .when) ≡ false
+            → (b : Bool) → ltb n mostLines ≡ b → OneLine n l
+        by-room t u w true q = fit (record { timed = t; playable = u; early = w; room = ltb-true n mostLines q })
+        by-room t u w false q = unfit 8 (full t u w (ltb-false n mostLines q))
+
+        by-late : (mustBeTimed d ≡ true → hasTime (l .when) ≡ true) → Playable is (l .count) (l .event) → (b : Bool) → tooLate (h .reached) (l .when) ≡ b → OneLine n l
+        by-late t u true w = unfit 7 (late t u w)
+        by-late t u false w = by-room t u w (ltb n mostLines) refl
+
+        by-fields : {b : Bool} → (mustBeTimed d ≡ true → hasTime (l .when) ≡ true) → Judged (Playable is (l .count) (l .event)) b → OneLine n l
+        by-fields t (yes-so u) = by-late t u (tooLate (h .reached) (l .when)) refl
+        by-fields t (no-so u) = unfit 4 (unplayable t u)
+
+        by-time : (b : Bool) → (mustBeTimed d && not (hasTime (l .when))) ≡ b → OneLine n l
+        by-time true e = let x = both (mustBeTimed d) (hasTime (l .when)) e in unfit 6 (untimed (x .0) (x .1))
+        by-time false e = by-fields (implied (mustBeTimed d) (hasTime (l .when)) e) (event-judged is (l .count) (l .event))
+
+    data Parted (n : ℕ) (ls : List Line) : Type 0 where
+      whole : AllFit is d (h .reached) n ls → Parted n ls
+      broken : (before : List Line) (l : Line) (later : List Line) (number : ℕ) → ls ≡ before ++ (l ∷ later) → AllFit is d (h .reached) n before
+          → Faulty is d (h .reached) (n + length before) l number → Parted n ls
+
+    parted : (ls : List Line) (n : ℕ) → Parted n ls
+    parted [] n = whole tt
+    parted (l ∷ ls) n = go (one-line n l) (parted ls (suc n))
+      where
+        go : OneLine n l → Parted (suc n) ls → Parted n (l ∷ ls)
+        go (unfit number f) r =
+            let same : n ≡ n + 0 = omega arith in
+            broken [] l ls number refl tt (subst (λ (k : ℕ). Faulty is d (h .reached) k l number) same f)
+        go (fit t) (whole u) = whole (t, u)
+        go (fit t) (broken before x later number e u f) =
+            let same : suc n + length before ≡ n + suc (length before) = omega arith in
+            broken (l ∷ before) x later number (ap (λ (xs : List Line). l ∷ xs) e) (t, u) (subst (λ (k : ℕ). Faulty is d (h .reached) k x number) same f)
+
+    pub at-door : (handed : List ℕ) → Found (AtDoor is h d handed)
+    at-door handed = by-end (h .holds .plays .ended) refl
+      where
+        by-lines : h .holds .plays .ended ≡ false → reads d handed .answer ≡ answer.Taken → (ls : List Line) → reads d handed .lines ≡ ls
+            → Parted (length (h .holds .waits)) ls → Found (AtDoor is h d handed)
+        by-lines e q ls s (whole t) = record { number = 0; line = 0; verdict = taken ls (e, q, s) t }
+        by-lines e q ls s (broken before l later number x t f) =
+            record { number = number; line = length before; verdict = faulty before l later (e, q, s ∙ x) t f }
+
+        by-reading : h .holds .plays .ended ≡ false → (a : kind.Answer) → reads d handed .answer ≡ a → Readable a → Found (AtDoor is h d handed)
+        by-reading e _ q read-whole = by-lines e q (reads d handed .lines) refl (parted (reads d handed .lines) (length (h .holds .waits)))
+        by-reading e _ q read-cut = record { number = 1; line = reads d handed .line; verdict = cut e q }
+        by-reading e _ q read-not-carried = record { number = 2; line = reads d handed .line; verdict = notCarried e q }
+        by-reading e _ q read-out-of-range = record { number = 3; line = reads d handed .line; verdict = outOfRange e q }
+        by-reading e _ q read-too-many = record { number = 5; line = reads d handed .line; verdict = tooManyValues e q }
+        by-reading e _ q read-left-over = record { number = 11; line = 0; verdict = leftOver e q }
+        by-reading e _ q read-bad-text = record { number = 18; line = reads d handed .line; verdict = badText e q }
+
+        by-end : (b : Bool) → h .holds .plays .ended ≡ b → Found (AtDoor is h d handed)
+        by-end true e = record { number = 9; line = 0; verdict = over e }
+        by-end false e = by-reading e (reads d handed .answer) refl (reads-so d handed .readable)
+
+  at-keyboard : (bytes : List ℕ) → Found (AtKeyboard is h bytes)
+  at-keyboard bytes = by-end (h .holds .plays .ended) refl
+    where
+      by-room : (ms : List Message) → h .holds .plays .ended ≡ false → Says noStatus bytes (midi.whole ms) → (b : Bool) → leb (length (h .holds .messages) + length ms) mostMessages ≡ b → Found (AtKeyboard is h bytes)
+      by-room ms e s true q = record { number = 0; line = 0; verdict = keysTaken ms e s (leb-true (length (h .holds .messages) + length ms) mostMessages q) }
+      by-room ms e s false q = record { number = 8; line = 0; verdict = keysFull ms e s (leb-false (length (h .holds .messages) + length ms) mostMessages q) }
+
+      by-call : h .holds .plays .ended ≡ false → {c : midi.Call} → Says noStatus bytes c → Kind c → Found (AtKeyboard is h bytes)
+      by-call e s (is-whole ms) = by-room ms e s (leb (length (h .holds .messages) + length ms) mostMessages) refl
+      by-call e s is-cut = record { number = 1; line = 0; verdict = keysCut e s }
+      by-call e s is-not-carried = record { number = 2; line = 0; verdict = keysNotCarried e s }
+
+      by-end : (b : Bool) → h .holds .plays .ended ≡ b → Found (AtKeyboard is h bytes)
+      by-end true e = record { number = 9; line = 0; verdict = keysOver e }
+      by-end false e = by-call e (every-call bytes) (every-kind bytes)
+
+  at-cycle : (block : List ℤ) → Found (AtCycle is h block)
+  at-cycle block = go (numbered (cycle block)) (h .holds .plays .ended) (endsBy (dueOf (h .holds)) (h .holds .plays)) refl refl refl
+    where
+      go : (w e x : Bool) → numbered (cycle block) ≡ w → h .holds .plays .ended ≡ e → endsBy (dueOf (h .holds)) (h .holds .plays) ≡ x → Found (AtCycle is h block)
+      go true true x hw he hx = record { number = 9; line = 0; verdict = overBefore hw he }
+      go true false true hw he hx = record { number = 9; line = 0; verdict = findsEnd hw he hx }
+      go true false false hw he hx = record { number = 0; line = 0; verdict = plays hw he hx }
+      go false e x hw he hx = record { number = 10; line = 0; verdict = otherLength hw }
+
+-- units in turn have answers
+record Answers {S : Type 0} (is : List Instrument) (h : History S) (us : List (List ℕ)) : Type 0 where
+  told : List Answer
+  so : InTurn is h us told
+
+in-turn : {S : Type 0} (is : List Instrument) (us : List (List ℕ)) (h : History S) → Answers is h us
+in-turn is [] h = record { told = []; so = none }
+in-turn is (u ∷ us) h =
+    let x = at-door is h unit u in
+    let y = in-turn is us (withLines h (cond (eqb (x .number) 0) (reads unit u .lines) [])) in
+    record { told = record { number = x .number; line = x .line } ∷ y .told; so = next (x .verdict) (y .so) }
+
+module _ {S : Type 0} (is : List Instrument) (h : History S) where
+  pub record Decided (c : Call) : Type 0 where
+    pub answers : List Answer
+    pub verdict : Verdict is h c answers
+
+  at-burst : (bytes area : List ℕ) → Decided (burst bytes area)
+  at-burst bytes area = by-kind (every-burst bytes) (every-kind-of-burst bytes)
+    where
+      by-room : (us : List (List ℕ)) → bursts.Says mostUnits bytes (units us) → (b : Bool) → leb (length us) (length area) ≡ b → Decided (burst bytes area)
+      by-room us s true q =
+          let y = in-turn is us h in record { answers = one 0 0 ++ y .told; verdict = burstTaken us (y .told) s (leb-true (length us) (length area) q) (y .so) }
+      by-room us s false q = record { answers = one 8 0; verdict = burstNoRoom us s (leb-false (length us) (length area) q) }
+
+      by-kind : {b : Burst} → bursts.Says mostUnits bytes b → burst-kinds.Kind b → Decided (burst bytes area)
+      by-kind s (burst-kinds.is-units us) = by-room us s (leb (length us) (length area)) refl
+      by-kind s burst-kinds.is-cut = record { answers = one 1 0; verdict = burstCut s }
+      by-kind s burst-kinds.is-too-many = record { answers = one 5 0; verdict = burstTooLong s }
+
+  pub decided : (c : Call) → Decided c
+  decided (bring d handed) = let x = at-door is h d handed in record { answers = one (x .number) (x .line); verdict = once (x .verdict) }
+  decided (burst bytes area) = at-burst bytes area
+  decided (keyboard bytes) = let x = at-keyboard is h bytes in record { answers = one (x .number) (x .line); verdict = once (x .verdict) }
+  decided (cycle block) = let x = at-cycle is h block in record { answers = one (x .number) (x .line); verdict = once (x .verdict) }

@@ -1,0 +1,127 @@
+-- Lines on a queue: those that fit go in, and the first that does not gives its number.
+use mathlib.Core.Path.{_≡_, refl, sym, ap, _∙_, subst, subst⁻¹}
+use mathlib.Core.Bool.{Bool, true, false, not, cond}
+use mathlib.Core.List.{List, [], _∷_, _++_}
+use Prim.Native.Nat.{ℕ, suc, _+_, _≤_, _<_}
+use native.Mathlib.Omega.{arith}
+use lib.ListN.{length, length-take, length-append}
+use Rattle.answer.specs.Numbers.{numberOf, isTaken}
+use Rattle.answer.specs.declared.Answer.the-variants as answer
+use Rattle.score_line.specs.declared.Line.{Line}
+use Rattle.score.specs.Score.{Lines, all}
+use Rattle.score_text.specs.Reading.{lines}
+use Rattle.syntax.specs.Tree.{Instrument}
+use Rattle.voices.proofs.Lines.{fields-tree}
+use Rattle.kept_orchestra.specs.Kept.{fieldsIn}
+use Rattle.players.specs.Calls.{Door, mustBeTimed, hasTime, Answer, one}
+use Rattle.players.specs.History.{Reached, nowhere, at}
+use Rattle.players.proofs.Lists.{cond-true, cond-false}
+use Rattle.waiting.specs.Waiting.{isLate}
+use Rattle.waiting.specs.Admission.{unfitEvent, pushed, admitted, waitingIn}
+use Rattle.kept_orchestra.specs.declared.Fields.{Fields}
+use Rattle.waiting.specs.declared.Queue.{Queue}
+use Rattle.waiting.specs.declared.Admitted.{Admitted}
+use Rattle.waiting.proofs.Admission.{admit-unfit, admit-late, admit-taken, admit-full, waiting-pushed, length-pushed}
+use Rattle.entrances.specs.Entrances.{lineIn, pushedAll}
+use Rattle.entrances.specs.declared.Pushed.{Pushed}
+use Rattle.panel.specs.State.{tableOf}
+use Rattle.kept_orchestra.specs.declared.Program.{Program}
+use Rattle.loader_claims.specs.Claims.{StandsFor}
+use Rattle.claims.specs.Verdict.{Playable, tooLate, Fits, AllFit, Faulty, untimed, unplayable, late, full}
+use Rattle.claims.proofs.Fitting.{Judged, judged-no, judged-yes, event-judged, late-same, time-passes, time-fails}
+
+-- the answer of pushed lines
+abbrev pub told : Pushed → List Answer
+told r = one (numberOf (r .answer)) (r .line)
+
+-- ---- one line on a queue
+
+module _ (is : List Instrument) (g : Program) (r : StandsFor is g) (d : Door) (reached : Reached) where
+  -- a queue with so many lines
+  pub record Has (q : Queue) (n : ℕ) : Type 0 where
+    pub long : length (q .lines) ≡ 64
+    pub many : length (waitingIn q) ≡ n
+    pub is-reached : cond (q .ran) (at (q .last)) nowhere ≡ reached
+
+  module _ (q : Queue) (n : ℕ) (h : Has q n) (l : Line) where
+    f : Fields
+    f = fieldsIn (tableOf g) (l .event)
+
+    judged : Judged (Playable is (l .count) (l .event)) (unfitEvent f (l .count) (l .event))
+    unfolding f
+    judged =
+        subst⁻¹ (λ (x : Fields). Judged (Playable is (l .count) (l .event)) (unfitEvent x (l .count) (l .event)))
+        (fields-tree is (tableOf g) (g .code) (g .vals) r (l .event)) (event-judged is (l .count) (l .event))
+
+    on-time : (b : Bool) → tooLate reached (l .when) ≡ b → isLate (q .ran) (q .last) (l .when) ≡ b
+    on-time b e = sym (late-same (q .ran) (q .last) (l .when)) ∙ ap (λ (x : Reached). tooLate x (l .when)) (h .is-reached) ∙ e
+
+    room : n < 64 → q .count < 64
+    room lt = omega (arith, lt, length-take (q .count) (q .lines), h .long, h .many)
+
+    no-room : 64 ≤ n → 64 ≤ q .count
+    no-room le = omega (arith, le, length-take (q .count) (q .lines), h .long, h .many)
+
+    timely : (mustBeTimed d ≡ true → hasTime (l .when) ≡ true) → lineIn (mustBeTimed d) (tableOf g) q l ≡ admitted q l f
+    unfolding lineIn f
+    timely t = cond-false _ _ (time-passes (mustBeTimed d) (hasTime (l .when)) t)
+
+    fits-admits : Fits is d reached n l → lineIn (mustBeTimed d) (tableOf g) q l ≡ record { queue = pushed q l; answer = answer.Taken }
+    fits-admits t = timely (t .timed) ∙ admit-taken q l f (judged-yes judged (t .playable)) (on-time false (t .early)) (room (t .room))
+
+    fits-has : Fits is d reached n l → Has (pushed q l) (suc n)
+    unfolding pushed
+    fits-has t =
+        record {
+          long = length-pushed q l f ∙ h .long;
+          many = ap length (waiting-pushed q l f (h .long) (room (t .room))) ∙ length-append (waitingIn q) (l ∷ []) ∙ omega (arith, h .many);
+          is-reached = h .is-reached;
+        }
+
+    faulty-admits : (number : ℕ) → Faulty is d reached n l number → (numberOf (lineIn (mustBeTimed d) (tableOf g) q l .answer) ≡ number) × (isTaken (lineIn (mustBeTimed d) (tableOf g) q l .answer) ≡ false)
+    unfolding lineIn f
+    faulty-admits number (untimed m t) =
+        let e = cond-true {A = Admitted} (record { queue = q; answer = answer.NoTime }) (admitted q l (fieldsIn (tableOf g) (l .event))) (time-fails (mustBeTimed d) (hasTime (l .when)) m t) in
+        (ap (λ (a : Admitted). numberOf (a .answer)) e, ap (λ (a : Admitted). isTaken (a .answer)) e)
+    faulty-admits number (unplayable t u) =
+        let e = timely t ∙ admit-unfit q l f (judged-no judged u) in
+        (ap (λ (a : Admitted). numberOf (a .answer)) e, ap (λ (a : Admitted). isTaken (a .answer)) e)
+    faulty-admits number (late t u w) =
+        let e = timely t ∙ admit-late q l f (judged-yes judged u) (on-time true w) in
+        (ap (λ (a : Admitted). numberOf (a .answer)) e, ap (λ (a : Admitted). isTaken (a .answer)) e)
+    faulty-admits number (full t u w x) =
+        let e = timely t ∙ admit-full q l f (judged-yes judged u) (on-time false w) (no-room x) in
+        (ap (λ (a : Admitted). numberOf (a .answer)) e, ap (λ (a : Admitted). isTaken (a .answer)) e)
+
+  -- ---- all the lines of a call
+
+  module _ (old : Queue) where
+    abbrev pushes : Queue → ℕ → List Line → Pushed
+    pushes q i ls = pushedAll (mustBeTimed d) (tableOf g) old q i ls
+
+    step : (q : Queue) (n i : ℕ) (l : Line) (ls : List Line) → Has q n → Fits is d reached n l → pushes q i (l ∷ ls) ≡ pushes (pushed q l) (i + 1) ls
+    unfolding pushedAll
+    step q n i l ls h t =
+        ap (λ (a : Admitted). cond (isTaken (a .answer)) (pushedAll (mustBeTimed d) (tableOf g) old (a .queue) (i + 1) ls) (record { queue = old; answer = a .answer; line = i }))
+        (fits-admits q n h l t)
+
+    pub all-fit : (ls : List Line) (q : Queue) (n i : ℕ) → Has q n → AllFit is d reached n ls → told (pushes q i ls) ≡ one 0 0
+    unfolding pushedAll
+    all-fit [] q n i h t = refl
+    all-fit (l ∷ ls) q n i h t = ap told (step q n i l ls h (t .0)) ∙ all-fit ls (pushed q l) (suc n) (i + 1) (fits-has q n h l (t .0)) (t .1)
+
+    pub first-faulty : (before : List Line) (l : Line) (later : List Line) (number : ℕ) (q : Queue) (n i : ℕ) → Has q n → AllFit is d reached n before
+        → Faulty is d reached (n + length before) l number → told (pushes q i (before ++ (l ∷ later))) ≡ one number (i + length before)
+    unfolding pushedAll
+    first-faulty [] l later number q n i h t f =
+        let same : n + 0 ≡ n = omega arith in
+        let x = faulty-admits q n h l number (subst (λ (k : ℕ). Faulty is d reached k l number) same f) in
+        let i-same : i ≡ i + 0 = omega arith in
+        ap told (cond-false _ _ (x .1)) ∙ (λ j. one (x .0 j) (i-same j))
+    first-faulty (b ∷ before) l later number q n i h t f =
+        let same : n + suc (length before) ≡ suc n + length before = omega arith in
+        let i-same : i + 1 + length before ≡ i + suc (length before) = omega arith in
+        ap told (step q n i b (before ++ (l ∷ later)) h (t .0))
+        ∙ first-faulty before l later number (pushed q b) (suc n) (i + 1) (fits-has q n h b (t .0)) (t .1)
+        (subst (λ (k : ℕ). Faulty is d reached k l number) same f)
+        ∙ ap (one number) i-same

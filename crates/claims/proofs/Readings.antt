@@ -1,0 +1,118 @@
+-- The answers of a reading: which there are, and that 11 comes with the number 0.
+use mathlib.Core.Path.{_≡_, refl, ap}
+use mathlib.Core.Bool.{Bool, true, false, cond}
+use mathlib.Core.List.{List, []}
+use Prim.Native.Nat.{ℕ}
+use native.Mathlib.Omega.{arith}
+use lib.ListN.{length}
+use lib.Dec.{eqb}
+use Rattle.answer.specs.Numbers.{numberOf, isTaken}
+use Rattle.answer.specs.declared.Answer as kind
+use Rattle.answer.specs.declared.Answer.the-variants as answer
+use Rattle.bitstream.specs.Bits.{bitsOf}
+use Rattle.bitstream.specs.Reads.{readAt}
+use Rattle.bitstream.specs.Filling.{filled}
+use Rattle.bitstream.specs.declared.Got.{Got}
+use Rattle.bitstream.specs.declared.Got.the-variants.{Value, Short}
+use Rattle.formats.specs.Source.{bitSource, keypadSource}
+use Rattle.formats.specs.Reading.{Read, got, refused}
+use Rattle.formats.specs.declared.Fault.{Fault}
+use Rattle.formats.specs.declared.Fault.the-variants as fault
+use Rattle.score_line.specs.Reading.{lineFrom, lineAt, lineRead, lineInWords, wholeRun, refusedLine, answerOf, keypadLine}
+use Rattle.score_line.specs.declared.Line.{Line}
+use Rattle.score_line.specs.declared.LineRead.{LineRead}
+use Rattle.score.specs.Score.{Score, Lines, all, faulty as faulty-lines, linesFrom, counted, ended as ended-score, scoreOf, unitOf, opened, wholeLine}
+use Rattle.score_text.specs.Reading.{Text, lines, bad, linesFrom as text-from, judgedFrom, judgement, judged as judged-text, textOf}
+use Rattle.players.specs.Calls.{Door, stick, unit, keypad, text, reads, Answer}
+use Rattle.claims.specs.Verdict.{there, next}
+
+-- the answers of a reading
+pub data Readable : kind.Answer → Type 0 where
+  read-whole : Readable answer.Taken
+  read-cut : Readable answer.CutShort
+  read-not-carried : Readable answer.NotCarried
+  read-out-of-range : Readable answer.OutOfRange
+  read-too-many : Readable answer.TooManyValues
+  read-left-over : Readable answer.LeftOver
+  read-bad-text : Readable answer.BadText
+
+fault-readable : (x : Fault) → Readable (answerOf x)
+unfolding answerOf
+fault-readable fault.CutShort = read-cut
+fault-readable fault.NotCarried = read-not-carried
+fault-readable fault.OutOfRange = read-out-of-range
+fault-readable fault.TooManyValues = read-too-many
+
+not-left : (x : Fault) → answerOf x ≡ answer.LeftOver → ⊥
+unfolding answerOf
+not-left fault.CutShort e = let z = ap numberOf e in omega (arith, z)
+not-left fault.NotCarried e = let z = ap numberOf e in omega (arith, z)
+not-left fault.OutOfRange e = let z = ap numberOf e in omega (arith, z)
+not-left fault.TooManyValues e = let z = ap numberOf e in omega (arith, z)
+
+pub record ReadSo (s : Score) : Type 0 where
+  pub readable : Readable (s .answer)
+  pub from-0 : s .answer ≡ answer.LeftOver → s .line ≡ 0
+
+score-so : (bits : List Bool) → ReadSo (scoreOf bits)
+unfolding scoreOf counted ended-score
+score-so bits = by-count (readAt bits 0 20)
+  where
+    by-lines : (x : Lines) → ReadSo (ended-score bits x)
+    by-lines (all ls p) = go (filled bits p)
+      where
+        go : (b : Bool) → ReadSo (cond b (record { answer = answer.Taken; line = 0; lines = ls }) (record { answer = answer.LeftOver; line = 0; lines = [] }))
+        go true = record { readable = read-whole; from-0 = λ e. refl }
+        go false = record { readable = read-left-over; from-0 = λ e. refl }
+    by-lines (faulty-lines f i) = record { readable = fault-readable f; from-0 = λ e. absurd (not-left f e) }
+
+    by-count : (x : Got) → ReadSo (counted bits x)
+    by-count (Value n p) = by-lines (linesFrom bits n 0 p)
+    by-count Short = record { readable = read-cut; from-0 = λ e. refl }
+
+-- a text's answers are 18 and those of its lines; no 11
+text-so : (bytes : List ℕ) → ReadSo (textOf bytes)
+unfolding textOf
+text-so bytes = go (text-from (length bytes) 0 bytes)
+  where
+    by-lines : (x : Lines) → ReadSo (judgement x)
+    by-lines (all ls p) = record { readable = read-whole; from-0 = λ e. refl }
+    by-lines (faulty-lines f i) = record { readable = fault-readable f; from-0 = λ e. absurd (not-left f e) }
+
+    go : (t : Text) → ReadSo (judged-text t)
+    go (lines ss) = by-lines (judgedFrom 0 ss)
+    go (bad i) = record { readable = read-bad-text; from-0 = λ e. absurd (let z = ap numberOf e in omega (arith, z)) }
+
+line-readable : (x : Read Line) → Readable (lineRead x .answer)
+unfolding lineRead refusedLine
+line-readable (got l p) = read-whole
+line-readable (refused f) = fault-readable f
+
+left-or : (a b : Bool) (r : LineRead) → Readable (r .answer) → Readable (cond a (cond b r (refusedLine answer.LeftOver)) r .answer)
+unfolding refusedLine
+left-or true true r h = h
+left-or true false r h = read-left-over
+left-or false b r h = h
+
+unit-readable : (bits : List Bool) → Readable (unitOf bits .answer)
+unfolding unitOf opened wholeLine lineAt refusedLine
+unit-readable bits = go (readAt bits 0 2)
+  where
+    whole : (k : Bool) (r : LineRead) → Readable (r .answer) → Readable (cond k (wholeLine bits r) (refusedLine answer.NotCarried) .answer)
+    whole true r h = left-or (isTaken (r .answer)) (filled bits (r .next)) r h
+    whole false r h = read-not-carried
+
+    go : (x : Got) → Readable (opened bits x .answer)
+    go (Value k p) = whole (eqb k 0) (lineAt bits p) (line-readable (lineFrom (bitSource bits) p))
+    go Short = read-cut
+
+pub reads-so : (d : Door) (handed : List ℕ) → ReadSo (reads d handed)
+unfolding keypadLine wholeRun lineInWords
+reads-so stick b = score-so (bitsOf b)
+reads-so unit b = record { readable = unit-readable (bitsOf b); from-0 = λ e. refl }
+reads-so keypad b =
+    record {
+      readable = left-or (isTaken (lineInWords b 0 .answer)) (eqb (lineInWords b 0 .next) (length b)) (lineInWords b 0) (line-readable (lineFrom (keypadSource b) 0));
+      from-0 = λ e. refl;
+    }
+reads-so text b = text-so b
