@@ -5,8 +5,10 @@ use native.Mathlib.Omega.{arith}
 use mathlib.Core.Path.{_≡_, refl, sym, _∙_}
 use mathlib.Core.List.{List, [], _∷_}
 use lib.ListN.{length, drop}
+use lib.Ieee.{Float}
 use borrow.Author.Tests.{le-leb, lt-leb}
 use Rattle.tokens.specs.declared.Token.{Token}
+use Rattle.syntax.specs.Program.{ins, chooseOp}
 use Rattle.expressions.specs.declared.Got.{Got}
 use Rattle.expressions.specs.declared.Got.the-variants.{Next, Refused}
 use Rattle.expressions.specs.declared.Head.{Head}
@@ -14,12 +16,12 @@ use Rattle.expressions.specs.declared.Head.the-variants.{Push, Unary, Open, Cal
 use Rattle.expressions.specs.declared.Tail.{Tail}
 use Rattle.expressions.specs.declared.Tail.the-variants.{Binary, Question, Stop}
 use Rattle.expressions.specs.Roles.{headL, tailL}
-use Rattle.expressions.specs.Reader.{seq, lastly, byHead, right, parts, reader}
-use Rattle.expressions.specs.Areas.{Areas, left, Ready, Runs, refused}
+use Rattle.expressions.specs.Reader.{seq, sign, emit, lastly, byHead, right, parts, reader}
+use Rattle.expressions.specs.Areas.{Areas, storedAt, oneMore, passed, left, Ready, Runs, gone, refused}
 use Rattle.expressions.proofs.Laws.{All-weaken, reader-bounded, expr·law, more·law, lastly-took}
 use Rattle.expressions.proofs.Tables as Tables
 use Rattle.expressions.proofs.Tables.{Tails, tails, levels}
-use Rattle.expressions.proofs.Runs.{runs-as, runs-after, stays, Past, past-start, past-runs}
+use Rattle.expressions.proofs.Runs.{runs-seq, runs-as, runs-after, runs-sign, runs-emit, stays, Past, past-ready, past-sign, past-passed, past-start, past-runs}
 
 -- ---- a token is there
 
@@ -83,9 +85,24 @@ module _ {ts : List Token} {t k : ℕ} {g h : Got} {m n : Areas} where
   pub past-last : (s o : ℕ) → Past ts t k g m → Runs ts (lastly reader s o) g m h n → Past ts t k h n
   past-last s o p r = past-runs (λ z. All-weaken (lastly-took reader reader-bounded s o z) (λ c r h. omega (arith, h .0))) p r
 
+pub falls : {ts : List Token} {t k : ℕ} {g : Got} {m : Areas} → Past ts t k g m → (left ts g < t) × Ready ts 0 g m
+falls p = (p .less, past-ready p)
+
+-- ---- the last argument of a call
+
+pub last-none : {ts : List Token} (s o : ℕ) {g a : Got} {m : Areas} → a ≡ passed s ts g → a ≡ Refused → Runs ts (lastly reader s o) g m Refused m
+last-none {ts} s o {g} e f = runs-seq (λ p. seq (reader .expr 0 p) (λ q. seq (sign 16 q) (emit (ins o)))) (runs-sign ts s g (sym f ∙ e)) (gone refl refl refl)
+
+pub last-is : {ts : List Token} (s o : ℕ) {g a b c r : Got} {at out : ℕ} {m n u : Areas} → Ready ts 0 g m → a ≡ passed s ts g → a ≡ Next at out → Runs ts (reader .expr 0) (Next at out) m b n
+    → c ≡ passed 16 ts b → r ≡ oneMore c → u ≡ storedAt c n (ins o) → Runs ts (lastly reader s o) g m r u
+last-is {ts} s o {g} {b = b} q e f x h y z =
+    runs-seq (λ p. seq (reader .expr 0 p) (λ q. seq (sign 16 q) (emit (ins o)))) (runs-sign ts s g (sym f ∙ e))
+    (runs-seq (λ q. seq (sign 16 q) (emit (ins o))) x
+    (runs-seq (emit (ins o)) (runs-sign ts 16 b h) (runs-emit (ins o) (past-sign 16 (past-expr 0 (past-passed s q refl (sym f ∙ e) refl) x) h .ready) y z)))
+
 -- ---- what an operand's head leads to
 
-pub expr-as : (ts : List Token) (j at : ℕ) {out : ℕ} {g r : Got} {m n : Areas} {k : Head} (h : Head) → g ≡ Next at out → k ≡ headL (drop at ts) → k ≡ h
+expr-as : (ts : List Token) (j at : ℕ) {out : ℕ} {g r : Got} {m n : Areas} {k : Head} (h : Head) → g ≡ Next at out → k ≡ headL (drop at ts) → k ≡ h
     → Runs ts (λ z. seq (byHead reader h z) (reader .more j)) (Next (at + 1) out) m r n → Runs ts (reader .expr j) g m r n
 expr-as ts j at h q x y w =
     let z : headL (drop at ts) ≡ h = sym x ∙ y in
@@ -95,19 +112,60 @@ pub expr-bad : (ts : List Token) (j at : ℕ) {out : ℕ} {g : Got} {m : Areas} 
     → Runs ts (reader .expr j) g m Refused m
 expr-bad ts j at q x y = let z : headL (drop at ts) ≡ Bad = sym x ∙ y in refused _ _ [] q (expr·law j (drop at ts) ∙ rw z) refl refl
 
+module _ (ts : List Token) (j at : ℕ) {out : ℕ} {g : Got} {m : Areas} {k : Head} (q : Ready ts 0 g m) (e : g ≡ Next at out) (x : k ≡ headL (drop at ts)) where
+  abbrev past : {h : Head} → k ≡ h → Starts h → Past ts (left ts g) 1 (Next (at + 1) out) m
+  past y f = head-past ts at q refl e x y f
+
+  pub push-is : (o a : ℕ) (v : Float) → k ≡ Push o a v → {b r : Got} {n u : Areas} → b ≡ oneMore (Next (at + 1) out) → n ≡ storedAt (Next (at + 1) out) m (record { op = o; arg = a; val = v })
+      → Runs ts (reader .more j) b n r u → Runs ts (reader .expr j) g m r u
+  push-is o a v y c d z = expr-as ts j at (Push o a v) e x y (runs-seq (reader .more j) (runs-emit (record { op = o; arg = a; val = v }) (past y tt .ready) c d) z)
+
+  pub unary-is : (o : ℕ) → k ≡ Unary o → {a b r : Got} {n u w : Areas} → Runs ts (reader .expr 7) (Next (at + 1) out) m a n → b ≡ oneMore a → u ≡ storedAt a n (ins o)
+      → Runs ts (reader .more j) b u r w → Runs ts (reader .expr j) g m r w
+  unary-is o y c d f z =
+      expr-as ts j at (Unary o) e x y (runs-seq (reader .more j) (runs-seq (emit (ins o)) c (runs-emit (ins o) (past-expr 7 (past y tt) c .ready) d f)) z)
+
+  pub open-is : k ≡ Open → {a b r : Got} {n u : Areas} → Runs ts (reader .expr 0) (Next (at + 1) out) m a n → b ≡ passed 16 ts a → Runs ts (reader .more j) b n r u → Runs ts (reader .expr j) g m r u
+  open-is y {a} c d z = expr-as ts j at Open e x y (runs-seq (reader .more j) (runs-seq (sign 16) c (runs-sign ts 16 a d)) z)
+
+  pub call-is : (o : ℕ) → k ≡ Call o → {a r : Got} {n u : Areas} → Runs ts (lastly reader 15 o) (Next (at + 1) out) m a n → Runs ts (reader .more j) a n r u → Runs ts (reader .expr j) g m r u
+  call-is o y c z = expr-as ts j at (Call o) e x y (runs-seq (reader .more j) c z)
+
+  pub call2-is : (o : ℕ) → k ≡ Call2 o → {a b c r : Got} {n u w : Areas} → a ≡ passed 15 ts (Next (at + 1) out) → Runs ts (reader .expr 0) a m b n → Runs ts (lastly reader 19 o) b n c u
+      → Runs ts (reader .more j) c u r w → Runs ts (reader .expr j) g m r w
+  call2-is o y d f h z =
+      expr-as ts j at (Call2 o) e x y
+      (runs-seq (reader .more j)
+      (runs-seq (λ p. seq (reader .expr 0 p) (lastly reader 19 o)) (runs-sign ts 15 (Next (at + 1) out) d) (runs-seq (lastly reader 19 o) f h)) z)
+
 -- ---- what goes on after an operand
 
-pub more-binary : (ts : List Token) (j at : ℕ) {out : ℕ} {g r : Got} {m n : Areas} {k : Tail} (o l : ℕ) → g ≡ Next at out → k ≡ tailL (drop at ts)
+more-as : (ts : List Token) (j at : ℕ) {out : ℕ} {g r : Got} {m n : Areas} {k : Tail} (o l : ℕ) → g ≡ Next at out → k ≡ tailL (drop at ts)
     → k ≡ Binary o l → j ≤ l → Runs ts (λ z. seq (right reader o (l + 1) z) (reader .more j)) (Next (at + 1) out) m r n → Runs ts (reader .more j) g m r n
-more-binary ts j at o l q x y le w =
+more-as ts j at o l q x y le w =
     let z : tailL (drop at ts) ≡ Binary o l = sym x ∙ y in
     rw q (runs-as (reader .more j) refl (more·law j (drop at ts) ∙ rw (z, le-leb j l le, add-one)) (runs-after w))
 
-pub more-question : (ts : List Token) (j at : ℕ) {out : ℕ} {g r : Got} {m n : Areas} {k : Tail} → g ≡ Next at out → k ≡ tailL (drop at ts)
+question-as : (ts : List Token) (j at : ℕ) {out : ℕ} {g r : Got} {m n : Areas} {k : Tail} → g ≡ Next at out → k ≡ tailL (drop at ts)
     → k ≡ Question → j ≡ 0 → Runs ts (λ z. seq (parts reader z) (reader .more j)) (Next (at + 1) out) m r n → Runs ts (reader .more j) g m r n
-more-question ts j at q x y e w =
+question-as ts j at q x y e w =
     let z : tailL (drop at ts) ≡ Question = sym x ∙ y in
     rw q (runs-as (reader .more j) refl (more·law j (drop at ts) ∙ rw (z, le-leb j 0 (omega arith))) (runs-after w))
+
+module _ (ts : List Token) (j at : ℕ) {out : ℕ} {g : Got} {m : Areas} {k : Tail} (q : Ready ts 0 g m) (e : g ≡ Next at out) (x : k ≡ tailL (drop at ts)) where
+  pub binary-is : (o l : ℕ) → k ≡ Binary o l → j ≤ l → {a b r : Got} {n u w : Areas} → Runs ts (reader .expr (l + 1)) (Next (at + 1) out) m a n → b ≡ oneMore a → u ≡ storedAt a n (ins o)
+      → Runs ts (reader .more j) b u r w → Runs ts (reader .more j) g m r w
+  binary-is o l y le c d f z =
+      more-as ts j at o l e x y le
+      (runs-seq (reader .more j) (runs-seq (emit (ins o)) c (runs-emit (ins o) (past-expr (l + 1) (tail-past ts at q refl e x y tt) c .ready) d f)) z)
+
+  pub choice-is : k ≡ Question → j ≡ 0 → {a b c d r : Got} {n u v w : Areas} → Runs ts (reader .expr 0) (Next (at + 1) out) m a n → b ≡ passed 23 ts a → Runs ts (reader .expr 0) b n c u
+      → d ≡ oneMore c → v ≡ storedAt c u (ins chooseOp) → Runs ts (reader .more j) d v r w → Runs ts (reader .more j) g m r w
+  choice-is y le {a} f h i c v z =
+      question-as ts j at e x y le
+      (runs-seq (reader .more j) (runs-seq (λ p. seq (sign 23 p) (λ q. seq (reader .expr 0 q) (emit (ins chooseOp)))) f
+      (runs-seq (λ q. seq (reader .expr 0 q) (emit (ins chooseOp))) (runs-sign ts 23 a h) (runs-seq (emit (ins chooseOp)) i
+      (runs-emit (ins chooseOp) (past-expr 0 (past-sign 23 (past-expr 0 (tail-past ts at q refl e x y tt) f) h) i .ready) c v)))) z)
 
 module _ (ts : List Token) (j at : ℕ) {out : ℕ} {g : Got} {m : Areas} {k : Tail} (r : Ready ts 0 g m) (q : g ≡ Next at out) (x : k ≡ tailL (drop at ts)) where
   pub stop-binary : (o l : ℕ) → k ≡ Binary o l → l < j → Runs ts (reader .more j) g m (Next at out) m
