@@ -11,7 +11,7 @@ use lib.Dec.{eqb}
 use Rattle.answer.specs.Numbers.{numberOf, isTaken}
 use Rattle.answer.specs.declared.Answer.the-variants as answer
 use Rattle.score_line.specs.declared.Line.{Line}
-use Rattle.synth.specs.declared.Note.{Note}
+use Rattle.notes.specs.declared.Note.{Note}
 use Rattle.players.specs.Lists.{each, keep, over}
 use Rattle.players.specs.Cycle.{isDue, samples}
 use Rattle.players.specs.Cycle as cycle

@@ -10,7 +10,7 @@ use lib.ListN.{length, take}
 use lib.Seq.{take-at}
 use Rattle.timebase.specs.Time.{cycleIn}
 use Rattle.limiter.specs.Block as block
-use Rattle.synth.specs.declared.Note.{Note}
+use Rattle.notes.specs.declared.Note.{Note}
 use Rattle.players.specs.Lists.{each, keep, over}
 use Rattle.players.specs.Cycle.{Voices, Band, Started, positionLimit, lastTempo, started, controlled, afterMessages, runAll, goesOn}
 use Rattle.players.specs.Cycle as cycle

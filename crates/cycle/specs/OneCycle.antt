@@ -1,14 +1,18 @@
 -- One cycle, steps 1 to 8, on the state that it changes.
-use mathlib.Core.Bool.{Bool, true, cond}
+use mathlib.Core.Bool.{Bool, true, false, not, cond, _&&_}
 use mathlib.Core.List.{List}
-use Prim.Native.Nat.{ℕ}
+use Prim.Native.Nat.{ℕ, _+_, min}
 use lib.IntN.{ℤ}
-use lib.ListN.{length}
+use lib.Dec.{ltb, eqb}
+use lib.Ieee.{Float, binary32, ofBits}
+use lib.ListN.{length, replicate}
+use Rattle.timebase.specs.Time.{cycleIn}
 use Rattle.limiter.specs.Block.{limited}
 use Rattle.players.specs.Lists.{over}
-use Rattle.players.specs.Cycle.{Voices}
+use Rattle.players.specs.Cycle.{Voices, samples, positionLimit}
 use Rattle.players.specs.Holds.{Settings, Holds, laterThan, dueOf, endsBy, bandOf}
-use Rattle.waiting.specs.Admission.{waitingIn}
+use Rattle.waiting.specs.Waiting.{anyDue}
+use Rattle.waiting.specs.Admission.{mostLines, waitingIn}
 use Rattle.waiting.specs.declared.Queue.{Queue}
 use Rattle.keyboard.specs.Keyboard.{messagesIn}
 use Rattle.keyboard.specs.declared.Messages.{Messages}
@@ -47,7 +51,28 @@ playedOf v s x =
       playing = advanced v s (dueOf (holdsOf x)) (x .playing);
     }
 
--- step 1, then the others
+-- ---- a cycle of rest: no line is due, no note message waits and no note sounds
+
+unfoldable pub restsNow : State → Bool
+restsNow x =
+    not (ltb positionLimit (x .playing .position)) && eqb (x .playing .notes .count) 0 && eqb (x .messages .count) 0
+    && not (anyDue (x .playing .position) (waitingIn (x .queue)))
+
+-- the clock goes on, and nothing else
+unfoldable pub restedOf : State → State
+restedOf x =
+    let p = x .playing in
+    record {
+      queue = record { lines = x .queue .lines; count = min (x .queue .count) mostLines; ran = true; last = p .position };
+      messages = x .messages;
+      playing = record { notes = p .notes; position = p .position + cycleIn (p .tempo); tempo = p .tempo; missed = min (p .missed + 0) 18446744073709551615; ended = false };
+    }
+
+-- a mix that nothing adds to
+unfoldable pub silence : List Float
+silence = replicate samples (ofBits binary32 0)
+
+-- ---- step 1, then the others
 unfoldable pub stateAfter : Voices Held → Settings → State → State
 stateAfter v s x = cond (endsNow x) (record { queue = x .queue; messages = x .messages; playing = stopped (x .playing) }) (playedOf v s x)
 

@@ -1,16 +1,16 @@
 -- Steps 2 to 8 on what plays, as the panel keeps it.
 use mathlib.Core.List.{List}
 use lib.ListN.{length, take}
-use Rattle.waiting.specs.declared.Lines.{Lines}
 use Rattle.keyboard.specs.Keyboard.{messagesIn}
-use Rattle.keyboard.specs.declared.Messages.{Messages}
 use Rattle.players.specs.Lists.{each, over}
 use Rattle.players.specs.Cycle.{Voices}
 use Rattle.players.specs.Cycle as cycle
-use Rattle.players.specs.Holds.{Settings, Due, Plays, capped, played}
+use Rattle.players.specs.Holds.{Settings, settingsOf, Due, Plays, capped, played}
 use Rattle.kept_voices.specs.Voices.{Held}
 use Rattle.sounding.specs.Notes.{notesIn, structOf}
 use Rattle.sounding.specs.declared.Notes.{Notes}
+use Rattle.cycle.specs.declared.Due.{Due as DueNow}
+use Rattle.cycle.specs.declared.Settings.{Settings as Fixed}
 use Rattle.cycle.specs.declared.Performed.{Performed}
 use Rattle.cycle.specs.declared.Playing.{Playing}
 
@@ -30,8 +30,12 @@ playsOf p =
     }
 
 -- what acts: the first lines of an array, and the note messages that wait
-abbrev pub dueIn : Lines → Messages → Due
-dueIn due keys = record { lines = take (due .count) (due .lines); messages = messagesIn keys }
+abbrev pub dueIn : DueNow → Due
+dueIn due = record { lines = take (due .lines .count) (due .lines .lines); messages = messagesIn (due .messages) }
+
+-- what a fresh start fixed
+abbrev pub settingsIn : Fixed → Settings
+settingsIn s = settingsOf (s .ceiling) (s .chosen)
 
 -- what plays now, laid over what played before: the array keeps what the notes do not reach
 abbrev pub laidOver : Playing → Plays Held → Playing

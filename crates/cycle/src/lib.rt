@@ -2,6 +2,7 @@
 use kept_orchestra::Instrument;
 use keyboard::Messages;
 use sounding::Notes;
+use sounding::Started;
 use waiting::Lines;
 use waiting::Queue;
 ghost use mathlib.Core.Path.{_≡_};
@@ -11,11 +12,11 @@ ghost use lib.Dec.{ltb};
 ghost use lib.ListN.{take};
 ghost use Rattle.limiter.specs.Block.{limited};
 ghost use Rattle.players.specs.Cycle.{positionLimit, anyEnd, runAll};
-ghost use Rattle.players.specs.Holds.{settingsOf, bandOf};
+ghost use Rattle.players.specs.Holds.{bandOf};
 ghost use Rattle.keyboard.specs.Keyboard.{messagesIn};
 ghost use Rattle.kept_voices.specs.Voices.{voices};
-ghost use Rattle.cycle.specs.Steps.{soundingIn, playsOf, dueIn, performedOf, advanced};
-ghost use Rattle.cycle.specs.OneCycle.{queueAfter, usedOf, stateAfter, blockAfter};
+ghost use Rattle.cycle.specs.Steps.{soundingIn, playsOf, dueIn, settingsIn, performedOf, advanced};
+ghost use Rattle.cycle.specs.OneCycle.{queueAfter, usedOf, restsNow, restedOf, silence, stateAfter, blockAfter};
 
 // What plays: the sounding notes, position, tempo, missed notes and the mark of the end.
 pub struct Playing {
@@ -33,11 +34,29 @@ pub struct State {
     pub playing: Playing,
 }
 
+// What a fresh start fixes: the ceiling, and the instrument of the keyboard's notes by its name.
+pub struct Settings {
+    pub ceiling: u16,
+    pub chosen: u16,
+}
+
+// What acts in a cycle: the due lines, in order, and the note messages that wait.
+struct Due {
+    lines: Lines,
+    messages: Messages,
+}
+
+// The limit on position.
+const POSITION_LIMIT: u64 = 1000000000000;
+
+// Most lines that wait.
+const MOST_LINES: usize = 64;
+
 // Step 1: an end line is due, or the position is past the limit.
 fn is_over(position: u64, due: Lines) -> bool
     ensures { λ r. ⌜ r ≡ (ltb positionLimit position || anyEnd (take (due .count) (due .lines))) ⌝ }
 {
-    if 1000000000000 < position {
+    if POSITION_LIMIT < position {
         return true;
     }
     let lines = due.lines;
@@ -93,32 +112,20 @@ fn perform<'a>(
     code: &'a [u64],
     vals: &'a [f32],
     p: Playing,
-    due: Lines,
-    keys: Messages,
-    ceiling: u16,
-    chosen: u16,
+    due: Due,
+    settings: Settings,
     block: &mut [i16],
 ) -> Performed
     requires { ⌜ p .position ≤ positionLimit ⌝ }
-    ensures notes { λ r. ⌜ r ≡ performedOf (voices (take n table) (now (code .entry)) (now (vals .entry))) (settingsOf ceiling chosen) (dueIn due keys) p ⌝ }
-    ensures block { λ r. ⌜ now (block .exit) ≡ limited ceiling (bandOf (voices (take n table) (now (code .entry)) (now (vals .entry))) (settingsOf ceiling chosen) (dueIn due keys) (playsOf p) .mix) (now (block .entry)) ⌝ }
+    ensures notes { λ r. ⌜ r ≡ performedOf (voices (take n table) (now (code .entry)) (now (vals .entry))) (settingsIn settings) (dueIn due) p ⌝ }
+    ensures block { λ r. ⌜ now (block .exit) ≡ limited (settings .ceiling) (bandOf (voices (take n table) (now (code .entry)) (now (vals .entry))) (settingsIn settings) (dueIn due) (playsOf p) .mix) (now (block .entry)) ⌝ }
 {
     let old = p.notes;
     let position = p.position;
-    let notes = old.notes;
-    let lines = due.lines;
-    let v = sounding::start_notes(
-        table,
-        n,
-        code,
-        vals,
-        notes,
-        old.count,
-        lines,
-        due.count,
-        position,
-    );
+    let acting = due.lines;
+    let v = sounding::start_notes(table, n, code, vals, old, acting, position);
     let born = v.notes;
+    let lines = acting.lines;
     let c = sounding::control_lines(
         table,
         n,
@@ -127,10 +134,25 @@ fn perform<'a>(
             count: v.count,
         },
         lines,
-        due.count,
+        acting.count,
     );
+    let changed = c.notes;
+    let keys = due.messages;
     let list = keys.list;
-    let k = sounding::play_messages(table, n, code, vals, c, v.missed, chosen, list, keys.count);
+    let k = sounding::play_messages(
+        table,
+        n,
+        code,
+        vals,
+        Started {
+            notes: changed,
+            count: c.count,
+            missed: v.missed,
+        },
+        settings.chosen,
+        list,
+        keys.count,
+    );
     let played = k.notes;
     let h = sound(
         table,
@@ -141,13 +163,14 @@ fn perform<'a>(
             notes: played,
             count: k.count,
         },
-        ceiling,
+        settings.ceiling,
         block,
     );
     let heard = h.notes;
     let g = sounding::remaining(heard, h.count, position);
     let left = g.notes;
-    let out = sounding::laid(left, g.count, notes);
+    let before = old.notes;
+    let out = sounding::laid(left, g.count, before);
     Performed {
         notes: Notes {
             notes: out,
@@ -164,20 +187,19 @@ fn advance<'a>(
     code: &'a [u64],
     vals: &'a [f32],
     p: Playing,
-    due: Lines,
-    keys: Messages,
-    ceiling: u16,
-    chosen: u16,
+    due: Due,
+    settings: Settings,
     block: &mut [i16],
 ) -> Playing
     requires { ⌜ p .position ≤ positionLimit ⌝ }
-    ensures playing { λ r. ⌜ r ≡ advanced (voices (take n table) (now (code .entry)) (now (vals .entry))) (settingsOf ceiling chosen) (dueIn due keys) p ⌝ }
-    ensures block { λ r. ⌜ now (block .exit) ≡ limited ceiling (bandOf (voices (take n table) (now (code .entry)) (now (vals .entry))) (settingsOf ceiling chosen) (dueIn due keys) (playsOf p) .mix) (now (block .entry)) ⌝ }
+    ensures playing { λ r. ⌜ r ≡ advanced (voices (take n table) (now (code .entry)) (now (vals .entry))) (settingsIn settings) (dueIn due) p ⌝ }
+    ensures block { λ r. ⌜ now (block .exit) ≡ limited (settings .ceiling) (bandOf (voices (take n table) (now (code .entry)) (now (vals .entry))) (settingsIn settings) (dueIn due) (playsOf p) .mix) (now (block .entry)) ⌝ }
 {
     let position = p.position;
-    let lines = due.lines;
-    let tempo = waiting::tempo_after(lines, due.count, p.tempo);
-    let t = perform(table, n, code, vals, p, due, keys, ceiling, chosen, block);
+    let acting = due.lines;
+    let lines = acting.lines;
+    let tempo = waiting::tempo_after(lines, acting.count, p.tempo);
+    let t = perform(table, n, code, vals, p, due, settings, block);
     let notes = t.notes;
     let step = timebase::ticks_per_cycle(tempo);
     Playing {
@@ -215,6 +237,53 @@ fn used(keys: Messages) -> Messages
     }
 }
 
+// Whether a cycle is one of rest: no line is due, no note message waits and no note sounds.
+fn rests(s: State) -> bool
+    ensures { λ r. ⌜ r ≡ restsNow s ⌝ }
+{
+    let position = s.playing.position;
+    if POSITION_LIMIT < position {
+        return false;
+    }
+    if s.playing.notes.count != 0 {
+        return false;
+    }
+    if s.messages.count != 0 {
+        return false;
+    }
+    let q = s.queue;
+    let lines = q.lines;
+    !waiting::has_due(lines, q.count, position)
+}
+
+fn within(n: usize, most: usize) -> usize
+    ensures { λ r. ⌜ r ≡ min n most ⌝ }
+{
+    if n < most { n } else { most }
+}
+
+// A cycle of rest: silence, and the clock goes on. Nothing large is copied.
+fn rested(mut s: State, ceiling: u16, block: &mut [i16]) -> State
+    requires { ⌜ s .playing .position ≤ positionLimit ⌝ }
+    ensures state { λ r. ⌜ r ≡ restedOf s ⌝ }
+    ensures block { λ r. ⌜ now (block .exit) ≡ limited ceiling silence (now (block .entry)) ⌝ }
+{
+    let mix = [0.0f32; 320];
+    limiter::limit(&mix, ceiling, block);
+    let position = s.playing.position;
+    let step = timebase::ticks_per_cycle(s.playing.tempo);
+    let next = position + step;
+    let waiting = within(s.queue.count, MOST_LINES);
+    let missed = more_missed(s.playing.missed, 0);
+    s.queue.count = waiting;
+    s.queue.ran = true;
+    s.queue.last = position;
+    s.playing.position = next;
+    s.playing.missed = missed;
+    s.playing.ended = false;
+    s
+}
+
 // One cycle: the state afterwards, marked as ended where step 1 ends the piece.
 pub fn one_cycle<'a>(
     table: [Instrument; 8],
@@ -222,13 +291,15 @@ pub fn one_cycle<'a>(
     code: &'a [u64],
     vals: &'a [f32],
     mut s: State,
-    ceiling: u16,
-    chosen: u16,
+    settings: Settings,
     block: &mut [i16],
 ) -> State
-    ensures state { λ r. ⌜ r ≡ stateAfter (voices (take n table) (now (code .entry)) (now (vals .entry))) (settingsOf ceiling chosen) s ⌝ }
-    ensures block { λ r. ⌜ now (block .exit) ≡ blockAfter (voices (take n table) (now (code .entry)) (now (vals .entry))) (settingsOf ceiling chosen) s (now (block .entry)) ⌝ }
+    ensures state { λ r. ⌜ r ≡ stateAfter (voices (take n table) (now (code .entry)) (now (vals .entry))) (settingsIn settings) s ⌝ }
+    ensures block { λ r. ⌜ now (block .exit) ≡ blockAfter (voices (take n table) (now (code .entry)) (now (vals .entry))) (settingsIn settings) s (now (block .entry)) ⌝ }
 {
+    if rests(s) {
+        return rested(s, settings.ceiling, block);
+    }
     let q = s.queue;
     let keys = s.messages;
     let mut p = s.playing;
@@ -240,7 +311,11 @@ pub fn one_cycle<'a>(
         s.playing = p;
         return s;
     }
-    let next = advance(table, n, code, vals, p, due, keys, ceiling, chosen, block);
+    let acts = Due {
+        lines: due,
+        messages: keys,
+    };
+    let next = advance(table, n, code, vals, p, acts, settings, block);
     State {
         queue: keep_waiting(q, position),
         messages: used(keys),

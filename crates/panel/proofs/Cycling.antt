@@ -1,62 +1,49 @@
--- One law for each way through a cycle call.
-use mathlib.Core.Path.{_≡_, sym, ap, _∙_}
-use mathlib.Core.Bool.{true, false}
+-- A cycle on the panel is the cycle on its state.
+use mathlib.Core.Path.{_≡_, refl, ap, _∙_}
+use mathlib.Core.Bool.{Bool, true, false, cond}
 use mathlib.Core.List.{List}
 use Prim.Native.Nat.{ℕ}
 use lib.IntN.{ℤ}
+use lib.Dec.{eqb}
 use lib.ListN.{length}
-use borrow.Author.Tests.{eq-eqb, ne-eqb}
 use Rattle.answer.specs.Numbers.{isTaken}
+use Rattle.answer.specs.declared.Answer.{Answer}
 use Rattle.answer.specs.declared.Answer.the-variants.{Taken, Ended, BlockLength}
-use Rattle.players.specs.Holds.{dueOf, bandOf, blockOf}
-use Rattle.players.proofs.Lists.{cond-true, cond-false}
+use Rattle.players.specs.Cycle.{samples}
+use Rattle.players.specs.Holds.{dueOf, blockOf}
 use Rattle.cycle.specs.OneCycle as oneCycle
 use Rattle.cycle.specs.declared.State.{State}
-use Rattle.cycle.proofs.Stepping.{ended-law, has-stopped, has-played}
-use Rattle.cycle.proofs.Samples.{length-mix, whole-block}
+use Rattle.calls.specs.OnState.{cycledOf, blockLeft}
+use Rattle.calls.specs.declared.Left.{Left}
 use Rattle.panel.specs.State.{voicesOf, holdsOf, settingsIn, withState, endedOf}
 use Rattle.panel.specs.Calls.{playedOf, cycleOf, blockAfter}
 use Rattle.panel.specs.declared.Panel.{Panel}
 use Rattle.panel.specs.declared.Cycled.{Cycled}
 
-module _ (p : Panel) (n : ℕ) where
-  pub cycle-off : (n ≡ 320 → ⊥) → record { panel = p; answer = BlockLength } ≡ cycleOf p n
-  unfolding cycleOf
-  cycle-off h = sym (cond-false _ _ (ne-eqb n 320 h))
+module _ (p : Panel) where
+  -- what a call leaves of the panel, from what it leaves of the state
+  abbrev onPanel : Left → Cycled
+  onPanel r = record { panel = withState p (r .state); answer = r .answer }
 
-  pub cycle-ended : n ≡ 320 → p .state .playing .ended ≡ true → record { panel = p; answer = Ended } ≡ cycleOf p n
-  unfolding cycleOf
-  cycle-ended h e = sym (cond-true _ _ (eq-eqb n 320 h) ∙ cond-true _ _ e)
+  abbrev left : State → Answer → Left
+  left s a = record { state = s; answer = a }
 
-  module _ (h : n ≡ 320) (e : p .state .playing .ended ≡ false) (s : State) (is : s ≡ oneCycle.stateAfter (voicesOf (p .program)) (settingsIn p) (p .state)) where
-    pub cycle-ends : s .playing .ended ≡ true → record { panel = withState p s; answer = Ended } ≡ cycleOf p n
-    unfolding cycleOf endedOf
-    cycle-ends t =
-        ap (λ (x : State). record { panel = withState p x; answer = Ended }) (has-stopped _ _ _ _ s is t)
-        ∙ sym (cond-true _ _ (eq-eqb n 320 h) ∙ cond-false _ _ e ∙ cond-true _ _ (ended-law _ _ _ _ s is ∙ t))
+  chosen : (a b c : Bool) (q r : State)
+      → onPanel (cond a (cond b (left (p .state) Ended) (cond c (left q Ended) (left r Taken))) (left (p .state) BlockLength))
+      ≡ cond a (cond b (record { panel = p; answer = Ended }) (cond c (record { panel = withState p q; answer = Ended }) (record { panel = withState p r; answer = Taken })))
+      (record { panel = p; answer = BlockLength })
+  chosen false b c q r = refl
+  chosen true true c q r = refl
+  chosen true false true q r = refl
+  chosen true false false q r = refl
 
-    pub cycle-plays : s .playing .ended ≡ false → record { panel = withState p s; answer = Taken } ≡ cycleOf p n
-    unfolding cycleOf playedOf
-    cycle-plays t =
-        ap (λ (x : State). record { panel = withState p x; answer = Taken }) (has-played _ _ _ _ s is t)
-        ∙ sym (cond-true _ _ (eq-eqb n 320 h) ∙ cond-false _ _ e ∙ cond-false _ _ (ended-law _ _ _ _ s is ∙ t))
+  pub cycle-same : (n : ℕ) (r : Left) → r ≡ cycledOf (voicesOf (p .program)) (settingsIn p) (p .state) n
+      → record { panel = withState p (r .state); answer = r .answer } ≡ cycleOf p n
+  unfolding cycledOf cycleOf playedOf endedOf
+  cycle-same n r e = ap onPanel e ∙ chosen (eqb n samples) (p .state .playing .ended) (oneCycle.endsNow (p .state)) _ _
 
--- ---- the lent block
-
-module _ (p : Panel) (lent : List ℤ) (x : Cycled) (q : x ≡ cycleOf p (length lent)) where
-  pub block-stays : isTaken (x .answer) ≡ false → lent ≡ blockAfter p lent
-  unfolding blockAfter
-  block-stays t = sym (cond-false _ _ (ap (λ (y : Cycled). isTaken (y .answer)) (sym q) ∙ t))
-
-  module _ (s : State) (is : s ≡ oneCycle.stateAfter (voicesOf (p .program)) (settingsIn p) (p .state))
-      (left : List ℤ) (r : left ≡ oneCycle.blockAfter (voicesOf (p .program)) (settingsIn p) (p .state) lent) where
-    pub block-ends : s .playing .ended ≡ true → isTaken (x .answer) ≡ false → left ≡ blockAfter p lent
-    unfolding oneCycle.blockAfter
-    block-ends d t = r ∙ cond-true _ _ (ended-law _ _ _ _ s is ∙ d) ∙ block-stays t
-
-    pub block-plays : s .playing .ended ≡ false → isTaken (x .answer) ≡ true → length lent ≡ 320 → left ≡ blockAfter p lent
-    unfolding oneCycle.blockAfter blockAfter blockOf
-    block-plays d t h =
-        r ∙ cond-false _ _ (ended-law _ _ _ _ s is ∙ d)
-        ∙ whole-block (p .ceiling) (bandOf (voicesOf (p .program)) (settingsIn p) (dueOf (holdsOf p)) (holdsOf p .plays) .mix) lent (length-mix _ _ _ _ _ _ ∙ sym h)
-        ∙ sym (cond-true _ _ (ap (λ (y : Cycled). isTaken (y .answer)) (sym q) ∙ t))
+  pub block-same : (lent after : List ℤ) → after ≡ blockLeft (voicesOf (p .program)) (settingsIn p) (p .state) lent → after ≡ blockAfter p lent
+  unfolding blockLeft blockAfter
+  block-same lent after e =
+      e ∙ ap (λ (x : Cycled). cond (isTaken (x .answer)) (blockOf (voicesOf (p .program)) (settingsIn p) (dueOf (holdsOf p)) (holdsOf p .plays)) lent)
+      (cycle-same (length lent) _ refl)

@@ -1,23 +1,20 @@
 -- One law for each way through the fresh start and the entrances.
-use mathlib.Core.Path.{_≡_, sym, ap, _∙_}
+use mathlib.Core.Path.{_≡_, refl, sym, ap, _∙_}
 use mathlib.Core.Bool.{Bool, true, false, _&&_, cond}
 use mathlib.Core.List.{List, []}
 use Prim.Native.Nat.{ℕ, _≤_, _<_}
 use lib.Dec.{leb}
-use lib.ListN.{replicate}
 use borrow.Author.Tests.{le-leb, lt-leb}
 use Rattle.answer.specs.Numbers.{isTaken}
 use Rattle.answer.specs.declared.Answer.the-variants.{OutOfRange, NoInstrument, Ended}
 use Rattle.score.specs.Score.{Score}
-use Rattle.score_line.specs.declared.Line.{Line}
-use Rattle.players.specs.Holds.{sixty}
 use Rattle.players.specs.Calls.{Door, mustBeTimed, reads}
 use Rattle.players.proofs.Lists.{cond-true, cond-false}
-use Rattle.doors.specs.Doors.{emptyLine, handedOf, scoreIn}
+use Rattle.doors.specs.Doors.{handedOf, scoreIn}
 use Rattle.entrances.specs.Entrances.{broughtIn}
 use Rattle.doors.specs.declared.Handed.{Handed}
 use Rattle.entrances.proofs.Pushing.{handed-timed, handed-brings}
-use Rattle.panel.specs.State.{tableOf, withQueue, withMessages, emptyNote, startOf}
+use Rattle.panel.specs.State.{tableOf, withState, withQueue, withMessages, startOf}
 use Rattle.panel.specs.Calls.{noPanel, hasChosen, freshOf, broughtOf, bringOf, playKeysOf}
 use Rattle.panel.specs.declared.Panel.{Panel}
 use Rattle.loader.specs.declared.Ready.{Ready}
@@ -26,36 +23,14 @@ use Rattle.loader.specs.Loading.{loadOf as loadedFrom}
 use Rattle.panel.specs.declared.Fresh.{Fresh}
 use Rattle.entrances.specs.declared.Pushed.{Pushed}
 use Rattle.panel.specs.declared.Brought.{Brought}
-use Rattle.synth.specs.declared.Note.{Note}
+use Rattle.panel.specs.declared.Played.{Played}
+use Rattle.calls.specs.OnState as onState
+use Rattle.calls.specs.OnState.{pressedOf}
+use Rattle.calls.specs.declared.Brought.{Brought as OnState}
+use Rattle.calls.specs.declared.Left.{Left}
 use Rattle.messages.specs.Reading.{callOf}
-use Rattle.keyboard.specs.Keyboard.{noMessages, pressedIn}
-use Rattle.keyboard.specs.declared.Messages.{Messages}
+use Rattle.keyboard.specs.Keyboard.{pressedIn}
 use Rattle.keyboard.specs.declared.Pressed.{Pressed}
-
--- the panel at its start, whose places hold an empty line, an empty note and an empty message
-pub start-law : (program : Program) (ceiling chosen : ℕ) (ended : Bool) (l : Line) → l ≡ emptyLine → (n : Note) → n ≡ emptyNote → (m : Messages) → m ≡ noMessages
-    → _≡_ {A = Panel} (record {
-      state = record {
-        queue = record { lines = replicate 64 l; count = 0; ran = false; last = 0 };
-        messages = m;
-        playing = record { notes = record { notes = replicate 16 n; count = 0 }; position = 0; tempo = sixty; missed = 0; ended = ended };
-      };
-      ceiling = ceiling;
-      chosen = chosen;
-      program = program;
-    }) (startOf program ceiling chosen ended)
-unfolding startOf
-start-law program ceiling chosen ended l e n f m g =
-    λ i. record {
-      state = record {
-        queue = record { lines = replicate 64 (e i); count = 0; ran = false; last = 0 };
-        messages = g i;
-        playing = record { notes = record { notes = replicate 16 (f i); count = 0 }; position = 0; tempo = sixty; missed = 0; ended = ended };
-      };
-      ceiling = ceiling;
-      chosen = chosen;
-      program = program;
-    }
 
 module _ (orchestra : List ℕ) (ceiling chosen : ℕ) where
   pub fresh-low : ceiling < 1 → (q : Program) → q ≡ loadedFrom [] .program → (x : Fresh) → x ≡ noPanel q OutOfRange → x ≡ freshOf orchestra ceiling chosen
@@ -99,20 +74,29 @@ module _ (orchestra : List ℕ) (ceiling chosen : ℕ) (r : Ready) (er : r ≡ l
 
 -- at the keyboard
 module _ (p : Panel) (bytes : List ℕ) where
-  pub keys-over : p .state .playing .ended ≡ true → record { panel = p; answer = Ended } ≡ playKeysOf p bytes
-  unfolding playKeysOf
-  keys-over h = sym (cond-true _ _ h)
+  pub keys-same : (r : Left) → r ≡ pressedOf (p .state) bytes → record { panel = withState p (r .state); answer = r .answer } ≡ playKeysOf p bytes
+  unfolding pressedOf playKeysOf withMessages
+  keys-same r e = ap (λ (x : Left). record { panel = withState p (x .state); answer = x .answer }) e ∙ either (p .state .playing .ended)
+    where
+      y : Pressed
+      y = pressedIn (p .state .messages) (callOf bytes)
 
-  pub keys-in : p .state .playing .ended ≡ false → (r : Pressed) → r ≡ pressedIn (p .state .messages) (callOf bytes)
-      → record { panel = withMessages p (r .messages); answer = r .answer } ≡ playKeysOf p bytes
-  unfolding playKeysOf
-  keys-in h r e = ap (λ (x : Pressed). record { panel = withMessages p (x .messages); answer = x .answer }) e ∙ sym (cond-false _ _ h)
+      after : Left
+      after = record { state = record { queue = p .state .queue; messages = y .messages; playing = p .state .playing }; answer = y .answer }
+
+      stays : Left
+      stays = record { state = p .state; answer = Ended }
+
+      either : (b : Bool) → _≡_ {A = Played} (record { panel = withState p (cond b stays after .state); answer = cond b stays after .answer })
+          (cond b (record { panel = p; answer = Ended }) (record { panel = withMessages p (y .messages); answer = y .answer }))
+      either true = refl
+      either false = refl
 
 -- at a door
-pub brings-in : (p : Panel) (timed : Bool) (s : Score) (r : Pushed) → r ≡ broughtIn (p .state .playing .ended) timed (tableOf (p .program)) (p .state .queue) s
-    → record { panel = withQueue p (r .queue); answer = r .answer; line = r .line } ≡ broughtOf p timed s
-unfolding broughtOf
-brings-in p timed s r e = ap (λ (x : Pushed). record { panel = withQueue p (x .queue); answer = x .answer; line = x .line }) e
+pub brings-in : (p : Panel) (timed : Bool) (s : Score) (r : OnState) → r ≡ onState.broughtOf (tableOf (p .program)) (p .state) timed s
+    → record { panel = withState p (r .state); answer = r .answer; line = r .line } ≡ broughtOf p timed s
+unfolding broughtOf onState.broughtOf withQueue
+brings-in p timed s r e = ap (λ (x : OnState). record { panel = withState p (x .state); answer = x .answer; line = x .line }) e
 
 -- what is handed over at a door does what the whole reading does
 module _ (p : Panel) (d : Door) (handed : List ℕ) where

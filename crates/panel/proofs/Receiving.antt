@@ -10,13 +10,15 @@ use Rattle.answer.specs.declared.Answer.the-variants.{Taken, NoRoom}
 use Rattle.bursts.specs.Bursts.{Burst, units, fault, burstOf}
 use Rattle.players.specs.Lists.{over}
 use Rattle.players.specs.Calls.{unit, mustBeTimed, reads}
-use Rattle.entrances.specs.Entrances.{broughtIn}
 use Rattle.burst_entrance.specs.Singly.{singlyIn, sentIn, areaIn}
+use Rattle.entrances.specs.Entrances.{broughtIn}
 use Rattle.burst_entrance.specs.declared.Sent.{Sent}
-use Rattle.panel.specs.State.{tableOf, withQueue}
+use Rattle.panel.specs.State.{tableOf, withState, withQueue}
 use Rattle.panel.specs.Calls.{broughtOf, bringOf, Singly, singly, receivedOf, receiveOf, answeredIn, areaAfter}
 use Rattle.panel.specs.declared.Panel.{Panel}
 use Rattle.panel.specs.declared.Received.{Received}
+use Rattle.calls.specs.OnState.{sentOf}
+use Rattle.calls.specs.declared.Received.{Received as OnState}
 
 -- units that come singly change nothing but the waiting lines
 module _ (p : Panel) where
@@ -55,11 +57,11 @@ module _ (p : Panel) where
   answered-is area (units us) = ap (λ (x : Singly). cond (leb (length us) (length area)) (over (x .numbers) area) area) (singly-is us p)
 
   module _ (bytes : List ℕ) where
-    pub receives : (places : ℕ) (r : Sent) → r ≡ sentIn (p .state .playing .ended) (tableOf (p .program)) (p .state .queue) places (burstOf bytes)
-        → record { panel = withQueue p (r .queue); answer = r .answer; units = r .units } ≡ receiveOf p bytes places
-    unfolding receiveOf
+    pub receives : (places : ℕ) (r : OnState) → r ≡ sentOf (tableOf (p .program)) (p .state) places (burstOf bytes)
+        → record { panel = withState p (r .state); answer = r .answer; units = r .units } ≡ receiveOf p bytes places
+    unfolding sentOf receiveOf withQueue
     receives places r e =
-        ap (λ (x : Sent). record { panel = withQueue p (x .queue); answer = x .answer; units = x .units }) e ∙ received-is places (burstOf bytes)
+        ap (λ (x : OnState). record { panel = withState p (x .state); answer = x .answer; units = x .units }) e ∙ received-is places (burstOf bytes)
 
     pub answers-in : (area after : List ℕ) → after ≡ areaIn (p .state .playing .ended) (tableOf (p .program)) (p .state .queue) area (burstOf bytes) → after ≡ areaAfter p bytes area
     unfolding areaAfter

@@ -1,21 +1,17 @@
 -- The panel's value: its state, and its program's voices.
-use mathlib.Core.Bool.{Bool, false}
+use mathlib.Core.Bool.{Bool}
 use mathlib.Core.List.{List}
 use Prim.Native.Nat.{ℕ}
-use lib.ListN.{take, replicate}
-use lib.Ieee.{binary32, ofBits}
-use Rattle.synth.specs.Notes.{newNote}
-use Rattle.synth.specs.declared.Note.{Note}
+use lib.ListN.{take}
 use Rattle.waiting.specs.declared.Queue.{Queue}
 use Rattle.players.specs.Cycle.{Voices}
-use Rattle.players.specs.Holds.{Settings, settingsOf, Holds, sixty}
-use Rattle.keyboard.specs.Keyboard.{noMessages}
+use Rattle.players.specs.Holds.{Settings, settingsOf, Holds}
 use Rattle.keyboard.specs.declared.Messages.{Messages}
-use Rattle.doors.specs.Doors.{emptyLine}
 use Rattle.kept_voices.specs.Voices.{Held, voices}
 use Rattle.kept_orchestra.specs.declared.Instrument.{Instrument}
 use Rattle.cycle.specs.OneCycle as oneCycle
 use Rattle.cycle.specs.declared.State.{State}
+use Rattle.calls.specs.OnState.{startState}
 use Rattle.kept_orchestra.specs.declared.Program.{Program}
 use Rattle.panel.specs.declared.Panel.{Panel}
 
@@ -53,20 +49,6 @@ endedOf p = withState p (record { queue = p .state .queue; messages = p .state .
 
 -- ---- a fresh start
 
-unfoldable pub emptyNote : Note
-emptyNote =
-    newNote (replicate 16 (ofBits binary32 0)) false 0 0 false 0 false false 0 0 false
-
--- no line and no note message waits, no note sounds, position 0, the starting tempo, none missed; ended only where the start is refused
+-- the state of every start, beside what this one fixes
 unfoldable pub startOf : Program → ℕ → ℕ → Bool → Panel
-startOf program ceiling chosen ended =
-    record {
-      state = record {
-        queue = record { lines = replicate 64 emptyLine; count = 0; ran = false; last = 0 };
-        messages = noMessages;
-        playing = record { notes = record { notes = replicate 16 emptyNote; count = 0 }; position = 0; tempo = sixty; missed = 0; ended = ended };
-      };
-      ceiling = ceiling;
-      chosen = chosen;
-      program = program;
-    }
+startOf program ceiling chosen ended = record { state = startState ended; ceiling = ceiling; chosen = chosen; program = program }

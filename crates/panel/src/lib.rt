@@ -1,11 +1,12 @@
 // The panel: its state by value, the fresh start, the entrances and the cycle (documents 01 and 02).
 use answer::Answer;
-use cycle::Playing;
+use cycle::Settings;
 use cycle::State;
 use doors::Handed;
+use kept_orchestra::Instrument;
 use kept_orchestra::Program;
-use sounding::Notes;
-use waiting::Queue;
+use operations::CODE;
+use operations::PROGRAM;
 ghost use mathlib.Core.Path.{_≡_};
 ghost use mathlib.Core.List.{[]};
 ghost use lib.ListN.{length};
@@ -13,6 +14,7 @@ ghost use Rattle.panel.specs.State.{startOf};
 ghost use Rattle.loader.specs.Loading.{loadOf as loadedFrom};
 ghost use Rattle.players.specs.Calls.{stick, unit, keypad, text};
 ghost use Rattle.doors.specs.Doors.{scoreIn};
+ghost use Rattle.panel.specs.Core.{panelOf, BroughtAs, ReceivedAs, AreaAs, PlayedAs, cycledWith};
 ghost use Rattle.panel.specs.Calls.{noPanel, hasChosen, freshOf, broughtOf, bringOf, receiveOf, areaAfter, playKeysOf, cycleOf, blockAfter};
 
 // What the calls change, beside what a fresh start fixes.
@@ -53,18 +55,158 @@ pub struct Cycled {
     pub answer: Answer,
 }
 
+// A panel without its code, which a host keeps and lends: what the calls change, beside what a fresh start fixes.
+pub struct Core {
+    state: State,
+    settings: Settings,
+    table: [Instrument; 8],
+    count: usize,
+}
+
+// A panel in two: its code and the numbers in it are lent to each cycle.
+pub struct Parted {
+    pub core: Core,
+    pub code: [u64; CODE],
+    pub vals: [f32; PROGRAM],
+}
+
+pub struct CoreBrought {
+    pub core: Core,
+    pub answer: Answer,
+    pub line: usize,
+}
+
+pub struct CoreReceived {
+    pub core: Core,
+    pub answer: Answer,
+    pub units: usize,
+}
+
+pub struct CoreLeft {
+    pub core: Core,
+    pub answer: Answer,
+}
+
+// What was handed in at a door, read, into the waiting lines.
+fn bring_core(mut c: Core, h: Handed) -> CoreBrought
+    ensures { λ r. ⌜ BroughtAs c r (λ p. broughtOf p (h .timed) (scoreIn h)) ⌝ }
+{
+    let table = c.table;
+    let state = c.state;
+    let r = calls::bring(table, c.count, state, h);
+    let left = r.state;
+    let given = r.answer;
+    c.state = left;
+    CoreBrought {
+        core: c,
+        answer: given,
+        line: r.line,
+    }
+}
+
+// A stick, an access unit, a keypad line, a text, a burst, keyboard bytes and a cycle, each as on the panel.
+impl Core {
+    pub fn load_score(self, s: &[u8]) -> CoreBrought
+        ensures { λ r. ⌜ BroughtAs self r (λ p. bringOf p stick (now (s .entry))) ⌝ }
+    {
+        bring_core(self, doors::stick(s))
+    }
+
+    pub fn receive_unit(self, s: &[u8]) -> CoreBrought
+        ensures { λ r. ⌜ BroughtAs self r (λ p. bringOf p unit (now (s .entry))) ⌝ }
+    {
+        bring_core(self, doors::unit(s))
+    }
+
+    pub fn enter_line(self, words: &[u32]) -> CoreBrought
+        ensures { λ r. ⌜ BroughtAs self r (λ p. bringOf p keypad (now (words .entry))) ⌝ }
+    {
+        bring_core(self, doors::keypad(words))
+    }
+
+    pub fn load_text(self, s: &[u8]) -> CoreBrought
+        ensures { λ r. ⌜ BroughtAs self r (λ p. bringOf p text (now (s .entry))) ⌝ }
+    {
+        bring_core(self, doors::text(s))
+    }
+
+    pub fn receive_burst(mut self, s: &[u8], answers: &mut [u8]) -> CoreReceived
+        ensures panel { λ r. ⌜ ReceivedAs self r (λ p. receiveOf p (now (s .entry)) (length (now (answers .entry)))) ⌝ }
+        ensures area { λ r. ⌜ AreaAs self (now (answers .exit)) (λ p. areaAfter p (now (s .entry)) (now (answers .entry))) ⌝ }
+    {
+        let table = self.table;
+        let state = self.state;
+        let r = calls::receive_burst(table, self.count, state, s, answers);
+        let left = r.state;
+        let given = r.answer;
+        self.state = left;
+        CoreReceived {
+            core: self,
+            answer: given,
+            units: r.units,
+        }
+    }
+
+    pub fn play_keys(mut self, bytes: &[u8]) -> CoreLeft
+        ensures { λ r. ⌜ PlayedAs self r (λ p. playKeysOf p (now (bytes .entry))) ⌝ }
+    {
+        let state = self.state;
+        let r = calls::play_keys(state, bytes);
+        let left = r.state;
+        let given = r.answer;
+        self.state = left;
+        CoreLeft {
+            core: self,
+            answer: given,
+        }
+    }
+
+    pub fn cycle<'a>(mut self, code: &'a [u64], vals: &'a [f32], block: &mut [i16]) -> CoreLeft
+        ensures panel { λ r. ⌜ cycledWith (now (code .entry)) (now (vals .entry)) r ≡ cycleOf (panelOf self (now (code .entry)) (now (vals .entry))) (length (now (block .entry))) ⌝ }
+        ensures block { λ r. ⌜ now (block .exit) ≡ blockAfter (panelOf self (now (code .entry)) (now (vals .entry))) (now (block .entry)) ⌝ }
+    {
+        let table = self.table;
+        let state = self.state;
+        let settings = self.settings;
+        let r = calls::cycle(table, self.count, code, vals, state, settings, block);
+        let left = r.state;
+        let given = r.answer;
+        self.state = left;
+        CoreLeft {
+            core: self,
+            answer: given,
+        }
+    }
+
+    pub fn missed_notes(self) -> u64
+        ensures { λ r. ⌜ r ≡ self .state .playing .missed ⌝ }
+    {
+        self.state.playing.missed
+    }
+
+    pub fn waiting_lines(self) -> usize
+        ensures { λ r. ⌜ r ≡ self .state .queue .count ⌝ }
+    {
+        self.state.queue.count
+    }
+
+    pub fn sounding_notes(self) -> usize
+        ensures { λ r. ⌜ r ≡ self .state .playing .notes .count ⌝ }
+    {
+        self.state.playing.notes.count
+    }
+}
+
 // What was handed in at a door, read, into the waiting lines.
 fn bring(mut p: Panel, h: Handed) -> Brought
     ensures { λ r. ⌜ r ≡ broughtOf p (h .timed) (scoreIn h) ⌝ }
 {
     let table = p.program.table;
-    let mut state = p.state;
-    let q = state.queue;
-    let r = entrances::bring_in(table, p.program.count, state.playing.ended, q, h);
-    let left = r.queue;
+    let state = p.state;
+    let r = calls::bring(table, p.program.count, state, h);
+    let left = r.state;
     let given = r.answer;
-    state.queue = left;
-    p.state = state;
+    p.state = left;
     Brought {
         panel: p,
         answer: given,
@@ -76,32 +218,8 @@ fn bring(mut p: Panel, h: Handed) -> Brought
 fn start(program: Program, ceiling: u16, chosen: u16, ended: bool) -> Panel
     ensures { λ r. ⌜ r ≡ startOf program ceiling chosen ended ⌝ }
 {
-    let line = doors::empty_line();
-    let silence = [0.0f32; 16];
-    let note = synth::new_note(silence, false, 0, 0, false, 0, false, false, 0, 0, false);
-    let messages = keyboard::no_messages();
-    let lines = [line; 64];
-    let notes = [note; 16];
     Panel {
-        state: State {
-            queue: Queue {
-                lines: lines,
-                count: 0,
-                ran: false,
-                last: 0,
-            },
-            messages: messages,
-            playing: Playing {
-                notes: Notes {
-                    notes: notes,
-                    count: 0,
-                },
-                position: 0,
-                tempo: Panel::STARTING_TEMPO,
-                missed: 0,
-                ended: ended,
-            },
-        },
+        state: calls::start(ended),
         ceiling: ceiling,
         chosen: chosen,
         program: program,
@@ -137,8 +255,6 @@ fn has_chosen(program: Program, chosen: u16) -> bool
 }
 
 impl Panel {
-    pub const STARTING_TEMPO: f32 = 60.0;
-
     // A fresh panel of an orchestra's bytes, with the instrument that is chosen for the keyboard. A refusal, of the ceiling, of the orchestra
     // or of the choice, gives a panel that has ended.
     pub fn fresh(orchestra: &[u8], ceiling: u32, chosen: u16) -> Fresh
@@ -200,20 +316,11 @@ impl Panel {
         ensures area { λ r. ⌜ now (answers .exit) ≡ areaAfter self (now (s .entry)) (now (answers .entry)) ⌝ }
     {
         let table = self.program.table;
-        let mut state = self.state;
-        let before = state.queue;
-        let r = burst_entrance::burst_in(
-            table,
-            self.program.count,
-            state.playing.ended,
-            before,
-            s,
-            answers,
-        );
-        let queue = r.queue;
+        let state = self.state;
+        let r = calls::receive_burst(table, self.program.count, state, s, answers);
+        let left = r.state;
         let given = r.answer;
-        state.queue = queue;
-        self.state = state;
+        self.state = left;
         Received {
             panel: self,
             answer: given,
@@ -225,19 +332,11 @@ impl Panel {
     pub fn play_keys(mut self, bytes: &[u8]) -> Played
         ensures { λ r. ⌜ r ≡ playKeysOf self (now (bytes .entry)) ⌝ }
     {
-        if self.state.playing.ended {
-            return Played {
-                panel: self,
-                answer: Answer::Ended,
-            };
-        }
-        let mut state = self.state;
-        let waiting = state.messages;
-        let r = keyboard::press(waiting, bytes);
-        let left = r.messages;
+        let state = self.state;
+        let r = calls::play_keys(state, bytes);
+        let left = r.state;
         let given = r.answer;
-        state.messages = left;
-        self.state = state;
+        self.state = left;
         Played {
             panel: self,
             answer: given,
@@ -249,40 +348,51 @@ impl Panel {
         ensures panel { λ r. ⌜ r ≡ cycleOf self (length (now (block .entry))) ⌝ }
         ensures block { λ r. ⌜ now (block .exit) ≡ blockAfter self (now (block .entry)) ⌝ }
     {
-        if block.len() != 320 {
-            return Cycled {
-                panel: self,
-                answer: Answer::BlockLength,
-            };
-        }
-        if self.state.playing.ended {
-            return Cycled {
-                panel: self,
-                answer: Answer::Ended,
-            };
-        }
         let table = self.program.table;
         let state = self.state;
-        let next = cycle::one_cycle(
+        let settings = Settings {
+            ceiling: self.ceiling,
+            chosen: self.chosen,
+        };
+        let r = calls::cycle(
             table,
             self.program.count,
             &self.program.code,
             &self.program.vals,
             state,
-            self.ceiling,
-            self.chosen,
+            settings,
             block,
         );
-        self.state = next;
-        if next.playing.ended {
-            return Cycled {
-                panel: self,
-                answer: Answer::Ended,
-            };
-        }
+        let left = r.state;
+        let given = r.answer;
+        self.state = left;
         Cycled {
             panel: self,
-            answer: Answer::Taken,
+            answer: given,
+        }
+    }
+
+    // The panel in two, for a host that lends its code.
+    pub fn parted(self) -> Parted
+        ensures { λ r. ⌜ panelOf (r .core) (r .code) (r .vals) ≡ self ⌝ }
+    {
+        let state = self.state;
+        let program = self.program;
+        let table = program.table;
+        let code = program.code;
+        let vals = program.vals;
+        Parted {
+            core: Core {
+                state: state,
+                settings: Settings {
+                    ceiling: self.ceiling,
+                    chosen: self.chosen,
+                },
+                table: table,
+                count: program.count,
+            },
+            code: code,
+            vals: vals,
         }
     }
 

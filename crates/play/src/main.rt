@@ -6,7 +6,8 @@ mod tape;
 mod words;
 
 use answer::Answer;
-use panel::Brought;
+use panel::Core;
+use panel::CoreBrought;
 use panel::Panel;
 
 const DEFAULT_CEILING: u32 = 32767;
@@ -14,12 +15,12 @@ const DEFAULT_CEILING: u32 = 32767;
 // Refusal 4.
 const NO_INSTRUMENT: u8 = 4;
 
-// The score into a panel: typed as text where its name says so.
-fn brought(panel: Panel, path: &[u8], score: &[u8]) -> Brought {
+// The score into a panel's core: typed as text where its name says so.
+fn brought(core: Core, path: &[u8], score: &[u8]) -> CoreBrought {
     if names::is_text(path) {
-        return Panel::load_text(panel, score);
+        return Core::load_text(core, score);
     }
-    Panel::load_score(panel, score)
+    Core::load_score(core, score)
 }
 
 fn refused(path: &[u8], length: usize, line: usize, a: Answer) {
@@ -37,13 +38,20 @@ fn explained(path: &[u8], score: &[u8], line: usize, a: Answer) {
     }
 }
 
-// The score into a panel, and then the piece.
-fn performed(panel: Panel, path: &[u8], score: &[u8], out: &[u8]) {
-    let r = brought(panel, path, score);
+// The score into it, and then the piece.
+fn performed<'a>(
+    core: Core,
+    code: &'a [u64],
+    vals: &'a [f32],
+    path: &[u8],
+    score: &[u8],
+    out: &[u8],
+) {
+    let r = brought(core, path, score);
     let a = r.answer;
     if answer::is_taken(a) {
-        let ready = r.panel;
-        tape::recorded(ready, out);
+        let ready = r.core;
+        tape::recorded(ready, code, vals, out);
         return;
     }
     refused(path, score.len(), r.line, a);
@@ -51,22 +59,38 @@ fn performed(panel: Panel, path: &[u8], score: &[u8], out: &[u8]) {
 }
 
 // The first n bytes of a buffer are the score, if it did not fill the buffer.
-fn with_bytes(panel: Panel, path: &[u8], buffer: &[u8], n: usize, out: &[u8]) {
+fn with_bytes<'a>(
+    core: Core,
+    code: &'a [u64],
+    vals: &'a [f32],
+    path: &[u8],
+    buffer: &[u8],
+    n: usize,
+    out: &[u8],
+) {
     if n < buffer.len() {
-        performed(panel, path, &buffer[..n], out);
+        performed(core, code, vals, path, &buffer[..n], out);
         return;
     }
     words::unread_score(path, n);
 }
 
-fn with_buffer(panel: Panel, path: &[u8], buffer: &[u8; files::SCORE_ROOM], n: usize, out: &[u8]) {
-    with_bytes(panel, path, buffer, n, out);
+fn with_buffer<'a>(
+    core: Core,
+    code: &'a [u64],
+    vals: &'a [f32],
+    path: &[u8],
+    buffer: &[u8; files::SCORE_ROOM],
+    n: usize,
+    out: &[u8],
+) {
+    with_bytes(core, code, vals, path, buffer, n, out);
 }
 
-fn with_score(panel: Panel, path: &[u8], out: &[u8]) {
+fn with_score<'a>(core: Core, code: &'a [u64], vals: &'a [f32], path: &[u8], out: &[u8]) {
     let mut buffer = files::score_buffer();
     let n = files::read_score(path, &mut buffer);
-    with_buffer(panel, path, &buffer, n, out);
+    with_buffer(core, code, vals, path, &buffer, n, out);
 }
 
 // A fresh start refuses a number outside its range only of the ceiling. No keyboard plays here: the first instrument is chosen.
@@ -75,7 +99,9 @@ fn with_orchestra(bytes: &[u8], ceiling: u32, path: &[u8], score: &[u8], out: &[
     let a = f.answer;
     if answer::is_taken(a) {
         let panel = f.panel;
-        with_score(panel, score, out);
+        let parted = Panel::parted(panel);
+        let core = parted.core;
+        with_score(core, &parted.code, &parted.vals, score, out);
         return;
     }
     words::refused_start(path, a);

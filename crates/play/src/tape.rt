@@ -1,5 +1,5 @@
 // Cycle after cycle into a WAV file, which gets its name once it is whole, or to standard output.
-use panel::Panel;
+use panel::Core;
 
 // 10 minutes.
 const MOST_CYCLES: u32 = 60000;
@@ -8,7 +8,7 @@ const MOST_CYCLES: u32 = 60000;
 const UNKNOWN: u32 = 0xffff_ffff;
 
 struct Tape {
-    panel: Panel,
+    core: Core,
     cycles: u32,
     sum: u32,
     ended: bool,
@@ -55,39 +55,39 @@ fn shown(cycles: u32) {
 }
 
 // Nothing waits and nothing sounds: only silence could follow.
-fn is_over(panel: Panel) -> bool {
-    if 0 < Panel::waiting_lines(panel) {
+fn is_over(core: Core) -> bool {
+    if 0 < Core::waiting_lines(core) {
         return false;
     }
-    Panel::sounding_notes(panel) == 0
+    Core::sounding_notes(core) == 0
 }
 
-fn one_cycle(mut t: Tape, fd: i32) -> Tape {
+fn one_cycle<'a>(mut t: Tape, code: &'a [u64], vals: &'a [f32], fd: i32) -> Tape {
     let mut block = [0i16; 320];
-    let old = t.panel;
-    let r = Panel::cycle(old, &mut block);
+    let old = t.core;
+    let r = Core::cycle(old, code, vals, &mut block);
     let a = r.answer;
-    let panel = r.panel;
-    t.panel = panel;
+    let core = r.core;
+    t.core = core;
     if answer::is_taken(a) {
         let n = t.cycles % 65536 + 1;
         shown(n);
         t.cycles = n;
         t.sum = ports::checked_sum(t.sum, &block);
         t.lost = !write_block(fd, &block);
-        t.ended = is_over(panel);
+        t.ended = is_over(core);
         return t;
     }
     t.ended = true;
     t
 }
 
-fn all_cycles(panel: Panel, fd: i32) -> Tape {
+fn all_cycles<'a>(core: Core, code: &'a [u64], vals: &'a [f32], fd: i32) -> Tape {
     let mut t = Tape {
-        panel: panel,
+        core: core,
         cycles: 0,
         sum: 0,
-        ended: is_over(panel),
+        ended: is_over(core),
         lost: false,
     };
     let mut left = MOST_CYCLES;
@@ -98,7 +98,7 @@ fn all_cycles(panel: Panel, fd: i32) -> Tape {
         if t.lost {
             return t;
         }
-        t = one_cycle(t, fd);
+        t = one_cycle(t, code, vals, fd);
         left -= 1;
     }
     t
@@ -106,17 +106,17 @@ fn all_cycles(panel: Panel, fd: i32) -> Tape {
 
 // What was played, on `fd`.
 fn summary(fd: i32, t: Tape, out: &[u8]) {
-    let panel = t.panel;
-    crate::words::played(fd, out, t.cycles, Panel::missed_notes(panel), t.sum);
+    let core = t.core;
+    crate::words::played(fd, out, t.cycles, Core::missed_notes(core), t.sum);
     if !t.ended {
         crate::words::stopped();
     }
 }
 
 // The samples, and then the header again with their number.
-fn filled(panel: Panel, fd: i32) -> Tape {
+fn filled<'a>(core: Core, code: &'a [u64], vals: &'a [f32], fd: i32) -> Tape {
     let first = write_header(fd, UNKNOWN, UNKNOWN);
-    let mut t = all_cycles(panel, fd);
+    let mut t = all_cycles(core, code, vals, fd);
     crate::words::progress_over();
     if !first {
         t.lost = true;
@@ -154,24 +154,24 @@ fn named(t: Tape, part: &[u8], out: &[u8]) {
 }
 
 // A file of that name is never taken over: another may be writing it.
-fn recorded_as(panel: Panel, part: &[u8], out: &[u8]) {
+fn recorded_as<'a>(core: Core, code: &'a [u64], vals: &'a [f32], part: &[u8], out: &[u8]) {
     let fd = os::create(part);
     if fd < 0 {
         crate::words::no_part(part);
         return;
     }
-    let t = filled(panel, fd);
+    let t = filled(core, code, vals, fd);
     named(sized(t, fd), part, out);
 }
 
 // The file is first written under its name with ".part" behind it.
-fn to_file(panel: Panel, out: &[u8]) {
+fn to_file<'a>(core: Core, code: &'a [u64], vals: &'a [f32], out: &[u8]) {
     let mut part = io::buffer();
     let n = ports::put_bytes(&mut part, 0, out);
     let m = ports::put_bytes(&mut part, n, b".part");
     if m < 4096 {
         if crate::files::may_be_written(out) {
-            recorded_as(panel, &part[..m], out);
+            recorded_as(core, code, vals, &part[..m], out);
         }
         return;
     }
@@ -179,20 +179,20 @@ fn to_file(panel: Panel, out: &[u8]) {
 }
 
 // A closed pipe ends the piece quietly.
-fn to_output(panel: Panel) {
-    let t = filled(panel, 1);
+fn to_output<'a>(core: Core, code: &'a [u64], vals: &'a [f32]) {
+    let t = filled(core, code, vals, 1);
     if t.lost {
         return;
     }
     summary(2, t, b"-");
 }
 
-pub fn recorded(panel: Panel, out: &[u8]) {
+pub fn recorded<'a>(core: Core, code: &'a [u64], vals: &'a [f32], out: &[u8]) {
     if out.len() == 1 {
         if ports::byte_at(out, 0) == b'-' {
-            to_output(panel);
+            to_output(core, code, vals);
             return;
         }
     }
-    to_file(panel, out);
+    to_file(core, code, vals, out);
 }

@@ -1,35 +1,35 @@
 // A burst: the call on an answer area that is marked, and what it leaves into the output.
-use crate::calls;
-use crate::calls::Done;
-use crate::calls::Session;
+use crate::kinds;
+use crate::kinds::Done;
+use crate::kinds::Session;
 use answer::Answer;
-use panel::Panel;
+use panel::Core;
 
 // Most places of an answer area.
 const PLACES: usize = 64;
 
 // Its answer, how many units were answered, and the area.
 fn put_answers(out: &mut [u8], used: usize, a: Answer, units: usize, area: &[u8]) -> usize {
-    let one = calls::put_answer(out, used, a);
-    let two = ports::put_word(out, one, calls::word_of(units));
+    let one = kinds::put_answer(out, used, a);
+    let two = ports::put_word(out, one, kinds::word_of(units));
     ports::put_bytes(out, two, area)
 }
 
-fn received(panel: Panel, bytes: &[u8], area: &mut [u8], out: &mut [u8], used: usize) -> Done {
-    let r = Panel::receive_burst(panel, bytes, area);
+fn received(core: Core, bytes: &[u8], area: &mut [u8], out: &mut [u8], used: usize) -> Done {
+    let r = Core::receive_burst(core, bytes, area);
     let a = r.answer;
-    let after = r.panel;
+    let after = r.core;
     let one = put_answers(out, used, a, r.units, area);
-    let next = calls::put_missed(out, one, after);
-    calls::left(after, true, next)
+    let next = kinds::put_missed(out, one, after);
+    kinds::left(after, true, next)
 }
 
-fn on_panel(panel: Panel, places: usize, bytes: &[u8], out: &mut [u8], used: usize) -> Done {
+fn on_panel(core: Core, places: usize, bytes: &[u8], out: &mut [u8], used: usize) -> Done {
     let mut area = [90u8; PLACES];
     if places <= PLACES {
-        return received(panel, bytes, &mut area[..places], out, used);
+        return received(core, bytes, &mut area[..places], out, used);
     }
-    calls::left(panel, true, used)
+    kinds::left(core, true, used)
 }
 
 fn untouched(places: usize, out: &mut [u8], used: usize) -> usize {
@@ -49,9 +49,9 @@ fn absent(places: usize, out: &mut [u8], used: usize) -> usize {
 }
 
 pub fn carried_out(s: Session, places: usize, bytes: &[u8], out: &mut [u8], used: usize) -> Done {
-    let panel = s.panel;
+    let core = s.core;
     if s.present {
-        return on_panel(panel, places, bytes, out, used);
+        return on_panel(core, places, bytes, out, used);
     }
-    calls::left(panel, false, absent(places, out, used))
+    kinds::left(core, false, absent(places, out, used))
 }

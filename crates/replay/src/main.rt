@@ -1,11 +1,13 @@
 // The panel as a filter: a list of calls on standard input, every answer on standard output.
 // A record is a code and its fields; each kind has a function, and the fields of all kinds are read in one way.
 mod burst;
-mod calls;
+mod kinds;
 mod naming;
 mod record;
 
-use calls::Session;
+use kinds::Session;
+use panel::Fresh;
+use panel::Panel;
 use ports::Port;
 use record::Fault;
 use record::Record;
@@ -43,60 +45,106 @@ fn explained(fault: Fault, at: u64) {
     }
 }
 
-// Reads and carries out one record; answers whether there is more to do.
-struct Next {
-    session: Session,
-    port: Port,
-    more: bool,
-}
-
-fn turn(s: Session, p: Port, input: &mut [u8], out: &mut [u8], data: &mut [u8; DATA]) -> Next {
+// The next record. A fault is told, and then the input counts as ended.
+fn following(p: Port, input: &mut [u8], out: &[u8], data: &mut [u8; DATA]) -> Record {
     let start = p.taken;
-    let r = record::read(p, input, out, data);
-    let q = r.port;
-    if r.ended {
-        return Next {
-            session: s,
-            port: q,
-            more: false,
-        };
-    }
+    let mut r = record::read(p, input, out, data);
     let fault = r.fault;
-    if record::is_whole(fault) {
-        let done = calls::carry_out(s, r, data, out, q.used);
-        let session = done.session;
-        let mut next = q;
-        next.used = done.used;
-        let last = relieved(next, out);
-        return Next {
-            session: session,
-            port: last,
-            more: !last.lost,
-        };
+    if !record::is_whole(fault) {
+        explained(fault, start);
+        r.ended = true;
     }
-    explained(fault, start);
-    Next {
-        session: s,
-        port: q,
-        more: false,
-    }
+    r
 }
 
-// A proved loop has to end: it counts down from a number that no run uses up.
-fn run(input: &mut [u8], out: &mut [u8], data: &mut [u8; DATA]) -> Port {
-    let mut s = calls::no_panel();
-    let mut p = ports::opened();
+// The same behind what was written; nothing follows output that is lost.
+fn behind(p: Port, input: &mut [u8], out: &[u8], data: &mut [u8; DATA]) -> Record {
+    let q = relieved(p, out);
+    if q.lost {
+        return record::none(q);
+    }
+    following(q, input, out, data)
+}
+
+// The records up to the next fresh start, on one panel. A proved loop has to end: it counts down from a number that no run uses up.
+fn piece<'a>(
+    first: Session,
+    code: &'a [u64],
+    vals: &'a [f32],
+    port: Port,
+    input: &mut [u8],
+    out: &mut [u8],
+    data: &mut [u8; DATA],
+) -> Record {
+    let mut s = first;
+    let mut r = behind(port, input, out, data);
     let mut left = u64::MAX;
     while left > 0 {
-        let t = turn(s, p, input, out, data);
-        s = t.session;
-        p = t.port;
-        if !t.more {
-            return p;
+        if r.ended {
+            return r;
         }
+        if r.code == b'F' {
+            return r;
+        }
+        let mut p = r.port;
+        let done = kinds::carry_out(s, code, vals, r, data, out, p.used);
+        s = done.session;
+        p.used = done.used;
+        r = behind(p, input, out, data);
         left -= 1;
     }
-    p
+    r
+}
+
+// A panel's code beside the records on it.
+fn with_panel(
+    f: Fresh,
+    port: Port,
+    input: &mut [u8],
+    out: &mut [u8],
+    data: &mut [u8; DATA],
+) -> Record {
+    let answer = f.answer;
+    let panel = f.panel;
+    let parted = Panel::parted(panel);
+    let core = parted.core;
+    let session = Session {
+        core: core,
+        present: answer::is_taken(answer),
+    };
+    piece(session, &parted.code, &parted.vals, port, input, out, data)
+}
+
+// Its orchestra is the first bytes of `data`.
+fn fresh(r: Record, data: &[u8]) -> Fresh {
+    let n = r.count as usize;
+    if n <= data.len() {
+        return Panel::fresh(&data[..n], r.first, r.symbol);
+    }
+    Panel::fresh(data, r.first, r.symbol)
+}
+
+// A fresh start, its answer, and the records on its panel.
+fn started(r: Record, input: &mut [u8], out: &mut [u8], data: &mut [u8; DATA]) -> Record {
+    let f = fresh(r, data);
+    let a = f.answer;
+    let mut p = r.port;
+    p.used = kinds::put_answer(out, p.used, a);
+    with_panel(f, p, input, out, data)
+}
+
+// Before the first fresh start a refused one's panel stands in, and no call reaches it.
+fn run(input: &mut [u8], out: &mut [u8], data: &mut [u8; DATA]) -> Port {
+    let mut r = with_panel(Panel::fresh(b"", 0, 0), ports::opened(), input, out, data);
+    let mut left = u64::MAX;
+    while left > 0 {
+        if r.ended {
+            return r.port;
+        }
+        r = started(r, input, out, data);
+        left -= 1;
+    }
+    r.port
 }
 
 fn items_buffer() -> [u8; DATA] {

@@ -52,8 +52,8 @@ pub fn items(
 fn unpack_into(bytes: &[u8], buffer: &mut [u8], out: &mut [u8], used: usize) -> usize {
     let r = name_unpacker::unpack(bytes, buffer);
     let a = r.answer;
-    let one = crate::calls::put_answer(out, used, a);
-    let two = ports::put_word(out, one, crate::calls::word_of(r.length));
+    let one = crate::kinds::put_answer(out, used, a);
+    let two = ports::put_word(out, one, crate::kinds::word_of(r.length));
     ports::put_bytes(out, two, buffer)
 }
 
@@ -66,7 +66,7 @@ pub fn unpack(bytes: &[u8], room: usize, out: &mut [u8], used: usize) -> usize {
 }
 
 fn put_name(name: &[u8], out: &mut [u8], used: usize) -> usize {
-    let next = ports::put_word(out, used, crate::calls::word_of(name.len()));
+    let next = ports::put_word(out, used, crate::kinds::word_of(name.len()));
     ports::put_bytes(out, next, name)
 }
 

@@ -260,6 +260,11 @@ fn body(p: Port, code: u8, input: &mut [u8], out: &[u8], data: &mut [u8]) -> Rec
     stopped(port, fault, false)
 }
 
+// No record.
+pub fn none(p: Port) -> Record {
+    stopped(p, Fault::Whole, true)
+}
+
 // Before a record: the input's end, which is no fault, or a read that failed.
 fn at_end(p: Port) -> Record {
     if p.failed {

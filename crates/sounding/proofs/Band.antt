@@ -21,11 +21,11 @@ use Rattle.players.specs.Cycle as cycle
 use Rattle.players.proofs.Lists.{cond-true, cond-false}
 use Rattle.players.proofs.Loops.{fold-take, over-over}
 use Rattle.synth.specs.Passes.{sums, played}
-use Rattle.synth.specs.declared.Note.{Note}
+use Rattle.notes.specs.declared.Note.{Note}
 use Rattle.kept_orchestra.specs.Kept.{instrumentIn, foundIn}
 use Rattle.kept_voices.specs.Voices.{Held, voices, birthOf, ranValues, ranMixOf, named}
 use Rattle.sounding.specs.Notes.{noteOf, structOf, notesIn, startedIn, bandIn, bornNote, pressedNote, controlledNote, controlledIn, controlsIn, controlledAll, kNote, ranNote, ranMix, goesOnIn}
-use Rattle.synth.specs.Notes.{withValues}
+use Rattle.notes.specs.Notes.{withValues}
 use Rattle.kept_orchestra.specs.declared.Instrument.{Instrument}
 use Rattle.sounding.specs.Started.{StartedBy}
 use Rattle.kept_orchestra.specs.declared.Found.{Found}
@@ -64,7 +64,7 @@ module _ (table : List Instrument) (code : List ℕ) (vals : List Float) where
   control-one : (label variable : ℕ) (value : Float) (n : Note)
       → noteOf (controlledIn table label variable value n) ≡ controlledBy (voices table code vals) label variable value (noteOf n)
   unfolding controlledIn controlledNote controlledBy voices
-  control-one label variable value n = go (n .labelled && eqb label (n .label))
+  control-one label variable value n = go (n .label .given && eqb label (n .label .symbol))
     where
       vs : List Float
       vs = named variable value (instrumentIn table (n .instrument) .imports) (n .values)

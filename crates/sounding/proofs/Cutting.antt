@@ -14,7 +14,7 @@ use Rattle.players.specs.Holds.{sixteen}
 use Rattle.players.specs.Cycle as cycle
 use Rattle.players.proofs.Lists.{cond-true, cond-false}
 use Rattle.players.proofs.Loops.{over-set, length-over, take-over}
-use Rattle.synth.specs.declared.Note.{Note}
+use Rattle.notes.specs.declared.Note.{Note}
 use Rattle.kept_voices.specs.Voices.{Held}
 use Rattle.sounding.specs.Notes.{noteOf, notesIn, startedIn, oldestWithout, leftOut}
 use Rattle.sounding.specs.Started.{StartedBy}

@@ -12,16 +12,17 @@ use Rattle.score_line.specs.declared.Label.{Label}
 use Rattle.score_line.specs.declared.Line.{Line}
 use Rattle.keys.specs.Keys.{frequencyOf, loudnessOf}
 use Rattle.messages.specs.declared.Message.{Message}
-use Rattle.players.specs.Cycle.{isLabelled, labelNumber, isHeld}
+use Rattle.players.specs.Cycle.{isHeld}
 use Rattle.players.proofs.Lists.{cond-true, cond-false}
 use Rattle.players.proofs.Results.{and-false}
 use Rattle.synth.specs.Passes.{stretch, freshOf, once, Played, played}
 use Rattle.synth.specs.Room.{numbersIn, roomOf}
-use Rattle.synth.specs.Notes.{newNote, withValues}
+use Rattle.notes.specs.Notes.{newNote, withValues}
 use Rattle.synth.proofs.Rooms.{once-program, played-program}
-use Rattle.synth.specs.declared.Note.{Note}
+use Rattle.notes.specs.declared.Note.{Note}
+use Rattle.notes.specs.declared.NoteLabel.{NoteLabel}
 use Rattle.kept_voices.specs.Voices.{named}
-use Rattle.sounding.specs.Notes.{bornNote, pressedNote, isHeldIn, controlledNote, kNote, ranNote, ranMix}
+use Rattle.sounding.specs.Notes.{labelOf, bornNote, pressedNote, isHeldIn, controlledNote, kNote, ranNote, ranMix}
 use Rattle.kept_orchestra.specs.declared.Instrument.{Instrument}
 
 pub minus-one : (x : Float) → eq x (neg (ofBits binary32 0x3f800000)) ≡ eq x withoutEnd
@@ -36,15 +37,15 @@ begun-law vals ws note room m r q =
 
 pub born-law : (code : List ℕ) (vals : List Float) (x : Instrument) (l : Line) (position : ℕ) (label : Label) (name : ℕ) (duration : Float)
     → (vs : List Float) → vs ≡ freshOf (take (x .fields) (take (l .count) (l .values))) → (t : ℕ) → t ≡ ticksIn duration
-    → (lab : Bool) → lab ≡ isLabelled label → (num : ℕ) → num ≡ labelNumber label → (end : Bool) → end ≡ eq duration withoutEnd
-    → (note : Note) → note ≡ newNote vs lab num name end (position + t) (l .priority) false 0 0 false
+    → (named : NoteLabel) → named ≡ labelOf label → (never : Bool) → never ≡ eq duration withoutEnd
+    → (note : Note) → note ≡ newNote vs named name (record { never = never; at = position + t }) (l .priority) (record { keyed = false; channel = 0; key = 0; released = false })
     → (r : Note) → r ≡ withValues (once vals (stretch (x .istart) (x .iend) code) (note .values)) note
     → r ≡ bornNote code vals x l position label name duration
 unfolding bornNote
-born-law code vals x l position label name duration vs e t f lab g num h end k note o r q =
+born-law code vals x l position label name duration vs e t f named g never k note o r q =
     let ws = stretch (x .istart) (x .iend) code in
     q ∙ ap (λ (y : Note). withValues (once vals ws (y .values)) y) o
-    ∙ (λ i. newNote (once vals ws (e i)) (g i) (h i) name (k i) (position + f i) (l .priority) false 0 0 false)
+    ∙ (λ i. newNote (once vals ws (e i)) (g i) name (record { never = k i; at = position + f i }) (l .priority) (record { keyed = false; channel = 0; key = 0; released = false }))
 
 -- nothing is cut off for a line without priority, with no note to cut off, or for the keyboard
 pub born-yields : (code : List ℕ) (vals : List Float) (x : Instrument) (l : Line) (position : ℕ) (label : Label) (name : ℕ) (duration : Float) (b : Bool)
@@ -70,50 +71,50 @@ pressed-yields code vals x name m b = refl
 pub pressed-law : (code : List ℕ) (vals : List Float) (x : Instrument) (name : ℕ) (m : Message)
     → (f : Float) → f ≡ frequencyOf (m .key) → (l : Float) → l ≡ loudnessOf (m .velocity)
     → (vs : List Float) → vs ≡ freshOf (take (x .fields) (f ∷ l ∷ []))
-    → (note : Note) → note ≡ newNote vs false 0 name true 0 false true (m .channel) (m .key) false
+    → (note : Note) → note ≡ newNote vs (record { given = false; symbol = 0 }) name (record { never = true; at = 0 }) false (record { keyed = true; channel = m .channel; key = m .key; released = false })
     → (r : Note) → r ≡ withValues (once vals (stretch (x .istart) (x .iend) code) (note .values)) note
     → r ≡ pressedNote code vals x name m
 unfolding pressedNote
 pressed-law code vals x name m f ef l el vs e note o r q =
     let ws = stretch (x .istart) (x .iend) code in
     q ∙ ap (λ (y : Note). withValues (once vals ws (y .values)) y) o
-    ∙ (λ i. newNote (once vals ws ((e ∙ (λ j. freshOf (take (x .fields) (ef j ∷ el j ∷ [])))) i)) false 0 name true 0 false true (m .channel) (m .key) false)
+    ∙ (λ i. newNote (once vals ws ((e ∙ (λ j. freshOf (take (x .fields) (ef j ∷ el j ∷ [])))) i)) (record { given = false; symbol = 0 }) name (record { never = true; at = 0 }) false (record { keyed = true; channel = m .channel; key = m .key; released = false }))
 
 -- ---- an unmarked note of a key of a channel
 
 module _ (n : Note) (channel key : ℕ) where
-  pub held-here : n .keyed ≡ true → n .channel ≡ channel → n .key ≡ key → not (n .released) ≡ isHeldIn channel key n
+  pub held-here : n .origin .keyed ≡ true → n .origin .channel ≡ channel → n .origin .key ≡ key → not (n .origin .released) ≡ isHeldIn channel key n
   unfolding isHeld
-  held-here a b c = sym (λ i. a i && eq-eqb (n .channel) channel b i && eq-eqb (n .key) key c i && not (n .released))
+  held-here a b c = sym (λ i. a i && eq-eqb (n .origin .channel) channel b i && eq-eqb (n .origin .key) key c i && not (n .origin .released))
 
-  pub held-other-key : n .keyed ≡ true → n .channel ≡ channel → (n .key ≡ key → ⊥) → false ≡ isHeldIn channel key n
+  pub held-other-key : n .origin .keyed ≡ true → n .origin .channel ≡ channel → (n .origin .key ≡ key → ⊥) → false ≡ isHeldIn channel key n
   unfolding isHeld
-  held-other-key a b c = sym (λ i. a i && eq-eqb (n .channel) channel b i && ne-eqb (n .key) key c i && not (n .released))
+  held-other-key a b c = sym (λ i. a i && eq-eqb (n .origin .channel) channel b i && ne-eqb (n .origin .key) key c i && not (n .origin .released))
 
-  pub held-other-channel : n .keyed ≡ true → (n .channel ≡ channel → ⊥) → false ≡ isHeldIn channel key n
+  pub held-other-channel : n .origin .keyed ≡ true → (n .origin .channel ≡ channel → ⊥) → false ≡ isHeldIn channel key n
   unfolding isHeld
-  held-other-channel a b = sym (λ i. a i && ne-eqb (n .channel) channel b i && eqb (n .key) key && not (n .released))
+  held-other-channel a b = sym (λ i. a i && ne-eqb (n .origin .channel) channel b i && eqb (n .origin .key) key && not (n .origin .released))
 
-  pub held-no-key : n .keyed ≡ false → false ≡ isHeldIn channel key n
+  pub held-no-key : n .origin .keyed ≡ false → false ≡ isHeldIn channel key n
   unfolding isHeld
-  held-no-key a = sym (λ i. a i && eqb (n .channel) channel && eqb (n .key) key && not (n .released))
+  held-no-key a = sym (λ i. a i && eqb (n .origin .channel) channel && eqb (n .origin .key) key && not (n .origin .released))
 
 module _ (x : Instrument) (n : Note) (label variable : ℕ) (value : Float) where
-  pub control-yes : n .labelled ≡ true → n .label ≡ label → (w : ℕ) → w ≡ variable → (vs : List Float) → vs ≡ named w value (x .imports) (n .values)
+  pub control-yes : n .label .given ≡ true → n .label .symbol ≡ label → (w : ℕ) → w ≡ variable → (vs : List Float) → vs ≡ named w value (x .imports) (n .values)
       → (r : Note) → r ≡ withValues vs n → r ≡ controlledNote x n label variable value
   unfolding controlledNote
   control-yes a b w e vs q r p =
       p ∙ ap (λ (l : List Float). withValues l n) (q ∙ ap (λ (y : ℕ). named y value (x .imports) (n .values)) e)
-      ∙ sym (cond-true _ _ (ap (λ (t : Bool). t && eqb label (n .label)) a ∙ eq-eqb label (n .label) (sym b)))
+      ∙ sym (cond-true _ _ (ap (λ (t : Bool). t && eqb label (n .label .symbol)) a ∙ eq-eqb label (n .label .symbol) (sym b)))
 
-  pub control-other : n .labelled ≡ true → (n .label ≡ label → ⊥) → n ≡ controlledNote x n label variable value
+  pub control-other : n .label .given ≡ true → (n .label .symbol ≡ label → ⊥) → n ≡ controlledNote x n label variable value
   unfolding controlledNote
   control-other a b =
-      sym (cond-false _ _ (ap (λ (t : Bool). t && eqb label (n .label)) a ∙ ne-eqb label (n .label) (λ e. b (sym e))))
+      sym (cond-false _ _ (ap (λ (t : Bool). t && eqb label (n .label .symbol)) a ∙ ne-eqb label (n .label .symbol) (λ e. b (sym e))))
 
-  pub control-none : n .labelled ≡ false → n ≡ controlledNote x n label variable value
+  pub control-none : n .label .given ≡ false → n ≡ controlledNote x n label variable value
   unfolding controlledNote
-  control-none a = sym (cond-false _ _ (ap (λ (t : Bool). t && eqb label (n .label)) a))
+  control-none a = sym (cond-false _ _ (ap (λ (t : Bool). t && eqb label (n .label .symbol)) a))
 
 -- a note's cycle in a room whose numbers stay
 module _ (code : List ℕ) (N N′ : List Float) (x : Instrument) (n k : Note) (mix : List Float) (e : N′ ≡ N)

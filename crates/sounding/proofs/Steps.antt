@@ -18,8 +18,8 @@ use Rattle.players.specs.Cycle as cycle
 use Rattle.players.proofs.Lists.{cond-true, cond-false, all-append}
 use Rattle.players.proofs.Loops.{over-set}
 use Rattle.players.proofs.Results.{join-room, join-cut, join-miss}
-use Rattle.synth.specs.Notes.{letGo}
-use Rattle.synth.specs.declared.Note.{Note}
+use Rattle.notes.specs.Notes.{letGo}
+use Rattle.notes.specs.declared.Note.{Note}
 use Rattle.kept_voices.specs.Voices.{Held, named}
 use Rattle.sounding.specs.Notes.{noteOf, structOf, notesIn, startedIn, startedOver, isHeldIn}
 use Rattle.sounding.specs.Started.{StartedBy}

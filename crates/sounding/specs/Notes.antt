@@ -11,8 +11,9 @@ use Rattle.score_line.specs.declared.Event.the-variants.{Instr, Control, End, T
 use Rattle.score_line.specs.declared.Label.{Label}
 use Rattle.score_line.specs.declared.Line.{Line}
 use Rattle.synth.specs.Passes.{stretch, freshOf, once, played}
-use Rattle.synth.specs.Notes.{newNote, withValues}
-use Rattle.synth.specs.declared.Note.{Note}
+use Rattle.notes.specs.Notes.{newNote, withValues}
+use Rattle.notes.specs.declared.Note.{Note}
+use Rattle.notes.specs.declared.NoteLabel.{NoteLabel}
 use Rattle.keys.specs.Keys.{frequencyOf, loudnessOf}
 use Rattle.messages.specs.declared.Message.{Message}
 use Rattle.players.specs.Lists.{each, fold, over}
@@ -28,33 +29,26 @@ use Rattle.sounding.specs.declared.Started.{Started}
 abbrev pub noteOf : Note → cycle.Note Held
 noteOf n =
     record {
-      labelled = n .labelled;
-      label = n .label;
-      endless = n .endless;
-      end = n .end;
+      labelled = n .label .given;
+      label = n .label .symbol;
+      endless = n .end .never;
+      end = n .end .at;
       priority = n .priority;
-      keyed = n .keyed;
-      channel = n .channel;
-      key = n .key;
-      released = n .released;
+      keyed = n .origin .keyed;
+      channel = n .origin .channel;
+      key = n .origin .key;
+      released = n .origin .released;
       state = record { instrument = n .instrument; values = n .values };
     }
 
 abbrev pub structOf : cycle.Note Held → Note
 structOf n =
-    record {
-      values = n .state .values;
-      labelled = n .labelled;
-      label = n .label;
-      instrument = n .state .instrument;
-      endless = n .endless;
-      end = n .end;
-      priority = n .priority;
-      keyed = n .keyed;
-      channel = n .channel;
-      key = n .key;
-      released = n .released;
-    }
+    newNote (n .state .values) (record { given = n .labelled; symbol = n .label }) (n .state .instrument) (record { never = n .endless; at = n .end }) (n .priority)
+    (record { keyed = n .keyed; channel = n .channel; key = n .key; released = n .released })
+
+-- a line's label, as its note has it
+abbrev pub labelOf : Label → NoteLabel
+labelOf label = record { given = isLabelled label; symbol = labelNumber label }
 
 -- the first notes of an array
 abbrev pub notesIn : List Note → ℕ → List (cycle.Note Held)
@@ -86,18 +80,19 @@ bandIn ns n mix = record { notes = notesIn ns n; mix = mix }
 -- the note that a line starts, its i pass run
 unfoldable pub bornNote : List ℕ → List Float → Instrument → Line → ℕ → Label → ℕ → Float → Note
 bornNote code vals x l position label name duration =
-    newNote (once vals (stretch (x .istart) (x .iend) code) (freshOf (take (x .fields) (take (l .count) (l .values))))) (isLabelled label) (labelNumber label) name
-    (eq duration withoutEnd) (position + ticksIn duration) (l .priority) false 0 0 false
+    newNote (once vals (stretch (x .istart) (x .iend) code) (freshOf (take (x .fields) (take (l .count) (l .values))))) (labelOf label) name
+    (record { never = eq duration withoutEnd; at = position + ticksIn duration }) (l .priority) (record { keyed = false; channel = 0; key = 0; released = false })
 
 -- the note that a note-on starts
 unfoldable pub pressedNote : List ℕ → List Float → Instrument → ℕ → Message → Note
 pressedNote code vals x name m =
-    newNote (once vals (stretch (x .istart) (x .iend) code) (freshOf (take (x .fields) (frequencyOf (m .key) ∷ loudnessOf (m .velocity) ∷ [])))) false 0 name
-    true 0 false true (m .channel) (m .key) false
+    newNote (once vals (stretch (x .istart) (x .iend) code) (freshOf (take (x .fields) (frequencyOf (m .key) ∷ loudnessOf (m .velocity) ∷ []))))
+    (record { given = false; symbol = 0 }) name (record { never = true; at = 0 }) false
+    (record { keyed = true; channel = m .channel; key = m .key; released = false })
 
 unfoldable pub controlledNote : Instrument → Note → ℕ → ℕ → Float → Note
 controlledNote x n label variable value =
-    cond (n .labelled && eqb label (n .label)) (withValues (named variable value (x .imports) (n .values)) n) n
+    cond (n .label .given && eqb label (n .label .symbol)) (withValues (named variable value (x .imports) (n .values)) n) n
 
 unfoldable pub kNote : List ℕ → List Float → Instrument → Note → Note
 kNote code vals x n = withValues (once vals (stretch (x .kstart) (x .kend) code) (n .values)) n

@@ -2,10 +2,14 @@
 // "One cycle, in order", steps 3, 4, 5 and 7), and what note messages do, over straight-line code.
 use kept_orchestra::Instrument;
 use messages::Message;
+use notes::Note;
+use notes::NoteEnd;
+use notes::NoteLabel;
+use notes::NoteOrigin;
 use score_line::Event;
 use score_line::Label;
 use score_line::Line;
-use synth::Note;
+use waiting::Lines;
 ghost use mathlib.Core.Path.{_≡_};
 ghost use mathlib.Core.Bool.{cond};
 ghost use Prim.Native.Nat.{_<_, _≤_, _+_, min};
@@ -13,14 +17,14 @@ ghost use lib.Dec.{T};
 ghost use lib.Ieee.{binary32, fits};
 ghost use lib.ListN.{length, take, set};
 ghost use Rattle.players.specs.Lists.{keep, each, over};
-ghost use Rattle.players.specs.Cycle.{positionLimit, goesOn, startedBy, started, isLabelled, labelNumber, letGoOldest, afterMessage, afterMessages, runFrom};
+ghost use Rattle.players.specs.Cycle.{positionLimit, goesOn, startedBy, started, letGoOldest, afterMessage, afterMessages, runFrom};
 ghost use Rattle.players.specs.Holds.{sixteen};
 ghost use Rattle.synth.specs.Passes.{stretch, freshOf, once};
-ghost use Rattle.synth.specs.Notes.{withValues};
+ghost use Rattle.notes.specs.Notes.{withValues};
 ghost use Rattle.synth.specs.Room.{numbersIn};
 ghost use Rattle.kept_orchestra.specs.Kept.{instrumentIn};
 ghost use Rattle.kept_voices.specs.Voices.{voices, named};
-ghost use Rattle.sounding.specs.Notes.{noteOf, structOf, notesIn, startedIn, startedOver, oldestWithout, leftOut, bornNote, pressedNote, isHeldIn, controlledNote, controlledIn, controlsIn, controlledAll, ranNote, ranMix, goesOnIn};
+ghost use Rattle.sounding.specs.Notes.{noteOf, structOf, labelOf, notesIn, startedIn, startedOver, oldestWithout, leftOut, bornNote, pressedNote, isHeldIn, controlledNote, controlledIn, controlsIn, controlledAll, ranNote, ranMix, goesOnIn};
 ghost use Rattle.sounding.specs.Started.{StartedBy};
 
 // The notes that sound, from the first on, and how many were missed.
@@ -79,21 +83,19 @@ fn wide(x: u16) -> u32
     x as u32
 }
 
-fn is_labelled(label: Label) -> bool
-    ensures { λ r. ⌜ r ≡ isLabelled label ⌝ }
+// A line's label, as its note has it.
+fn label_of(label: Label) -> NoteLabel
+    ensures { λ r. ⌜ r ≡ labelOf label ⌝ }
 {
     match label {
-        Label::Labelled(_) => true,
-        Label::Unlabelled => false,
-    }
-}
-
-fn label_number(label: Label) -> u16
-    ensures { λ r. ⌜ r ≡ labelNumber label ⌝ }
-{
-    match label {
-        Label::Labelled(n) => n,
-        Label::Unlabelled => 0,
+        Label::Labelled(n) => NoteLabel {
+            given: true,
+            symbol: n,
+        },
+        Label::Unlabelled => NoteLabel {
+            given: false,
+            symbol: 0,
+        },
     }
 }
 
@@ -113,69 +115,57 @@ fn begun<'a>(code: &'a [u64], vals: &'a [f32], x: Instrument, note: Note) -> Not
     synth::passed(code, x.istart, x.iend, &mut room, note)
 }
 
-// The note that an instr line starts at a position; its i pass has run.
+// The note that a line starts at a position, its event an instr with this label, name and duration; its i pass has run.
 fn note_of<'a>(
-    table: [Instrument; 8],
-    n: usize,
     code: &'a [u64],
     vals: &'a [f32],
+    x: Instrument,
     l: Line,
     position: u64,
     label: Label,
-    instrument: u16,
+    name: u16,
     duration: f32,
 ) -> Note
     requires { ⌜ position ≤ positionLimit ⌝ }
-    ensures { λ r. ⌜ r ≡ bornNote (now (code .entry)) (now (vals .entry)) (instrumentIn (take n table) instrument) l position label instrument duration ⌝ }
+    ensures { λ r. ⌜ r ≡ bornNote (now (code .entry)) (now (vals .entry)) x l position label name duration ⌝ }
 {
-    let f = kept_orchestra::find(table, n, instrument);
-    let x = f.instrument;
     let given = l.values;
     let values = fresh_values(given, l.count, x.fields);
     let ticks = timebase::beats_to_ticks(duration);
-    let note = synth::new_note(
-        values,
-        is_labelled(label),
-        label_number(label),
-        instrument,
-        duration == -1.0,
-        position + ticks,
-        l.priority,
-        false,
-        0,
-        0,
-        false,
-    );
+    let end = NoteEnd {
+        never: duration == -1.0,
+        at: position + ticks,
+    };
+    let origin = NoteOrigin {
+        keyed: false,
+        channel: 0,
+        key: 0,
+        released: false,
+    };
+    let note = notes::new_note(values, label_of(label), name, end, l.priority, origin);
     begun(code, vals, x, note)
 }
 
 // The note that a note-on starts: field one gets the key's frequency, field two the velocity over 128; its i pass has run.
-fn pressed_note<'a>(
-    code: &'a [u64],
-    vals: &'a [f32],
-    x: Instrument,
-    instrument: u16,
-    m: Message,
-) -> Note
-    ensures { λ r. ⌜ r ≡ pressedNote (now (code .entry)) (now (vals .entry)) x instrument m ⌝ }
+fn pressed_note<'a>(code: &'a [u64], vals: &'a [f32], x: Instrument, name: u16, m: Message) -> Note
+    ensures { λ r. ⌜ r ≡ pressedNote (now (code .entry)) (now (vals .entry)) x name m ⌝ }
 {
     let mut given = [0.0f32; 8];
     given[0] = keys::frequency(m.key);
     given[1] = keys::loudness(m.velocity);
     let values = fresh_values(given, 2, x.fields);
-    let note = synth::new_note(
-        values,
-        false,
-        0,
-        instrument,
-        true,
-        0,
-        false,
-        true,
-        m.channel,
-        m.key,
-        false,
-    );
+    let label = NoteLabel {
+        given: false,
+        symbol: 0,
+    };
+    let end = NoteEnd { never: true, at: 0 };
+    let origin = NoteOrigin {
+        keyed: true,
+        channel: m.channel,
+        key: m.key,
+        released: false,
+    };
+    let note = notes::new_note(values, label, name, end, false, origin);
     begun(code, vals, x, note)
 }
 
@@ -268,17 +258,9 @@ fn start_line<'a>(
             duration,
         } => {
             if v.count < MOST_NOTES {
-                let note = note_of(
-                    table,
-                    n,
-                    code,
-                    vals,
-                    l,
-                    position,
-                    label,
-                    instrument,
-                    duration,
-                );
+                let f = kept_orchestra::find(table, n, instrument);
+                let x = f.instrument;
+                let note = note_of(code, vals, x, l, position, label, instrument, duration);
                 return with_note(v, note);
             }
             if !l.priority {
@@ -288,17 +270,9 @@ fn start_line<'a>(
             if v.count <= place {
                 return with_miss(v);
             }
-            let note = note_of(
-                table,
-                n,
-                code,
-                vals,
-                l,
-                position,
-                label,
-                instrument,
-                duration,
-            );
+            let f = kept_orchestra::find(table, n, instrument);
+            let x = f.instrument;
+            let note = note_of(code, vals, x, l, position, label, instrument, duration);
             with_note(cut_off(v, place), note)
         }
         Event::Control {
@@ -311,25 +285,25 @@ fn start_line<'a>(
     }
 }
 
-// Step 3: each instr line among the first m starts a note. A position past the limit counts as the limit.
+// Step 3: each instr line among those that are due starts a note. A position past the limit counts as the limit.
 pub fn start_notes<'a>(
     table: [Instrument; 8],
     n: usize,
     code: &'a [u64],
     vals: &'a [f32],
-    notes: [Note; MOST_NOTES],
-    sounding: usize,
-    lines: [Line; 64],
-    m: usize,
+    old: Notes,
+    due: Lines,
     position: u64,
 ) -> Started
-    ensures { λ r. ⌜ (r ≡ startedOver (started (voices (take n table) (now (code .entry)) (now (vals .entry))) sixteen (min position positionLimit) (notesIn notes sounding) (take m lines)) notes) × (r .missed ≤ 64) ⌝ }
+    ensures { λ r. ⌜ (r ≡ startedOver (started (voices (take n table) (now (code .entry)) (now (vals .entry))) sixteen (min position positionLimit) (notesIn (old .notes) (old .count)) (take (due .count) (due .lines))) (old .notes)) × (r .missed ≤ 64) ⌝ }
 {
-    let w = within(m, 64);
+    let w = within(due.count, 64);
     let p = at_most(position, POSITION_LIMIT);
+    let lines = due.lines;
+    let notes = old.notes;
     let mut v = Started {
         notes: notes,
-        count: within(sounding, MOST_NOTES),
+        count: within(old.count, MOST_NOTES),
         missed: 0,
     };
     let mut i: usize = 0;
@@ -345,12 +319,12 @@ pub fn start_notes<'a>(
 fn controlled_note(x: Instrument, n: Note, label: u16, variable: u16, value: f32) -> Note
     ensures { λ r. ⌜ r ≡ controlledNote x n label variable value ⌝ }
 {
-    if n.labelled {
-        if n.label == label {
+    if n.label.given {
+        if n.label.symbol == label {
             let values = n.values;
             let imports = x.imports;
             let held = set_named(values, imports, wide(variable), value);
-            return synth::with_values(n, held);
+            return notes::with_values(n, held);
         }
     }
     n
@@ -430,10 +404,10 @@ pub fn control_lines(
 fn is_held(n: Note, channel: u8, key: u8) -> bool
     ensures { λ r. ⌜ r ≡ isHeldIn channel key n ⌝ }
 {
-    if n.keyed {
-        if n.channel == channel {
-            if n.key == key {
-                return !n.released;
+    if n.origin.keyed {
+        if n.origin.channel == channel {
+            if n.origin.key == key {
+                return !n.origin.released;
             }
         }
     }
@@ -452,7 +426,7 @@ fn let_go_oldest(v: Started, channel: u8, key: u8) -> Started
         let x = notes[i];
         if is_held(x, channel, key) {
             let mut a = notes;
-            a[i] = synth::let_go(x);
+            a[i] = notes::let_go(x);
             return Started {
                 notes: a,
                 count: m,
@@ -489,28 +463,23 @@ fn play_message<'a>(
     let_go_oldest(v, m.channel, m.key)
 }
 
-// After step 4: each note message among the first, in order; so many notes were missed before.
+// After step 4: each note message among the first m, in order.
 pub fn play_messages<'a>(
     table: [Instrument; 8],
     n: usize,
     code: &'a [u64],
     vals: &'a [f32],
-    notes: Notes,
-    missed: usize,
+    old: Started,
     chosen: u16,
     messages: [Message; 64],
     m: usize,
 ) -> Started
-    requires { ⌜ missed ≤ 64 ⌝ }
-    ensures { λ r. ⌜ (r ≡ startedOver (afterMessages (voices (take n table) (now (code .entry)) (now (vals .entry))) sixteen chosen (startedIn (notes .notes) (notes .count) missed) (take m messages)) (notes .notes)) × (r .missed ≤ 128) ⌝ }
+    requires { ⌜ old .missed ≤ 64 ⌝ }
+    ensures { λ r. ⌜ (r ≡ startedOver (afterMessages (voices (take n table) (now (code .entry)) (now (vals .entry))) sixteen chosen (startedIn (old .notes) (old .count) (old .missed)) (take m messages)) (old .notes)) × (r .missed ≤ 128) ⌝ }
 {
     let w = within(m, 64);
-    let given = notes.notes;
-    let mut v = Started {
-        notes: given,
-        count: within(notes.count, MOST_NOTES),
-        missed: missed,
-    };
+    let mut v = old;
+    v.count = within(old.count, MOST_NOTES);
     let mut i: usize = 0;
     while i < w {
         let x = messages[i];
@@ -533,10 +502,14 @@ fn run_note(code: &[u64], room: &mut [f32; 4096], x: Instrument, n: Note, mix: &
 fn goes_on(n: Note, position: u64) -> bool
     ensures { λ r. ⌜ r ≡ goesOn position (noteOf n) ⌝ }
 {
-    if n.released {
+    if n.origin.released {
         return false;
     }
-    if n.endless { true } else { position < n.end }
+    if n.end.never {
+        true
+    } else {
+        position < n.end.at
+    }
 }
 
 // Step 5: the first notes run, oldest first, each adding its outputs to the mix; what lies behind them stays.

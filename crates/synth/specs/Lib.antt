@@ -1,5 +1,4 @@
 pub mod Run
 pub mod Passes
-pub mod Notes
 pub mod Area
 pub mod Room

@@ -10,7 +10,7 @@ advance-spec =
     tie.close (tie.spec
     (λ c κs. search needs) (λ c κs. search needs) (λ c κs. search needs)
     (λ c. let at = c .before .before .before .before .before in
-    omega (arith, c .ticks-per-cycle .ensures, cycle-most (at .tempo-after .result), at .before .before .before .before .pre))
+    omega (arith, c .ticks-per-cycle .ensures, cycle-most (at .tempo-after .result), at .before .before .before .before .before .pre))
     (λ c. search needs)
     (λ c. let t = c .before .before .before .perform .ensures in
     let at = c .before .before .before .before .before in

@@ -5,7 +5,7 @@ use native.Mathlib.Omega.{arith}
 use lib.ListN.{length, take, length-map}
 use Rattle.players.specs.Lists.{each, over}
 use Rattle.players.proofs.Loops.{take-end}
-use Rattle.synth.specs.declared.Note.{Note}
+use Rattle.notes.specs.declared.Note.{Note}
 use Rattle.sounding.specs.Notes.{controlledIn}
 use Rattle.sounding.proofs.Steps.{each-over}
 use Rattle.sounding.proofs.Band.{control-in}

@@ -5,7 +5,7 @@ use native.Mathlib.Omega.{arith}
 use lib.ListN.{length, take, length-set}
 use Rattle.players.specs.Lists.{over}
 use Rattle.players.proofs.Loops.{laid-step, take-end}
-use Rattle.synth.specs.declared.Note.{Note}
+use Rattle.notes.specs.declared.Note.{Note}
 use Rattle.sounding.proofs.laid.Statement.{statement}
 use Rattle.sounding.proofs.laid.Tie as tie
 

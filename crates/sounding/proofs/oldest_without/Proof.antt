@@ -4,7 +4,7 @@ use Prim.Native.Nat.{_≤_, _-_}
 use native.Mathlib.Omega.{arith}
 use lib.ListN.{length, take, length-map}
 use lib.Seq.{length-take-le, getD-take}
-use Rattle.synth.specs.declared.Note.{Note}
+use Rattle.notes.specs.declared.Note.{Note}
 use Rattle.sounding.proofs.Cutting.{Past, past-none, past-one, past-here, past-all, not-true, not-false}
 use Rattle.sounding.proofs.oldest_without.Statement.{statement}
 use Rattle.sounding.proofs.oldest_without.Tie as tie

@@ -16,13 +16,13 @@ use Rattle.sounding.proofs.play_messages.Tie as tie
 pub play-messages-spec : {M : Type 1} → statement M
 play-messages-spec =
     tie.close (tie.spec
-    (λ table n code vals missed chosen m messages w v₀ i₀ v i. (i ≤ w) × (w ≤ 64) × (v .missed ≤ 64 + i)
+    (λ table n code vals chosen m messages w v₀ i₀ v i. (i ≤ w) × (w ≤ 64) × (v .missed ≤ 64 + i)
     × Starting (afterMessages (voices (take n table) code vals) sixteen chosen (startedIn (v₀ .notes) (v₀ .count) (v₀ .missed)) (take i messages)) (v₀ .notes) v)
-    (λ table n code vals missed chosen m messages w v₀ i₀ v i. w - i)
+    (λ table n code vals chosen m messages w v₀ i₀ v i. w - i)
     (λ c κs. tt) (λ c κs. tt)
-    (λ c. unfold afterMessages fold in let s = c .before .before .before .before .before in (
-      omega (arith, c .before .before .within .ensures),
-      omega (arith, c .before .before .within .ensures),
+    (λ c. unfold afterMessages fold in let s = c .before .before .before .before in (
+      omega (arith, c .before .within .ensures),
+      omega (arith, c .before .within .ensures),
       omega (arith, s .pre),
       starting-none _ (simp length-map at (s .good .1 .1 .1 .1 .0 .1 .1 .0 .1 .0 .1)) (omega (arith, c .within2 .ensures)),
     ))
@@ -30,22 +30,22 @@ play-messages-spec =
     (λ c κs. let at = c .before .before in (at .loop .inv .3 .room, omega arith))
     (λ c. omega arith) (λ c. omega arith)
     (λ c. let at = c .before .before .before in
-    let s = at .before .before .before .before .before .before in
-    let h : at .loop .i < length (s .args .t8) = omega (arith, s .good .1 .1 .1 .1 .1 .1 .1 .0 .1 .0 .1) in (
+    let s = at .before .before .before .before .before in
+    let h : at .loop .i < length (s .args .t7) = omega (arith, s .good .1 .1 .1 .1 .1 .1 .0 .1 .0 .1) in (
       omega arith,
       at .loop .inv .1,
       omega (arith, c .play-message .ensures .few, at .loop .inv .2),
-      messages-more _ _ _ _ _ (s .args .t8) _ _ _ _ _ h (at .loop .inv .3) (c .play-message .ensures),
+      messages-more _ _ _ _ _ (s .args .t7) _ _ _ _ _ h (at .loop .inv .3) (c .play-message .ensures),
     ))
     (λ c. let at = c .before in
-    let s = at .before .before .before .before .before .before in
+    let s = at .before .before .before .before .before in
     let a = s .args in
     let v = voices (take (a .n) (a .table)) (a .code .now) (a .vals .now) in
-    let l : length (a .notes .notes) ≡ 16 = simp length-map at (s .good .1 .1 .1 .1 .0 .1 .1 .0 .1 .0 .1) in
-    let m-eq = take-end (a .t8) (a .m) 64 _ (s .good .1 .1 .1 .1 .1 .1 .1 .0 .1 .0 .1) _ (at .before .before .before .within .ensures) (at .loop .inv .0) (c .loop-test .left) in
-    let n-eq : take (at .before .within2 .result) (a .notes .notes) ≡ take (a .notes .count) (a .notes .notes) =
-    ap (λ (k : ℕ). take k (a .notes .notes)) (at .before .within2 .ensures) ∙ take-min (a .notes .notes) (a .notes .count) 16 l in (
+    let l : length (a .old .notes) ≡ 16 = simp length-map at (s .good .1 .1 .1 .1 .0 .1 .1 .0 .1 .0 .1) in
+    let m-eq = take-end (a .t7) (a .m) 64 _ (s .good .1 .1 .1 .1 .1 .1 .0 .1 .0 .1) _ (at .before .before .within .ensures) (at .loop .inv .0) (c .loop-test .left) in
+    let n-eq : take (at .before .within2 .result) (a .old .notes) ≡ take (a .old .count) (a .old .notes) =
+    ap (λ (k : ℕ). take k (a .old .notes)) (at .before .within2 .ensures) ∙ take-min (a .old .notes) (a .old .count) 16 l in (
       starting-end _ _ _ (at .loop .inv .3)
-          ∙ (λ i. startedOver (afterMessages v sixteen (a .chosen) (record { notes = each noteOf (n-eq i); missed = a .missed }) (m-eq i)) (a .notes .notes)),
+          ∙ (λ i. startedOver (afterMessages v sixteen (a .chosen) (record { notes = each noteOf (n-eq i); missed = a .old .missed }) (m-eq i)) (a .old .notes)),
       omega (arith, at .loop .inv .2),
     )))

@@ -9,7 +9,7 @@ use native.Mathlib.Omega.{arith}
 use borrow.Author.Needs.{needs}
 use lib.ListN.{take}
 use Rattle.players.proofs.Loops.{take-end}
-use Rattle.synth.specs.declared.Note.{Note}
+use Rattle.notes.specs.declared.Note.{Note}
 use Rattle.kept_voices.specs.Voices.{voices}
 use Rattle.sounding.specs.Notes.{notesIn}
 use Rattle.synth.specs.Room.{numbersIn, roomOf}

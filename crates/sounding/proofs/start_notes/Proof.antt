@@ -1,7 +1,7 @@
 use mathlib.Core.Path.{_≡_, refl, ap, _∙_}
 use Prim.Native.Nat.{ℕ, _≤_, _<_, _-_}
 use native.Mathlib.Omega.{arith}
-use lib.ListN.{length, take}
+use lib.ListN.{length, take, length-map}
 use Rattle.players.specs.Lists.{each, fold}
 use Rattle.players.specs.Cycle.{started}
 use Rattle.players.specs.Holds.{sixteen}
@@ -16,35 +16,41 @@ use Rattle.sounding.proofs.start_notes.Tie as tie
 pub start-notes-spec : {M : Type 1} → statement M
 start-notes-spec =
     tie.close (tie.spec
-    (λ table n code vals sounding m position lines w p v₀ i₀ v i. (i ≤ w) × (w ≤ 64) × (v .missed ≤ i)
+    (λ table n code vals position w p lines v₀ i₀ v i. (i ≤ w) × (w ≤ 64) × (v .missed ≤ i)
     × Starting (started (voices (take n table) code vals) sixteen p (notesIn (v₀ .notes) (v₀ .count)) (take i lines)) (v₀ .notes) v)
-    (λ table n code vals sounding m position lines w p v₀ i₀ v i. w - i)
+    (λ table n code vals position w p lines v₀ i₀ v i. w - i)
     (λ c κs. tt) (λ c κs. tt) (λ c κs. tt)
-    (λ c. unfold started fold in let s = c .before .before .before .before .before in (
-      omega (arith, c .before .before .within .ensures),
-      omega (arith, c .before .before .within .ensures),
+    (λ c. unfold started fold in let w = c .before .before .before .before in
+    let s = w .before .before .before in (
+      omega (arith, w .within .ensures),
+      omega (arith, w .within .ensures),
       omega arith,
-      starting-none _ (s .good .1 .1 .1 .1 .0 .1 .0 .1) (omega (arith, c .within2 .ensures)),
+      starting-none _ (simp length-map at (s .good .1 .1 .1 .1 .0 .1 .1 .0 .1 .0 .1)) (omega (arith, c .within2 .ensures)),
     ))
     (λ c. omega arith) (λ c. omega arith)
     (λ c κs. let at = c .before .before in
-    (at .loop .inv .3 .room, omega arith, omega (arith, at .before .before .at-most .ensures)))
+    (at .loop .inv .3 .room, omega arith, omega (arith, at .before .before .before .before .at-most .ensures)))
     (λ c. omega arith) (λ c. omega arith)
     (λ c. let at = c .before .before .before in
-    let s = at .before .before .before .before .before .before in
-    let h : at .loop .i < length (s .args .t7) = omega (arith, s .good .1 .1 .1 .1 .1 .1 .0 .1 .0 .1) in (
+    let s = at .before .before .before .before .before .before .before .before in
+    let l : length (s .args .due .lines) ≡ 64 = simp length-map at (s .good .1 .1 .1 .1 .1 .0 .1 .1 .0 .1 .0 .1) in
+    let h : at .loop .i < length (s .args .due .lines) = omega (arith, l) in (
       omega arith,
       at .loop .inv .1,
       omega (arith, c .start-line .ensures .few, at .loop .inv .2),
-      starting-more _ _ _ _ _ (s .args .t7) _ _ _ _ _ h (at .loop .inv .3) (c .start-line .ensures),
+      starting-more _ _ _ _ _ (s .args .due .lines) _ _ _ _ _ h (at .loop .inv .3) (c .start-line .ensures),
     ))
     (λ c. let at = c .before in
-    let s = at .before .before .before .before .before .before in
-    let v = voices (take (s .args .n) (s .args .table)) (s .args .code .now) (s .args .vals .now) in
-    let l-eq = take-end (s .args .t7) (s .args .m) 64 _ (s .good .1 .1 .1 .1 .1 .1 .0 .1 .0 .1) _ (at .before .before .before .within .ensures) (at .loop .inv .0) (c .loop-test .left) in
-    let n-eq : take (at .before .within2 .result) (s .args .notes) ≡ take (s .args .sounding) (s .args .notes) =
-    ap (λ (k : ℕ). take k (s .args .notes)) (at .before .within2 .ensures) ∙ take-min (s .args .notes) (s .args .sounding) 16 (s .good .1 .1 .1 .1 .0 .1 .0 .1) in (
+    let p = at .before .before .before .before in
+    let s = p .before .before .before .before in
+    let a = s .args in
+    let v = voices (take (a .n) (a .table)) (a .code .now) (a .vals .now) in
+    let l : length (a .due .lines) ≡ 64 = simp length-map at (s .good .1 .1 .1 .1 .1 .0 .1 .1 .0 .1 .0 .1) in
+    let k : length (a .old .notes) ≡ 16 = simp length-map at (s .good .1 .1 .1 .1 .0 .1 .1 .0 .1 .0 .1) in
+    let l-eq = take-end (a .due .lines) (a .due .count) 64 _ l _ (p .before .within .ensures) (at .loop .inv .0) (c .loop-test .left) in
+    let n-eq : take (at .before .within2 .result) (a .old .notes) ≡ take (a .old .count) (a .old .notes) =
+    ap (λ (k : ℕ). take k (a .old .notes)) (at .before .within2 .ensures) ∙ take-min (a .old .notes) (a .old .count) 16 k in (
       starting-end _ _ _ (at .loop .inv .3)
-          ∙ (λ i. startedOver (started v sixteen (at .before .before .at-most .ensures i) (each noteOf (n-eq i)) (l-eq i)) (s .args .notes)),
+          ∙ (λ i. startedOver (started v sixteen (p .at-most .ensures i) (each noteOf (n-eq i)) (l-eq i)) (a .old .notes)),
       omega (arith, at .loop .inv .2),
     )))

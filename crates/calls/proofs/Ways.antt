@@ -1,0 +1,123 @@
+-- One law for each way through a call.
+use mathlib.Core.Path.{_≡_, refl, sym, ap, _∙_}
+use mathlib.Core.Bool.{Bool, true, false, cond}
+use mathlib.Core.List.{List}
+use Prim.Native.Nat.{ℕ}
+use lib.IntN.{ℤ}
+use lib.Ieee.{Float}
+use lib.ListN.{length, replicate}
+use borrow.Author.Tests.{eq-eqb, ne-eqb}
+use Rattle.answer.specs.Numbers.{isTaken}
+use Rattle.answer.specs.declared.Answer.{Answer}
+use Rattle.answer.specs.declared.Answer.the-variants.{Taken, Ended, BlockLength}
+use Rattle.score.specs.Score.{Score}
+use Rattle.score_line.specs.declared.Line.{Line}
+use Rattle.notes.specs.declared.Note.{Note}
+use Rattle.bursts.specs.Bursts.{Burst}
+use Rattle.players.specs.Cycle.{Voices}
+use Rattle.players.specs.Holds.{settingsOf, sixty, dueOf, bandOf, blockOf}
+use Rattle.players.proofs.Lists.{cond-true, cond-false}
+use Rattle.doors.specs.Doors.{emptyLine}
+use Rattle.burst_entrance.specs.Singly.{sentIn}
+use Rattle.entrances.specs.Entrances.{broughtIn}
+use Rattle.entrances.specs.declared.Pushed.{Pushed}
+use Rattle.burst_entrance.specs.declared.Sent.{Sent}
+use Rattle.messages.specs.Reading.{callOf}
+use Rattle.keyboard.specs.Keyboard.{noMessages, pressedIn}
+use Rattle.keyboard.specs.declared.Messages.{Messages}
+use Rattle.keyboard.specs.declared.Pressed.{Pressed}
+use Rattle.kept_voices.specs.Voices.{Held, voices}
+use Rattle.kept_orchestra.specs.declared.Instrument.{Instrument}
+use Rattle.cycle.specs.OneCycle as oneCycle
+use Rattle.cycle.specs.declared.State.{State}
+use Rattle.cycle.proofs.Stepping.{ended-law, has-stopped, has-played}
+use Rattle.cycle.proofs.Samples.{length-mix, whole-block}
+use Rattle.calls.specs.OnState.{emptyNote, startState, withQueue, withMessages, broughtOf, sentOf, pressedOf, cycledOf, blockLeft}
+use Rattle.calls.specs.declared.Left.{Left}
+
+-- ---- a fresh start
+
+-- its places hold an empty line, an empty note and an empty message
+pub start-law : (ended : Bool) (l : Line) → l ≡ emptyLine → (n : Note) → n ≡ emptyNote → (m : Messages) → m ≡ noMessages
+    → _≡_ {A = State} (record {
+      queue = record { lines = replicate 64 l; count = 0; ran = false; last = 0 };
+      messages = m;
+      playing = record { notes = record { notes = replicate 16 n; count = 0 }; position = 0; tempo = sixty; missed = 0; ended = ended };
+    }) (startState ended)
+start-law ended l e n f m g =
+    λ i. record {
+      queue = record { lines = replicate 64 (e i); count = 0; ran = false; last = 0 };
+      messages = g i;
+      playing = record { notes = record { notes = replicate 16 (f i); count = 0 }; position = 0; tempo = sixty; missed = 0; ended = ended };
+    }
+
+-- ---- lines and note messages
+
+module _ (table : List Instrument) (s : State) where
+  pub brings : (timed : Bool) (score : Score) (r : Pushed) → r ≡ broughtIn (s .playing .ended) timed table (s .queue) score
+      → record { state = withQueue s (r .queue); answer = r .answer; line = r .line } ≡ broughtOf table s timed score
+  unfolding broughtOf
+  brings timed score r e = ap (λ (x : Pushed). record { state = withQueue s (x .queue); answer = x .answer; line = x .line }) e
+
+  pub sends : (places : ℕ) (b : Burst) (r : Sent) → r ≡ sentIn (s .playing .ended) table (s .queue) places b
+      → record { state = withQueue s (r .queue); answer = r .answer; units = r .units } ≡ sentOf table s places b
+  unfolding sentOf
+  sends places b r e = ap (λ (x : Sent). record { state = withQueue s (x .queue); answer = x .answer; units = x .units }) e
+
+module _ (s : State) (bytes : List ℕ) where
+  pub keys-over : s .playing .ended ≡ true → record { state = s; answer = Ended } ≡ pressedOf s bytes
+  unfolding pressedOf
+  keys-over h = sym (cond-true _ _ h)
+
+  pub keys-in : s .playing .ended ≡ false → (r : Pressed) → r ≡ pressedIn (s .messages) (callOf bytes)
+      → record { state = withMessages s (r .messages); answer = r .answer } ≡ pressedOf s bytes
+  unfolding pressedOf
+  keys-in h r e = ap (λ (x : Pressed). record { state = withMessages s (x .messages); answer = x .answer }) e ∙ sym (cond-false _ _ h)
+
+-- ---- a cycle
+
+module _ (v : Voices Held) (ceiling chosen : ℕ) (s : State) (n : ℕ) where
+  pub cycle-off : (n ≡ 320 → ⊥) → (x : Left) → x ≡ record { state = s; answer = BlockLength } → x ≡ cycledOf v (settingsOf ceiling chosen) s n
+  unfolding cycledOf
+  cycle-off h x e = e ∙ sym (cond-false _ _ (ne-eqb n 320 h))
+
+  pub cycle-over : n ≡ 320 → s .playing .ended ≡ true → (x : Left) → x ≡ record { state = s; answer = Ended } → x ≡ cycledOf v (settingsOf ceiling chosen) s n
+  unfolding cycledOf
+  cycle-over h o x e = e ∙ sym (cond-true _ _ (eq-eqb n 320 h) ∙ cond-true _ _ o)
+
+  module _ (h : n ≡ 320) (o : s .playing .ended ≡ false) (next : State) (is : next ≡ oneCycle.stateAfter v (settingsOf ceiling chosen) s) where
+    pub cycle-ran : (a : Answer) → a ≡ cond (next .playing .ended) Ended Taken → record { state = next; answer = a } ≡ cycledOf v (settingsOf ceiling chosen) s n
+    unfolding cycledOf
+    cycle-ran a e = go (next .playing .ended) refl
+      where
+        go : (b : Bool) → next .playing .ended ≡ b → record { state = next; answer = a } ≡ cycledOf v (settingsOf ceiling chosen) s n
+        go true t =
+            (λ i. record { state = has-stopped _ _ _ _ next is t i; answer = (e ∙ cond-true _ _ t) i })
+            ∙ sym (cond-true _ _ (eq-eqb n 320 h) ∙ cond-false _ _ o ∙ cond-true _ _ (ended-law _ _ _ _ next is ∙ t))
+        go false t =
+            (λ i. record { state = has-played _ _ _ _ next is t i; answer = (e ∙ cond-false _ _ t) i })
+            ∙ sym (cond-true _ _ (eq-eqb n 320 h) ∙ cond-false _ _ o ∙ cond-false _ _ (ended-law _ _ _ _ next is ∙ t))
+
+-- ---- the lent block
+
+module _ (table : List Instrument) (code : List ℕ) (vals : List Float) (ceiling chosen : ℕ) (s : State) (lent : List ℤ)
+    (x : Left) (q : x ≡ cycledOf (voices table code vals) (settingsOf ceiling chosen) s (length lent)) where
+  abbrev v : Voices Held
+  v = voices table code vals
+
+  pub block-stays : isTaken (x .answer) ≡ false → lent ≡ blockLeft v (settingsOf ceiling chosen) s lent
+  unfolding blockLeft
+  block-stays t = sym (cond-false _ _ (ap (λ (y : Left). isTaken (y .answer)) (sym q) ∙ t))
+
+  pub block-ran : length lent ≡ 320 → (next : State) → next ≡ oneCycle.stateAfter v (settingsOf ceiling chosen) s
+      → x .answer ≡ cond (next .playing .ended) Ended Taken
+      → (left : List ℤ) → left ≡ oneCycle.blockAfter v (settingsOf ceiling chosen) s lent → left ≡ blockLeft v (settingsOf ceiling chosen) s lent
+  unfolding oneCycle.blockAfter blockLeft blockOf
+  block-ran h next is a left r = go (next .playing .ended) refl
+    where
+      go : (b : Bool) → next .playing .ended ≡ b → left ≡ blockLeft v (settingsOf ceiling chosen) s lent
+      go true t = r ∙ cond-true _ _ (ended-law _ _ _ _ next is ∙ t) ∙ block-stays (ap isTaken (a ∙ cond-true _ _ t))
+      go false t =
+          r ∙ cond-false _ _ (ended-law _ _ _ _ next is ∙ t)
+          ∙ whole-block ceiling (bandOf v (settingsOf ceiling chosen) (dueOf (oneCycle.holdsOf s)) (oneCycle.holdsOf s .plays) .mix) lent (length-mix _ _ _ _ _ _ ∙ sym h)
+          ∙ sym (cond-true _ _ (ap (λ (y : Left). isTaken (y .answer)) (sym q) ∙ ap isTaken (a ∙ cond-false _ _ t)))

@@ -1,0 +1,87 @@
+-- What each call leaves of the state, for every state and every input; the table, the voices and the settings stay.
+use mathlib.Core.Bool.{Bool, false, cond}
+use mathlib.Core.List.{List}
+use Prim.Native.Nat.{ℕ}
+use lib.IntN.{ℤ}
+use lib.Ieee.{binary32, ofBits}
+use lib.ListN.{length, replicate}
+use lib.Dec.{eqb}
+use Rattle.answer.specs.Numbers.{isTaken}
+use Rattle.answer.specs.declared.Answer.the-variants.{Taken, Ended, BlockLength}
+use Rattle.score.specs.Score.{Score}
+use Rattle.bursts.specs.Bursts.{Burst}
+use Rattle.players.specs.Cycle.{Voices, samples}
+use Rattle.players.specs.Holds.{Settings, sixty, dueOf, blockOf}
+use Rattle.waiting.specs.declared.Queue.{Queue}
+use Rattle.notes.specs.Notes.{newNote}
+use Rattle.notes.specs.declared.Note.{Note}
+use Rattle.doors.specs.Doors.{emptyLine}
+use Rattle.burst_entrance.specs.Singly.{sentIn}
+use Rattle.entrances.specs.Entrances.{broughtIn}
+use Rattle.messages.specs.Reading.{callOf}
+use Rattle.keyboard.specs.Keyboard.{noMessages, pressedIn}
+use Rattle.keyboard.specs.declared.Messages.{Messages}
+use Rattle.kept_voices.specs.Voices.{Held}
+use Rattle.kept_orchestra.specs.declared.Instrument.{Instrument}
+use Rattle.cycle.specs.OneCycle.{holdsOf, endsNow, stopped, playedOf}
+use Rattle.cycle.specs.declared.State.{State}
+use Rattle.calls.specs.declared.Brought.{Brought}
+use Rattle.calls.specs.declared.Received.{Received}
+use Rattle.calls.specs.declared.Left.{Left}
+
+-- ---- a fresh start
+
+unfoldable pub emptyNote : Note
+emptyNote =
+    newNote (replicate 16 (ofBits binary32 0)) (record { given = false; symbol = 0 }) 0 (record { never = false; at = 0 }) false
+    (record { keyed = false; channel = 0; key = 0; released = false })
+
+-- no line and no note message waits, no note sounds, position 0, the starting tempo, none missed; ended only where the start is refused
+abbrev pub startState : Bool → State
+startState ended =
+    record {
+      queue = record { lines = replicate 64 emptyLine; count = 0; ran = false; last = 0 };
+      messages = noMessages;
+      playing = record { notes = record { notes = replicate 16 emptyNote; count = 0 }; position = 0; tempo = sixty; missed = 0; ended = ended };
+    }
+
+-- ---- the calls
+
+-- with other waiting lines
+abbrev pub withQueue : State → Queue → State
+withQueue s q = record { queue = q; messages = s .messages; playing = s .playing }
+
+-- with other waiting note messages
+abbrev pub withMessages : State → Messages → State
+withMessages s m = record { queue = s .queue; messages = m; playing = s .playing }
+
+-- what was read goes in, all of it or none
+unfoldable pub broughtOf : List Instrument → State → Bool → Score → Brought
+broughtOf table s timed score =
+    let r = broughtIn (s .playing .ended) timed table (s .queue) score in
+    record { state = withQueue s (r .queue); answer = r .answer; line = r .line }
+
+-- a burst's units, as if they came singly
+unfoldable pub sentOf : List Instrument → State → ℕ → Burst → Received
+sentOf table s places b =
+    let r = sentIn (s .playing .ended) table (s .queue) places b in
+    record { state = withQueue s (r .queue); answer = r .answer; units = r .units }
+
+-- bytes at the keyboard: 9 first, then their note messages wait behind the others, all of them or none
+unfoldable pub pressedOf : State → List ℕ → Left
+pressedOf s bytes =
+    let r = pressedIn (s .messages) (callOf bytes) in
+    cond (s .playing .ended) (record { state = s; answer = Ended }) (record { state = withMessages s (r .messages); answer = r .answer })
+
+-- a cycle: 10, then 9, then steps 2 to 8
+unfoldable pub cycledOf : Voices Held → Settings → State → ℕ → Left
+cycledOf v x s lent =
+    cond (eqb lent samples)
+    (cond (s .playing .ended) (record { state = s; answer = Ended })
+    (cond (endsNow s) (record { state = record { queue = s .queue; messages = s .messages; playing = stopped (s .playing) }; answer = Ended })
+    (record { state = playedOf v x s; answer = Taken })))
+    (record { state = s; answer = BlockLength })
+
+-- the lent block afterwards: the cycle's samples where it answers 0, else as it was
+unfoldable pub blockLeft : Voices Held → Settings → State → List ℤ → List ℤ
+blockLeft v x s block = cond (isTaken (cycledOf v x s (length block) .answer)) (blockOf v x (dueOf (holdsOf s)) (holdsOf s .plays)) block

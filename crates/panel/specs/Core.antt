@@ -1,0 +1,45 @@
+-- A panel in two: its core, and its code with the numbers in it, which a host keeps and lends to each cycle. A call on the core is the call on
+-- the panel that both make.
+use mathlib.Core.Path.{_≡_}
+use mathlib.Core.List.{List}
+use Prim.Native.Nat.{ℕ}
+use lib.Ieee.{Float}
+use Rattle.panel.specs.declared.Panel.{Panel}
+use Rattle.panel.specs.declared.Core.{Core}
+use Rattle.panel.specs.declared.Brought.{Brought}
+use Rattle.panel.specs.declared.Received.{Received}
+use Rattle.panel.specs.declared.Played.{Played}
+use Rattle.panel.specs.declared.Cycled.{Cycled}
+use Rattle.panel.specs.declared.CoreBrought.{CoreBrought}
+use Rattle.panel.specs.declared.CoreReceived.{CoreReceived}
+use Rattle.panel.specs.declared.CoreLeft.{CoreLeft}
+
+abbrev pub panelOf : Core → List ℕ → List Float → Panel
+panelOf c code vals =
+    record {
+      state = c .state;
+      ceiling = c .settings .ceiling;
+      chosen = c .settings .chosen;
+      program = record { table = c .table; count = c .count; code = code; vals = vals };
+    }
+
+-- ---- what a call leaves, whatever the code is: what the panel's call gives
+
+abbrev pub BroughtAs : Core → CoreBrought → (Panel → Brought) → Type 0
+BroughtAs c r f =
+    (code : List ℕ) (vals : List Float) → record { panel = panelOf (r .core) code vals; answer = r .answer; line = r .line } ≡ f (panelOf c code vals)
+
+abbrev pub ReceivedAs : Core → CoreReceived → (Panel → Received) → Type 0
+ReceivedAs c r f =
+    (code : List ℕ) (vals : List Float) → record { panel = panelOf (r .core) code vals; answer = r .answer; units = r .units } ≡ f (panelOf c code vals)
+
+abbrev pub AreaAs : Core → List ℕ → (Panel → List ℕ) → Type 0
+AreaAs c area f = (code : List ℕ) (vals : List Float) → area ≡ f (panelOf c code vals)
+
+abbrev pub PlayedAs : Core → CoreLeft → (Panel → Played) → Type 0
+PlayedAs c r f = (code : List ℕ) (vals : List Float) → record { panel = panelOf (r .core) code vals; answer = r .answer } ≡ f (panelOf c code vals)
+
+-- ---- and with the code that a cycle is lent
+
+abbrev pub cycledWith : List ℕ → List Float → CoreLeft → Cycled
+cycledWith code vals r = record { panel = panelOf (r .core) code vals; answer = r .answer }
