@@ -5,4 +5,5 @@ pub mod Statements
 pub mod Stands
 pub mod Whole
 pub mod Lengths
+pub mod Ifs
 pub mod Sounding

@@ -12,7 +12,7 @@ use Rattle.laws.proofs.Choice.{both-true}
 use Rattle.tokens.specs.declared.Token.{Token}
 use Rattle.signs.specs.Operators.{Unary, Binary, unarySign, binarySign}
 use Rattle.tokens.specs.declared.Token.the-variants.{Number, Symbol, Whole, Sign}
-use Rattle.tokens.specs.Measures.{kindOf, opened, bracketsKept, since, stretchesKept}
+use Rattle.tokens.specs.Measures.{mostBrackets, longestStretch, kindOf, opened, bracketsKept, since, stretchesKept}
 use Rattle.syntax.specs.Tree.{Expr}
 use Rattle.syntax.specs.Grammar.{Derives, real, whole, named, prefixed, bracketed, called, called2, sides, chosen, sign, Binds, or, and, equal, unequal, less, greater, atMost, atLeast, plus, minus, times, over, Prefix, negative, not, Call, abs, sgn, int, frac, Call2, min, max}
 
@@ -23,17 +23,17 @@ pub record Kept (n k : ℕ) (ts : List Token) : Type 0 where
 
 -- one token further
 pub record Past (n k : ℕ) (ts : List Token) : Type 0 where
-  pub low : n ≤ 24
-  pub short : k ≤ 128
+  pub low : n ≤ mostBrackets
+  pub short : k ≤ longestStretch
   pub kept : Kept n k ts
 
 pub pass : (n k m j : ℕ) (t : Token) (ts : List Token) → opened n (kindOf t) ≡ m → since k (kindOf t) ≡ j → Kept n k (t ∷ ts) → Past m j ts
 unfolding bracketsKept stretchesKept
 pass n k m j t ts p q h =
-    let (a, b) = both-true (leb (opened n (kindOf t)) 24) (bracketsKept (opened n (kindOf t)) ts) (h .brackets) in
-    let (c, d) = both-true (leb (since k (kindOf t)) 128) (stretchesKept (since k (kindOf t)) ts) (h .stretches) in
-    let x = leb-true (opened n (kindOf t)) 24 a in
-    let y = leb-true (since k (kindOf t)) 128 c in
+    let (a, b) = both-true (leb (opened n (kindOf t)) mostBrackets) (bracketsKept (opened n (kindOf t)) ts) (h .brackets) in
+    let (c, d) = both-true (leb (since k (kindOf t)) longestStretch) (stretchesKept (since k (kindOf t)) ts) (h .stretches) in
+    let x = leb-true (opened n (kindOf t)) mostBrackets a in
+    let y = leb-true (since k (kindOf t)) longestStretch c in
     record { low = omega arith; short = omega arith; kept = record { brackets = rw p at b; stretches = rw q at d } }
 
 -- ---- tokens of an expression
@@ -113,11 +113,11 @@ plain-operator over = plain-sign 35 refl refl refl
 
 -- tokens with none of ; { } among them, that close the brackets they open
 pub record Inner (n k : ℕ) (r : List Token) : Type 0 where
-  pub short : k ≤ 128
+  pub short : k ≤ longestStretch
   pub kept : Kept n k r
 
 abbrev pub Within : List Token → Type 0
-Within ts = (n k : ℕ) (r : List Token) → k ≤ 128 → Kept n k (ts ++ r) → Inner n (k + length ts) r
+Within ts = (n k : ℕ) (r : List Token) → k ≤ longestStretch → Kept n k (ts ++ r) → Inner n (k + length ts) r
 
 pub within-nil : Within []
 within-nil n k r l h = let e : k ≡ k + 0 = omega arith in record { short = omega arith; kept = rw e at h }

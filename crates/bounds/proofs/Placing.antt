@@ -8,7 +8,7 @@ use Rattle.syntax.specs.Tree.{Expr, number, name, unary, binary, choose, Statem
 use Rattle.syntax.specs.Program.{compile, code, instrument, program}
 use Rattle.syntax.specs.Names.{Named}
 use Rattle.syntax.specs.Placed.{place, putIn, put, placed}
-use Rattle.lowered.specs.Statements.{depth}
+use Rattle.translation.specs.Statements.{depth}
 use Rattle.bounds.specs.Sizes.{Shallow, Small}
 use Rattle.bounds.proofs.Exprs.{length-name, length-unary, length-binary, length-choose, length-assign, length-output, length-branch}
 

@@ -3,8 +3,8 @@ use Prim.Native.Nat.{ℕ}
 use mathlib.Core.List.{List}
 use lib.Ieee.{Float}
 use Rattle.syntax.specs.Tree.{Statements}
-use Rattle.lowered.specs.Statements.{Playable, BirthMeans, KMeans, PlayedMeans}
-use Rattle.lowered.proofs.Laws.{birth-means, k-means, played-means}
+use Rattle.translation.specs.Statements.{Playable, BirthMeans, KMeans, PlayedMeans}
+use Rattle.translation.proofs.Laws.{birth-means, k-means, played-means}
 use Rattle.bounds.specs.Sounds.{Sounds, InstrumentSounds}
 use Rattle.bounds.proofs.Whole.{instrument-playable}
 

@@ -10,8 +10,9 @@ use Rattle.syntax.specs.Tree.{Expr, number, name, unary, binary, choose, Statem
 use Rattle.syntax.specs.Program.{unaryOp, binaryOp}
 use Rattle.syntax.specs.Program.{Ins, ins, insArg, chooseOp, storeOp, outputOp, ifOp, elseOp, endOp, zeroF, compile, code}
 use Rattle.expressions.specs.Areas.{valOf}
-use Rattle.lowered.specs.Lowered.{after, past}
-use Rattle.lowered.specs.Statements.{Holds, Workable, Playable}
+use Rattle.operations.specs.Words.{programSize}
+use Rattle.translation.specs.Translation.{after, past}
+use Rattle.translation.specs.Statements.{Holds, Workable, Playable}
 use Rattle.bounds.specs.Sizes.{Shallow, Small, numbers}
 use Rattle.bounds.proofs.Exprs.{after-length, past-length, length-assign, length-output, length-branch}
 
@@ -77,10 +78,10 @@ module _ (vals : List Float) where
 
   -- ---- statements
 
-  workable : (n : ℕ) (e : Expr) → Shallow e → Stands vals n (compile e) → n + length (compile e) ≤ 2048 → Workable vals n e
+  workable : (n : ℕ) (e : Expr) → Shallow e → Stands vals n (compile e) → n + length (compile e) ≤ programSize → Workable vals n e
   workable n e h s l = record { deep = h .deep; short = omega (arith, after-length n e); held = holds n e s }
 
-  pub playable : (n g : ℕ) (t : Statements) → Small g t → Stands vals n (code t) → n + length (code t) ≤ 2048 → Playable vals n g t
+  pub playable : (n g : ℕ) (t : Statements) → Small g t → Stands vals n (code t) → n + length (code t) ≤ programSize → Playable vals n g t
   unfolding Playable Small code
   playable n g done h s l = tt
   playable n g (assign c e t) h s l =

@@ -6,6 +6,7 @@ use mathlib.Core.List.{List, _∷_, _++_, append-assoc}
 use lib.ListN.{length, length-append}
 use Rattle.tokens.specs.declared.Token.{Token}
 use Rattle.tokens.specs.declared.Token.the-variants.{Symbol, Sign}
+use Rattle.tokens.specs.Measures.{longestStretch}
 use Rattle.syntax.specs.Tree.{Expr, Statements, done}
 use Rattle.syntax.specs.Program.{code}
 use Rattle.syntax.specs.Grammar.{IsExpr, Stmts, none, set, out, when, either}
@@ -16,11 +17,11 @@ use Rattle.bounds.proofs.Measures.{Kept, Plain, Inner, pass-plain, pass
 -- the measures go on, with n brackets open and some tokens since the last of ; { }
 pub record Goes (n : ℕ) (r : List Token) : Type 0 where
   pub count : ℕ
-  pub short : count ≤ 128
+  pub short : count ≤ longestStretch
   pub kept : Kept n count r
 
 -- an expression among tokens that keep the measures
-module _ {e : Expr} {ts : List Token} (d : IsExpr e ts) (n k : ℕ) (r : List Token) (l : k ≤ 128) (h : Kept n k (ts ++ r)) where
+module _ {e : Expr} {ts : List Token} (d : IsExpr e ts) (n k : ℕ) (r : List Token) (l : k ≤ longestStretch) (h : Kept n k (ts ++ r)) where
   pub expr-past : Inner n (k + length ts) r
   expr-past = within d n k r l h
 

@@ -12,13 +12,14 @@ use Rattle.laws.proofs.Choice.{both-true}
 use Rattle.laws.proofs.Lists.{map-append}
 use Rattle.tokens.specs.declared.Token.{Token}
 use Rattle.tokens.specs.declared.Token.the-variants.{Symbol, Sign}
-use Rattle.tokens.specs.Measures.{bracketsKept, stretchesKept}
+use Rattle.tokens.specs.Measures.{mostTokens, bracketsKept, stretchesKept}
 use Rattle.syntax.specs.Tree.{Declaration, Instrument, fieldKind}
 use Rattle.syntax.specs.Program.{Ins, insArg, instrOp, declare, declared, code, instrument, program}
 use Rattle.syntax.specs.Names.{namesOf}
 use Rattle.syntax.specs.Placed.{placed}
 use Rattle.syntax.specs.Grammar.{Names, one, more, Fields, none as no·fields, some as some·fields, Kinds, ivar, ksig, asig, imports, Decls, none as no·decls, some as some·decls, Instr, is as an·instr, Orchestra, last, next}
-use Rattle.lowered.specs.Statements.{Playable}
+use Rattle.operations.specs.Words.{programSize}
+use Rattle.translation.specs.Statements.{Playable}
 use Rattle.bounds.specs.Sizes.{Small, numbers, bodyAt, AllPlayable, ProgramFits, OrchestraPlayable, InstrumentPlayable}
 use Rattle.bounds.proofs.Placing.{small-put, program-put}
 use Rattle.bounds.proofs.Measures.{Kept, Within, within-nil, within-one, within-cons, pass-plain, pass-round, pass-round-end, pass-block, pass-block-end, pass-semicolon, plain-symbol, plain-sign}
@@ -59,7 +60,7 @@ program-tokens (next {i = i} {ts = ts} {is = is} {us = us} d s) =
 
 pub program-fits : ProgramFits
 program-fits is ts d m =
-    omega (arith, program-put is, program-tokens d, leb-true (length ts) 2048 (both-true (leb (length ts) 2048) _ m .0))
+    omega (arith, program-put is, program-tokens d, leb-true (length ts) mostTokens (both-true (leb (length ts) mostTokens) _ m .0))
 
 -- ---- the measures, up to an instrument's statements
 
@@ -132,7 +133,7 @@ module _ (vals : List Float) where
       let k : n + suc (length ds) ≡ suc n + length ds = omega arith in
       rw k at z
 
-  all-playable : (n : ℕ) (is : List Instrument) → AllSmall is → Stands vals n (program (map placed is)) → n + length (program (map placed is)) ≤ 2048
+  all-playable : (n : ℕ) (is : List Instrument) → AllSmall is → Stands vals n (program (map placed is)) → n + length (program (map placed is)) ≤ programSize
       → AllPlayable vals n (map placed is)
   unfolding AllSmall AllPlayable program
   all-playable n [] h s l = tt
@@ -157,7 +158,7 @@ module _ (vals : List Float) where
 pub orchestra-playable : OrchestraPlayable
 orchestra-playable is ts pad d m =
     let p = program (map placed is) in
-    let (b, c) = both-true (bracketsKept 0 ts) (stretchesKept 0 ts) (both-true (leb (length ts) 2048) (bracketsKept 0 ts && stretchesKept 0 ts) m .1) in
+    let (b, c) = both-true (bracketsKept 0 ts) (stretchesKept 0 ts) (both-true (leb (length ts) mostTokens) (bracketsKept 0 ts && stretchesKept 0 ts) m .1) in
     let f = program-fits is ts d m in
     all-playable (numbers p ++ pad) 0 is
     (orchestra-small d (record { count = 0; short = omega arith; kept = record { brackets = b; stretches = c } }))

@@ -13,8 +13,8 @@ use Rattle.syntax.specs.Placed.{placed}
 use Rattle.expressions.specs.Areas.{valOf}
 use Rattle.syntax.specs.Grammar.{Orchestra}
 use Rattle.operations.specs.Words.{mostIfs, mostParts, programSize}
-use Rattle.lowered.specs.Lowered.{lowered}
-use Rattle.lowered.specs.Statements.{depth, Playable}
+use Rattle.translation.specs.Translation.{lowered}
+use Rattle.translation.specs.Statements.{depth, Playable}
 
 -- an expression of which no more than 128 parts wait
 pub record Shallow (e : Expr) : Type 0 where

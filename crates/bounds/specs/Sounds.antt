@@ -12,17 +12,18 @@ use Rattle.syntax.specs.Program.{program}
 use Rattle.syntax.specs.Placed.{placed}
 use Rattle.meaning.specs.Placed.{birth, kPass, aPasses}
 use Rattle.syntax.specs.Grammar.{Orchestra}
+use Rattle.operations.specs.Words.{notePlaces}
 use Rattle.synth.specs.Passes.{freshOf, once, played}
-use Rattle.lowered.specs.Lowered.{lowered}
-use Rattle.lowered.specs.Statements.{AllFit}
+use Rattle.translation.specs.Translation.{lowered}
+use Rattle.translation.specs.Statements.{AllFit}
 use Rattle.bounds.specs.Sizes.{numbers, bodyAt}
 
 -- the code of statements, which start at n, gives a note what the statements mean: at its birth, once a cycle, and for each sample
 pub record Sounds (vals : List Float) (n : ℕ) (t : Statements) : Type 0 where
   pub born : (vs : List Float) → once vals (lowered 0 n 0 t) (freshOf vs) ≡ birth t vs
-  pub cycled : (vs : List Float) → length vs ≡ 16 → once vals (lowered 1 n 0 t) vs ≡ kPass t vs
-  pub values : (vs mix : List Float) → length vs ≡ 16 → AllFit mix → played vals (lowered 2 n 0 t) vs mix .values ≡ aPasses t vs mix .values
-  pub sums : (vs mix : List Float) → length vs ≡ 16 → AllFit mix → played vals (lowered 2 n 0 t) vs mix .mix ≡ aPasses t vs mix .mix
+  pub cycled : (vs : List Float) → length vs ≡ notePlaces → once vals (lowered 1 n 0 t) vs ≡ kPass t vs
+  pub values : (vs mix : List Float) → length vs ≡ notePlaces → AllFit mix → played vals (lowered 2 n 0 t) vs mix .values ≡ aPasses t vs mix .values
+  pub sums : (vs mix : List Float) → length vs ≡ notePlaces → AllFit mix → played vals (lowered 2 n 0 t) vs mix .mix ≡ aPasses t vs mix .mix
 
 -- So it is for each instrument of an orchestra within the token measures, by those before it and those after it.
 abbrev pub InstrumentSounds : Type 0

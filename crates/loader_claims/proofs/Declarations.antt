@@ -1,5 +1,5 @@
 -- What the loader reads of an instrument's declarations is what the tree declares.
-use Prim.Native.Nat.{ℕ, zero, suc, _+_, _≤_}
+use Prim.Native.Nat.{ℕ, zero, suc, _≤_}
 use native.Mathlib.Omega.{arith}
 use mathlib.Core.Path.{_≡_, refl, sym, ap, _∙_}
 use mathlib.Core.Bool.{Bool, true, false, cond}
@@ -16,6 +16,7 @@ use Rattle.syntax.specs.Grammar as grammar
 use Rattle.syntax.specs.Grammar.{Kinds, Decls, Instr, Orchestra}
 use Rattle.rules.specs.Formed.{opsOf, argsOf}
 use Rattle.voices.specs.Tree.{importOf, importsOf}
+use Rattle.operations.specs.Words.{notePlaces}
 use Rattle.loader.specs.Loading.{laidIn, declares, noImport, fieldCount, importsAt}
 
 -- ---- code that declares nothing at its start
@@ -179,6 +180,6 @@ laid-take (suc m) zero d [] le = absurd (omega arith)
 laid-take (suc m) (suc k) d [] le = ap (λ l. d ∷ l) (laid-take m k d [] (omega arith))
 laid-take (suc m) k d (x ∷ xs) le = ap (λ l. x ∷ l) (laid-take m k d xs (omega arith))
 
-pub imports-laid : (i : Instrument) → laidIn 16 noImport (map importOf (namesOf i)) ≡ importsOf i
+pub imports-laid : (i : Instrument) → laidIn notePlaces noImport (map importOf (namesOf i)) ≡ importsOf i
 unfolding importsOf
-imports-laid i = laid-take 16 16 noImport (map importOf (namesOf i)) (omega arith)
+imports-laid i = laid-take notePlaces notePlaces noImport (map importOf (namesOf i)) (omega arith)

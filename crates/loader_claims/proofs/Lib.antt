@@ -1,3 +1,6 @@
+pub mod KindsAll
+pub mod Walks
+pub mod Stretches
 pub mod Declarations
 pub mod Rows
 pub mod Loaded

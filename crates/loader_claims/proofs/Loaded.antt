@@ -10,17 +10,18 @@ use lib.Ieee.{Float}
 use Rattle.tokens.specs.declared.Token.{Token}
 use Rattle.tokens.specs.Measures.{measured}
 use Rattle.syntax.specs.Tree.{Instrument}
-use Rattle.syntax.specs.Names.{nameRules}
+use Rattle.syntax.specs.Names.{mostInstruments, nameRules}
 use Rattle.syntax.specs.Placed.{placed}
 use Rattle.syntax.specs.Program.{zeroF, program, instrument}
 use Rattle.syntax.specs.Grammar.{Orchestra}
 use Rattle.rules.specs.Formed.{opOf, argOf, opsOf, argsOf, valsOf}
+use Rattle.operations.specs.Words.{codeSize, programSize}
 use Rattle.lowering.specs.Orchestra.{Code, code, codeOf, filled}
 use Rattle.bounds.proofs.Whole.{program-fits, orchestra-playable}
 use Rattle.bounds.specs.Sizes.{numbers}
-use Rattle.compiled.specs.Compiled.{wordsOf, startsOf, ProgramCode}
-use Rattle.compiled.proofs.Laws.{program-code}
-use Rattle.compiled.proofs.Declared.{orchestra-kinds}
+use Rattle.loader_claims.specs.Code.{wordsOf, startsOf, ProgramCode}
+use Rattle.loader_claims.proofs.Stretches.{program-code}
+use Rattle.loader_claims.proofs.KindsAll.{orchestra-kinds}
 use Rattle.orchestra.specs.declared.Outcome.{Outcome}
 use Rattle.orchestra.specs.Compiled.{padded, laid, headsFrom, compile}
 use Rattle.orchestra.proofs.Heads.{at-most-8}
@@ -31,7 +32,7 @@ use Rattle.voices.specs.Represents.{Represents}
 use Rattle.voices.proofs.Rows.{represents}
 use Rattle.kept_orchestra.specs.declared.Program.{Program}
 use Rattle.loader.specs.Loading as loading
-use Rattle.loader.specs.Loading.{laidIn, rowsFrom, programOf, keptOf, loadOf}
+use Rattle.loader.specs.Loading.{mostStarts, laidIn, rowsFrom, programOf, keptOf, loadOf}
 use Rattle.loader_claims.specs.Claims.{StandsFor, Loaded, TakenOnly}
 use Rattle.loader_claims.proofs.Declarations.{all-known}
 use Rattle.loader_claims.proofs.Rows.{programIn, startsIn, wordsIn, all-rows}
@@ -54,39 +55,39 @@ length-rows os ns ss n j [] = refl
 length-rows os ns ss n j (h ∷ hs) = ap suc (length-rows os ns ss n (suc j) hs)
 
 -- the arrays' first cells
-module _ (hs os ns : List ℕ) (vs : List Float) (few : length hs ≤ 8) (e : length os ≡ length ns) where
-  kept-is : keptOf (laid hs os ns vs) ≡ programOf os ns (padded 2048 zeroF vs) (padded 8 0 hs) (length hs)
+module _ (hs os ns : List ℕ) (vs : List Float) (few : length hs ≤ mostInstruments) (e : length os ≡ length ns) where
+  kept-is : keptOf (laid hs os ns vs) ≡ programOf os ns (padded programSize zeroF vs) (padded mostInstruments 0 hs) (length hs)
   kept-is =
-      let a : take (length os) (padded 2048 0 os) ≡ os = take-append-seam os (drop (length os) (replicate 2048 0)) in
-      let b : take (length os) (padded 2048 0 ns) ≡ ns = ap (λ k. take k (padded 2048 0 ns)) e ∙ take-append-seam ns (drop (length ns) (replicate 2048 0)) in
-      let c : min (length hs) 8 ≡ length hs = omega arith in
-      λ i. programOf (a i) (b i) (padded 2048 zeroF vs) (padded 8 0 hs) (c i)
+      let a : take (length os) (padded programSize 0 os) ≡ os = take-append-seam os (drop (length os) (replicate programSize 0)) in
+      let b : take (length os) (padded programSize 0 ns) ≡ ns = ap (λ k. take k (padded programSize 0 ns)) e ∙ take-append-seam ns (drop (length ns) (replicate programSize 0)) in
+      let c : min (length hs) mostInstruments ≡ length hs = omega arith in
+      λ i. programOf (a i) (b i) (padded programSize zeroF vs) (padded mostInstruments 0 hs) (c i)
 
   -- the rows that count, and the code, by the words and the starts
-  module _ (ws ss : List ℕ) (p : codeOf 6144 27 os ns ≡ code ws ss) where
+  module _ (ws ss : List ℕ) (p : codeOf codeSize mostStarts os ns ≡ code ws ss) where
     abbrev made : Program
-    made = programOf os ns (padded 2048 zeroF vs) (padded 8 0 hs) (length hs)
+    made = programOf os ns (padded programSize zeroF vs) (padded mostInstruments 0 hs) (length hs)
 
-    table-is : take (made .count) (made .table) ≡ rowsFrom os ns (filled 27 ss) (length hs) 0 hs
+    table-is : take (made .count) (made .table) ≡ rowsFrom os ns (filled mostStarts ss) (length hs) 0 hs
     unfolding programOf
     table-is =
-        let h : take (length hs) (padded 8 0 hs) ≡ hs = take-append-seam hs (drop (length hs) (replicate 8 0)) in
-        let s : loading.startsIn os ns ≡ filled 27 ss = ap (λ (c : Code). filled 27 (c .starts)) p in
-        let r = rowsFrom os ns (filled 27 ss) (length hs) 0 hs in
-        let l : length r ≡ length hs = length-rows os ns (filled 27 ss) (length hs) 0 hs in
-        ap₂ (λ (u v : List ℕ). take (length hs) (laidIn 8 blank (rowsFrom os ns u (length hs) 0 v))) s h
-        ∙ ap (λ k. take k (laidIn 8 blank r)) (sym l)
-        ∙ take-laid 8 blank r (omega arith)
+        let h : take (length hs) (padded mostInstruments 0 hs) ≡ hs = take-append-seam hs (drop (length hs) (replicate mostInstruments 0)) in
+        let s : loading.startsIn os ns ≡ filled mostStarts ss = ap (λ (c : Code). filled mostStarts (c .starts)) p in
+        let r = rowsFrom os ns (filled mostStarts ss) (length hs) 0 hs in
+        let l : length r ≡ length hs = length-rows os ns (filled mostStarts ss) (length hs) 0 hs in
+        ap₂ (λ (u v : List ℕ). take (length hs) (laidIn mostInstruments blank (rowsFrom os ns u (length hs) 0 v))) s h
+        ∙ ap (λ k. take k (laidIn mostInstruments blank r)) (sym l)
+        ∙ take-laid mostInstruments blank r (omega arith)
 
-    code-is : made .code ≡ filled 6144 ws
+    code-is : made .code ≡ filled codeSize ws
     unfolding programOf
-    code-is = ap (λ (c : Code). filled 6144 (c .words)) p
+    code-is = ap (λ (c : Code). filled codeSize (c .words)) p
 
-    stands-by : (is : List Instrument) → Represents is (rowsFrom os ns (filled 27 ss) (length hs) 0 hs) (filled 6144 ws) (padded 2048 zeroF vs) → StandsFor is made
+    stands-by : (is : List Instrument) → Represents is (rowsFrom os ns (filled mostStarts ss) (length hs) 0 hs) (filled codeSize ws) (padded programSize zeroF vs) → StandsFor is made
     unfolding programOf
     stands-by is r =
-        subst (λ (t : List row.Instrument). Represents is t (made .code) (padded 2048 zeroF vs)) (sym table-is)
-        (subst (λ (c : List ℕ). Represents is (rowsFrom os ns (filled 27 ss) (length hs) 0 hs) c (padded 2048 zeroF vs)) (sym code-is) r)
+        subst (λ (t : List row.Instrument). Represents is t (made .code) (padded programSize zeroF vs)) (sym table-is)
+        (subst (λ (c : List ℕ). Represents is (rowsFrom os ns (filled mostStarts ss) (length hs) 0 hs) c (padded programSize zeroF vs)) (sym code-is) r)
 
 module _ (is : List Instrument) (ts : List Token) (d : Orchestra is ts) (m : measured ts ≡ true) (named : nameRules is ≡ true) where
   abbrev os : List ℕ
@@ -95,10 +96,10 @@ module _ (is : List Instrument) (ts : List Token) (d : Orchestra is ts) (m : mea
   abbrev ns : List ℕ
   ns = argsOf (programIn is)
 
-  code-of : codeOf 6144 27 os ns ≡ code (wordsOf (map placed is)) (startsOf (map placed is))
+  code-of : codeOf codeSize mostStarts os ns ≡ code (wordsOf (map placed is)) (startsOf (map placed is))
   unfolding ProgramCode
   code-of =
-      program-code (numbers (programIn is) ++ []) 6144 27 (map placed is) (orchestra-playable is ts [] d m) (orchestra-kinds d)
+      program-code (numbers (programIn is) ++ []) codeSize mostStarts (map placed is) (orchestra-playable is ts [] d m) (orchestra-kinds d)
       (omega (arith, program-fits is ts d m))
       (omega (arith, at-most-8 is named, length-map is placed))
 
@@ -108,9 +109,9 @@ module _ (is : List Instrument) (ts : List Token) (d : Orchestra is ts) (m : mea
       let hs = headsFrom 0 is in
       let vs = valsOf (programIn is) in
       let n : length hs ≡ length is = length-heads 0 is in
-      let few : length hs ≤ 8 = omega (arith, at-most-8 is named) in
+      let few : length hs ≤ mostInstruments = omega (arith, at-most-8 is named) in
       let e : length os ≡ length ns = length-map (programIn is) opOf ∙ sym (length-map (programIn is) argOf) in
-      let more = drop (length vs) (replicate 2048 zeroF) in
+      let more = drop (length vs) (replicate programSize zeroF) in
       let r = represents (wordsIn is) (vs ++ more) is (rowsFrom os ns (startsIn is) (length is) 0 hs) (all-rows is more ts d m (all-known d)) in
       subst (StandsFor is) (sym (kept-is hs os ns vs few e))
       (stands-by hs os ns vs few e (wordsOf (map placed is)) (startsOf (map placed is)) code-of is

@@ -14,17 +14,18 @@ use Rattle.syntax.specs.Placed.{placed}
 use Rattle.syntax.specs.Program.{Ins, insArg, instrOp, instrument, program}
 use Rattle.syntax.specs.Grammar.{Orchestra}
 use Rattle.rules.specs.Formed.{opOf, argOf, opsOf, argsOf, valsOf}
+use Rattle.operations.specs.Words.{codeSize, notePlaces}
 use Rattle.synth.specs.Passes.{stretch}
-use Rattle.lowered.specs.Lowered.{lowered}
+use Rattle.translation.specs.Translation.{lowered}
 use Rattle.lowering.specs.Orchestra.{filled}
 use Rattle.bounds.specs.Sizes.{bodyAt}
 use Rattle.bounds.proofs.Sounding.{instrument-sounds}
-use Rattle.compiled.specs.Compiled.{wordsOf, startsOf, InstrumentCode}
-use Rattle.compiled.proofs.Laws.{instrument-code, getD-filled}
+use Rattle.loader_claims.specs.Code.{wordsOf, startsOf, InstrumentCode}
+use Rattle.loader_claims.proofs.Stretches.{instrument-code, getD-filled}
 use Rattle.orchestra.specs.Compiled.{headsFrom}
 use Rattle.kept_orchestra.specs.declared.Instrument as row
 use Rattle.voices.specs.Represents.{Row, Rows}
-use Rattle.loader.specs.Loading.{laidIn, noImport, fieldCount, importsAt, rowAt, rowsFrom}
+use Rattle.loader.specs.Loading.{mostStarts, laidIn, noImport, fieldCount, importsAt, rowAt, rowsFrom}
 use Rattle.loader_claims.proofs.Declarations.{Known, AllKnown, nil, cons, restOf, fields-are, imports-are, imports-laid}
 
 -- ---- a program around one instruction
@@ -51,10 +52,10 @@ abbrev pub programIn : List Instrument → List Ins
 programIn is = program (map placed is)
 
 abbrev pub startsIn : List Instrument → List ℕ
-startsIn is = filled 27 (startsOf (map placed is))
+startsIn is = filled mostStarts (startsOf (map placed is))
 
 abbrev pub wordsIn : List Instrument → List ℕ
-wordsIn is = filled 6144 (wordsOf (map placed is))
+wordsIn is = filled codeSize (wordsOf (map placed is))
 
 abbrev rowIn : List Instrument → ℕ → ℕ → row.Instrument
 rowIn is j head = rowAt (opsOf (programIn is)) (argsOf (programIn is)) (startsIn is) (length is) j head
@@ -80,9 +81,9 @@ module _ (before : List Instrument) (i : Instrument) (behind : List Instrument) 
       h ∙ ap₂ (λ (a b : ℕ). r * suc a + b) la (sym (length-map before placed)) in
       let s : at + 1 ≡ suc at = omega arith in
       let t : at + 1 ≡ suc (r * suc (length (map placed before ++ placed i ∷ map placed behind)) + length (map placed before)) = s ∙ ap suc q in
-      (λ k. stretch (getD-filled 27 at (startsOf (map placed all)) k) (getD-filled 27 (at + 1) (startsOf (map placed all)) k) (wordsIn all))
-      ∙ (λ k. stretch (getD (startsOf (e k)) (q k) 0) (getD (startsOf (e k)) (t k) 0) (filled 6144 (wordsOf (e k))))
-      ∙ instrument-code r 6144 (map placed before) (placed i) (map placed behind) lt
+      (λ k. stretch (getD-filled mostStarts at (startsOf (map placed all)) k) (getD-filled mostStarts (at + 1) (startsOf (map placed all)) k) (wordsIn all))
+      ∙ (λ k. stretch (getD (startsOf (e k)) (q k) 0) (getD (startsOf (e k)) (t k) 0) (filled codeSize (wordsOf (e k))))
+      ∙ instrument-code r codeSize (map placed before) (placed i) (map placed behind) lt
 
   row-is : (more : List Float) (ts : List Token) → Orchestra all ts → measured ts ≡ true → Known (i .declarations)
       → NamedRow all more i (rowIn all (length before) head)
@@ -98,9 +99,9 @@ module _ (before : List Instrument) (i : Instrument) (behind : List Instrument) 
               ∙ ap fieldCount (rest-here opOf b x t)
               ∙ fields-are (placed i) k (map placed behind);
           imports =
-              ap (λ l. laidIn 16 noImport (importsAt (drop (head + 1) (opsOf l)) (drop (head + 1) (argsOf l)))) p
-              ∙ ap₂ (λ (u v : List ℕ). laidIn 16 noImport (importsAt u v)) (rest-here opOf b x t) (rest-here argOf b x t)
-              ∙ ap (laidIn 16 noImport) (imports-are (placed i) k (map placed behind))
+              ap (λ l. laidIn notePlaces noImport (importsAt (drop (head + 1) (opsOf l)) (drop (head + 1) (argsOf l)))) p
+              ∙ ap₂ (λ (u v : List ℕ). laidIn notePlaces noImport (importsAt u v)) (rest-here opOf b x t) (rest-here argOf b x t)
+              ∙ ap (laidIn notePlaces noImport) (imports-are (placed i) k (map placed behind))
               ∙ imports-laid i;
           start = bodyAt head (placed i);
           icode = code-at 0 (length before) (omega arith) (omega arith);

@@ -3,10 +3,12 @@ use Prim.Native.Nat.{ℕ}
 use mathlib.Core.Path.{_≡_}
 use mathlib.Core.List.{List}
 use lib.ListN.{take, replicate}
+use Rattle.syntax.specs.Names.{mostInstruments}
 use Rattle.answer.specs.declared.Answer.the-variants.{Taken}
 use Rattle.tokens.specs.Spelling.{Bytes}
 use Rattle.syntax.specs.Tree.{Instrument}
 use Rattle.syntax.specs.Program.{zeroF}
+use Rattle.operations.specs.Words.{codeSize, programSize}
 use Rattle.kept_orchestra.specs.Kept.{blank}
 use Rattle.orchestra.specs.Verdict.{Accepted}
 use Rattle.voices.specs.Represents.{Represents}
@@ -32,7 +34,7 @@ TakenOnly = (bs : List ℕ) → Bytes bs → loadOf bs .answer ≡ Taken → (is
 
 -- no instruments, no code, no numbers
 abbrev pub blankProgram : Program
-blankProgram = record { table = replicate 8 blank; count = 0; code = replicate 6144 0; vals = replicate 2048 zeroF }
+blankProgram = record { table = replicate mostInstruments blank; count = 0; code = replicate codeSize 0; vals = replicate programSize zeroF }
 
 -- A refusal hands back a blank program.
 abbrev pub RefusedBlank : Type 0

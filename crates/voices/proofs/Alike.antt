@@ -12,7 +12,7 @@ use Rattle.score_line.specs.declared.Label.{Label}
 use Rattle.score_line.specs.declared.Event.{Event}
 use Rattle.score_line.specs.declared.Event.the-variants.{Instr, Control, End, Tempo}
 use Rattle.score_line.specs.declared.Line.{Line}
-use Rattle.lowered.specs.Statements.{AllFit}
+use Rattle.translation.specs.Statements.{AllFit}
 use Rattle.keys.specs.Keys.{frequencyOf, loudnessOf}
 use Rattle.messages.specs.declared.Message.{Message}
 use Rattle.players.specs.Lists.{keep, fold, each, All}

@@ -13,7 +13,7 @@ use Rattle.syntax.specs.Program.{zeroF}
 use Rattle.syntax.specs.Placed.{rateOf, placeOf}
 use Rattle.float32.specs.Builtins.{truth}
 use Rattle.meaning.specs.Placed.{value, aRate, Sounding, sounding, assigned, outputs, pass, fresh, birth, kPass, aPasses}
-use Rattle.lowered.specs.Statements.{AllFit}
+use Rattle.translation.specs.Statements.{AllFit}
 use Rattle.kept_voices.specs.Voices.{named}
 
 record Kept (s s′ : Sounding) : Type 0 where

@@ -7,7 +7,7 @@ use lib.Ieee.{Float}
 use Rattle.syntax.specs.Tree.{Instrument}
 use Rattle.meaning.specs.Placed.{birth, kPass, cycle}
 use Rattle.synth.specs.Passes.{stretch, freshOf, once, played}
-use Rattle.lowered.specs.Statements.{AllFit}
+use Rattle.translation.specs.Statements.{AllFit}
 use Rattle.kept_orchestra.specs.declared.Instrument as row
 use Rattle.kept_orchestra.specs.Kept.{instrumentIn}
 use Rattle.kept_voices.specs.Voices.{Held, named, voices, birthOf, ranValues, ranMixOf}

@@ -9,8 +9,8 @@ use Rattle.syntax.specs.Tree.{Instrument, done}
 use Rattle.syntax.specs.Names.{has, titleOf, named, namedBy}
 use Rattle.syntax.specs.Placed.{put}
 use Rattle.bounds.proofs.Sounding.{sounds}
-use Rattle.lowered.specs.Lowered.{lowered}
-use Rattle.lowered.specs.Statements.{Playable}
+use Rattle.translation.specs.Translation.{lowered}
+use Rattle.translation.specs.Statements.{Playable}
 use Rattle.kept_orchestra.specs.declared.Instrument as row
 use Rattle.kept_orchestra.specs.Kept.{foundIn, instrumentIn, blank}
 use Rattle.voices.specs.Tree.{silent, instrumentOf, importsOf}

@@ -1,1 +1,0 @@
-// The straight-line code of a whole orchestra, instrument by instrument: specs/ and proofs/. There is no code here.
