@@ -1,5 +1,8 @@
-pub mod Together
+pub mod Between
 pub mod Plans
-pub mod Laying
+pub mod Stepping
+pub mod Readying
+pub mod Seating
 pub mod Rooms
+pub mod Together
 pub mod Whole
