@@ -22,7 +22,8 @@ use Rattle.players.proofs.Lists.{length-keep}
 use Rattle.players.proofs.Loops.{length-over}
 use Rattle.waiting.specs.Admission.{waitingIn}
 use Rattle.kept_voices.specs.Voices.{Held}
-use Rattle.sounding.specs.Notes.{noteOf, structOf, notesIn}
+use Rattle.sounding.specs.Notes.{notesIn}
+use Rattle.one_note.specs.OneNote.{noteOf, structOf}
 use Rattle.sounding.proofs.Steps.{length-each}
 use Rattle.cycle.specs.Steps.{playsOf, laidOver, advanced}
 use Rattle.cycle.specs.OneCycle as oneCycle

@@ -16,7 +16,8 @@ use Rattle.players.specs.Cycle.{Voices, Band, Started, positionLimit, lastTempo
 use Rattle.players.specs.Cycle as cycle
 use Rattle.players.specs.Holds.{Due, settingsOf, sixteen, startedOf, soundsOf, bandOf, capped, played}
 use Rattle.kept_voices.specs.Voices.{Held, voices}
-use Rattle.sounding.specs.Notes.{noteOf, structOf, notesIn, startedIn as startedNotes, startedOver, controlledAll, goesOnIn}
+use Rattle.sounding.specs.Notes.{notesIn, startedIn as startedNotes, startedOver, controlledAll}
+use Rattle.one_note.specs.OneNote.{noteOf, structOf, goesOnIn}
 use Rattle.kept_orchestra.specs.declared.Instrument.{Instrument}
 use Rattle.sounding.specs.declared.Started.{Started as Starts}
 use Rattle.sounding.proofs.Steps.{length-each, started-are}

@@ -7,7 +7,8 @@ use Rattle.players.specs.Cycle.{Voices}
 use Rattle.players.specs.Cycle as cycle
 use Rattle.players.specs.Holds.{Settings, settingsOf, Due, Plays, capped, played}
 use Rattle.kept_voices.specs.Voices.{Held}
-use Rattle.sounding.specs.Notes.{notesIn, structOf}
+use Rattle.sounding.specs.Notes.{notesIn}
+use Rattle.one_note.specs.OneNote.{structOf}
 use Rattle.sounding.specs.declared.Notes.{Notes}
 use Rattle.cycle.specs.declared.Due.{Due as DueNow}
 use Rattle.cycle.specs.declared.Settings.{Settings as Fixed}

@@ -24,7 +24,8 @@ use Rattle.synth.specs.Passes.{sums, played}
 use Rattle.notes.specs.declared.Note.{Note}
 use Rattle.kept_orchestra.specs.Kept.{instrumentIn, foundIn}
 use Rattle.kept_voices.specs.Voices.{Held, voices, birthOf, ranValues, ranMixOf, named}
-use Rattle.sounding.specs.Notes.{noteOf, structOf, notesIn, startedIn, bandIn, bornNote, pressedNote, controlledNote, controlledIn, controlsIn, controlledAll, kNote, ranNote, ranMix, goesOnIn}
+use Rattle.sounding.specs.Notes.{notesIn, startedIn, bandIn, controlledIn, controlsIn, controlledAll}
+use Rattle.one_note.specs.OneNote.{noteOf, structOf, bornNote, pressedNote, controlledNote, kNote, ranNote, ranMix, goesOnIn}
 use Rattle.notes.specs.Notes.{withValues}
 use Rattle.kept_orchestra.specs.declared.Instrument.{Instrument}
 use Rattle.sounding.specs.Started.{StartedBy}

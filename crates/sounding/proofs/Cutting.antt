@@ -16,7 +16,8 @@ use Rattle.players.proofs.Lists.{cond-true, cond-false}
 use Rattle.players.proofs.Loops.{over-set, length-over, take-over}
 use Rattle.notes.specs.declared.Note.{Note}
 use Rattle.kept_voices.specs.Voices.{Held}
-use Rattle.sounding.specs.Notes.{noteOf, notesIn, startedIn, oldestWithout, leftOut}
+use Rattle.sounding.specs.Notes.{notesIn, startedIn, oldestWithout, leftOut}
+use Rattle.one_note.specs.OneNote.{noteOf}
 use Rattle.sounding.specs.Started.{StartedBy}
 use Rattle.sounding.specs.declared.Started.{Started}
 use Rattle.sounding.proofs.Steps.{each-append, each-one, over-self, cut}

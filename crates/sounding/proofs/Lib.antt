@@ -1,4 +1,3 @@
 pub mod Steps
-pub mod OneNote
 pub mod Band
 pub mod Cutting

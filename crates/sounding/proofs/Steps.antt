@@ -1,15 +1,13 @@
 -- Laws for the loops and the notes, one for each way through the code.
 use mathlib.Core.Path.{_≡_, refl, sym, ap, _∙_, subst, subst⁻¹}
-use mathlib.Core.Bool.{true, false, _&&_, cond}
+use mathlib.Core.Bool.{true, false, _&&_}
 use mathlib.Core.List.{List, [], _∷_, _++_, append-nil}
-use Prim.Native.Nat.{ℕ, zero, suc, _+_, _-_, _≤_, _<_, min}
+use Prim.Native.Nat.{ℕ, zero, suc, _+_, _-_, _≤_, _<_}
 use native.Mathlib.Omega.{arith}
 use native.Mathlib.Decide.{decLe}
 use native.Mathlib.Numerals.{add-one}
 use native.Mathlib.Nat.{le-of-suc-le-suc}
-use lib.Dec.{eqb}
-use lib.Ieee.{Float}
-use lib.ListN.{length, take, drop, getD, set, length-take, length-set, take-append-drop}
+use lib.ListN.{length, take, drop, getD, set, length-set, take-append-drop}
 use lib.Seq.{take-suc, take-suc-set, take-at, drop-drop, drop-length, drop-set-lt, take-all, take-take, take-set-lt, length-take-le, getD-take}
 use Rattle.players.specs.Lists.{each, over, All}
 use Rattle.players.specs.Cycle.{canCut, cutOldest, joinedBy, letGoOldest}
@@ -20,8 +18,9 @@ use Rattle.players.proofs.Loops.{over-set}
 use Rattle.players.proofs.Results.{join-room, join-cut, join-miss}
 use Rattle.notes.specs.Notes.{letGo}
 use Rattle.notes.specs.declared.Note.{Note}
-use Rattle.kept_voices.specs.Voices.{Held, named}
-use Rattle.sounding.specs.Notes.{noteOf, structOf, notesIn, startedIn, startedOver, isHeldIn}
+use Rattle.kept_voices.specs.Voices.{Held}
+use Rattle.sounding.specs.Notes.{notesIn, startedIn, startedOver}
+use Rattle.one_note.specs.OneNote.{noteOf, structOf, isHeldIn}
 use Rattle.sounding.specs.Started.{StartedBy}
 use Rattle.sounding.specs.declared.Started.{Started}
 
@@ -40,51 +39,6 @@ length-each f (x ∷ xs) = ap suc (length-each f xs)
 pub each-one : {A B : Type 0} (f : A → B) (x : A) → each f (x ∷ []) ≡ f x ∷ []
 unfolding each
 each-one f x = refl
-
--- the first a of the first b
-pub take-both : {A : Type 0} (a b : ℕ) (l : List A) → take (min a b) l ≡ take a (take b l)
-take-both {A} a b l = go (decLe a b)
-  where
-    go : Dec (a ≤ b) → take (min a b) l ≡ take a (take b l)
-    go (yes h) = let e : min a b ≡ a = omega arith in ap (λ (n : ℕ). take n l) e ∙ sym (take-take a b l h)
-    go (no h) = let e : min a b ≡ b = omega arith in ap (λ (n : ℕ). take n l) e ∙ sym (take-all a (take b l) (omega (arith, length-take b l)))
-
--- ---- values by the names of imports
-
-module _ (x : ℕ) (a : Float) where
-  length-named : (is : List ℕ) (vs : List Float) → length (named x a is vs) ≡ length vs
-  unfolding named
-  length-named [] vs = refl
-  length-named (i ∷ is) [] = refl
-  length-named (i ∷ is) (v ∷ vs) = ap suc (length-named is vs)
-
-  getD-named : (is : List ℕ) (vs : List Float) (j e : ℕ) (d : Float) → j < length is → j < length vs
-      → getD (named x a is vs) j d ≡ cond (eqb (getD is j e) x) a (getD vs j d)
-  unfolding named
-  getD-named [] vs j e d h k = absurd (omega arith)
-  getD-named (i ∷ is) [] j e d h k = absurd (omega arith)
-  getD-named (i ∷ is) (v ∷ vs) zero e d h k = refl
-  getD-named (i ∷ is) (v ∷ vs) (suc j) e d h k = getD-named is vs j e d (le-of-suc-le-suc h) (le-of-suc-le-suc k)
-
-  module _ (is : List ℕ) (vs : List Float) (li : length is ≡ 16) (lv : length vs ≡ 16) where
-    pub named-step : (out : List Float) (j e : ℕ) (d y : Float) → j < 16 → length out ≡ 16
-        → take j out ≡ take j (named x a is vs) → y ≡ cond (eqb (getD is j e) x) a (getD vs j d)
-        → take (j + 1) (set out j y) ≡ take (j + 1) (named x a is vs)
-    named-step out j e d y h lo p q =
-        let ln = length-named is vs in
-        rw (
-          add-one,
-          take-suc-set out j y (omega arith),
-          take-suc (named x a is vs) j d (omega (arith, ln)),
-          p,
-          q,
-          getD-named is vs j e d (omega arith) (omega arith),
-        )
-
-    pub named-end : (out : List Float) (j : ℕ) → 16 ≤ j → length out ≡ 16 → take j out ≡ take j (named x a is vs) → out ≡ named x a is vs
-    named-end out j h lo p =
-        let ln = length-named is vs in
-        sym (take-all j out (omega arith)) ∙ p ∙ take-all j (named x a is vs) (omega (arith, ln))
 
 -- ---- one note more
 

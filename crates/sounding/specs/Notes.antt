@@ -1,54 +1,22 @@
 -- The panel's notes as the notes of a cycle, and what the code does with them.
-use mathlib.Core.Bool.{Bool, true, false, cond, _&&_}
+use mathlib.Core.Bool.{cond}
 use mathlib.Core.List.{List, [], _∷_}
-use Prim.Native.Nat.{ℕ, zero, suc, _+_}
+use Prim.Native.Nat.{ℕ, zero, suc}
 use lib.ListN.{length, take}
-use lib.Dec.{eqb}
-use lib.Ieee.{Float, eq}
-use Rattle.timebase.specs.Time.{ticksIn, endless as withoutEnd}
+use lib.Ieee.{Float}
 use Rattle.score_line.specs.declared.Event.{Event}
 use Rattle.score_line.specs.declared.Event.the-variants.{Instr, Control, End, Tempo}
-use Rattle.score_line.specs.declared.Label.{Label}
 use Rattle.score_line.specs.declared.Line.{Line}
-use Rattle.synth.specs.Passes.{stretch, freshOf, once, played}
-use Rattle.notes.specs.Notes.{newNote, withValues}
 use Rattle.notes.specs.declared.Note.{Note}
-use Rattle.notes.specs.declared.NoteLabel.{NoteLabel}
-use Rattle.keys.specs.Keys.{frequencyOf, loudnessOf}
-use Rattle.messages.specs.declared.Message.{Message}
 use Rattle.players.specs.Lists.{each, fold, over}
-use Rattle.players.specs.Cycle.{isLabelled, labelNumber, isHeld, goesOn}
 use Rattle.players.specs.Cycle as cycle
 use Rattle.kept_orchestra.specs.Kept.{instrumentIn}
 use Rattle.kept_orchestra.specs.declared.Instrument.{Instrument}
-use Rattle.kept_voices.specs.Voices.{Held, named}
+use Rattle.kept_voices.specs.Voices.{Held}
+use Rattle.one_note.specs.OneNote.{noteOf, structOf, controlledNote}
 use Rattle.sounding.specs.declared.Started.{Started}
 
 -- ---- the panel's notes
-
-abbrev pub noteOf : Note → cycle.Note Held
-noteOf n =
-    record {
-      labelled = n .label .given;
-      label = n .label .symbol;
-      endless = n .end .never;
-      end = n .end .at;
-      priority = n .priority;
-      keyed = n .origin .keyed;
-      channel = n .origin .channel;
-      key = n .origin .key;
-      released = n .origin .released;
-      state = record { instrument = n .instrument; values = n .values };
-    }
-
-abbrev pub structOf : cycle.Note Held → Note
-structOf n =
-    newNote (n .state .values) (record { given = n .labelled; symbol = n .label }) (n .state .instrument) (record { never = n .endless; at = n .end }) (n .priority)
-    (record { keyed = n .keyed; channel = n .channel; key = n .key; released = n .released })
-
--- a line's label, as its note has it
-abbrev pub labelOf : Label → NoteLabel
-labelOf label = record { given = isLabelled label; symbol = labelNumber label }
 
 -- the first notes of an array
 abbrev pub notesIn : List Note → ℕ → List (cycle.Note Held)
@@ -77,35 +45,6 @@ bandIn ns n mix = record { notes = notesIn ns n; mix = mix }
 
 -- ---- the code's notes, with the instrument at hand
 
--- the note that a line starts, its i pass run
-unfoldable pub bornNote : List ℕ → List Float → Instrument → Line → ℕ → Label → ℕ → Float → Note
-bornNote code vals x l position label name duration =
-    newNote (once vals (stretch (x .istart) (x .iend) code) (freshOf (take (x .fields) (take (l .count) (l .values))))) (labelOf label) name
-    (record { never = eq duration withoutEnd; at = position + ticksIn duration }) (l .priority) (record { keyed = false; channel = 0; key = 0; released = false })
-
--- the note that a note-on starts
-unfoldable pub pressedNote : List ℕ → List Float → Instrument → ℕ → Message → Note
-pressedNote code vals x name m =
-    newNote (once vals (stretch (x .istart) (x .iend) code) (freshOf (take (x .fields) (frequencyOf (m .key) ∷ loudnessOf (m .velocity) ∷ []))))
-    (record { given = false; symbol = 0 }) name (record { never = true; at = 0 }) false
-    (record { keyed = true; channel = m .channel; key = m .key; released = false })
-
-unfoldable pub controlledNote : Instrument → Note → ℕ → ℕ → Float → Note
-controlledNote x n label variable value =
-    cond (n .label .given && eqb label (n .label .symbol)) (withValues (named variable value (x .imports) (n .values)) n) n
-
-unfoldable pub kNote : List ℕ → List Float → Instrument → Note → Note
-kNote code vals x n = withValues (once vals (stretch (x .kstart) (x .kend) code) (n .values)) n
-
-unfoldable pub ranNote : List ℕ → List Float → Instrument → Note → List Float → Note
-unfolding kNote
-ranNote code vals x n mix =
-    withValues (played vals (stretch (x .astart) (x .aend) code) (kNote code vals x n .values) mix .values) (kNote code vals x n)
-
-unfoldable pub ranMix : List ℕ → List Float → Instrument → Note → List Float → List Float
-unfolding kNote
-ranMix code vals x n mix = played vals (stretch (x .astart) (x .aend) code) (kNote code vals x n .values) mix .mix
-
 -- ---- control lines on the panel's notes
 
 unfoldable pub controlledIn : List Instrument → ℕ → ℕ → Float → Note → Note
@@ -119,11 +58,3 @@ controlsIn table ns (Tempo t) = ns
 
 unfoldable pub controlledAll : List Instrument → List Note → List Line → List Note
 controlledAll table ns ls = fold (λ (ms : List Note) (l : Line). controlsIn table ms (l .event)) ns ls
-
--- an unmarked note of a key of a channel
-abbrev pub isHeldIn : ℕ → ℕ → Note → Bool
-isHeldIn channel key n = isHeld channel key (noteOf n)
-
--- a note that goes on
-abbrev pub goesOnIn : ℕ → Note → Bool
-goesOnIn position n = goesOn position (noteOf n)

@@ -3,28 +3,18 @@
 use kept_orchestra::Instrument;
 use messages::Message;
 use notes::Note;
-use notes::NoteEnd;
-use notes::NoteLabel;
-use notes::NoteOrigin;
 use score_line::Event;
-use score_line::Label;
 use score_line::Line;
 use waiting::Lines;
 ghost use mathlib.Core.Path.{_≡_};
-ghost use mathlib.Core.Bool.{cond};
 ghost use Prim.Native.Nat.{_<_, _≤_, _+_, min};
-ghost use lib.Dec.{T};
-ghost use lib.Ieee.{binary32, fits};
 ghost use lib.ListN.{length, take, set};
 ghost use Rattle.players.specs.Lists.{keep, each, over};
-ghost use Rattle.players.specs.Cycle.{positionLimit, goesOn, startedBy, started, letGoOldest, afterMessage, afterMessages, runFrom};
+ghost use Rattle.players.specs.Cycle.{positionLimit, startedBy, started, letGoOldest, afterMessage, afterMessages, runFrom};
 ghost use Rattle.players.specs.Holds.{sixteen};
-ghost use Rattle.synth.specs.Passes.{stretch, freshOf, once};
-ghost use Rattle.notes.specs.Notes.{withValues};
-ghost use Rattle.synth.specs.Room.{numbersIn};
-ghost use Rattle.kept_orchestra.specs.Kept.{instrumentIn};
-ghost use Rattle.kept_voices.specs.Voices.{voices, named};
-ghost use Rattle.sounding.specs.Notes.{noteOf, structOf, labelOf, notesIn, startedIn, startedOver, oldestWithout, leftOut, bornNote, pressedNote, isHeldIn, controlledNote, controlledIn, controlsIn, controlledAll, ranNote, ranMix, goesOnIn};
+ghost use Rattle.kept_voices.specs.Voices.{voices};
+ghost use Rattle.sounding.specs.Notes.{notesIn, startedIn, startedOver, oldestWithout, leftOut, controlledIn, controlsIn, controlledAll};
+ghost use Rattle.one_note.specs.OneNote.{structOf, goesOnIn};
 ghost use Rattle.sounding.specs.Started.{StartedBy};
 
 // The notes that sound, from the first on, and how many were missed.
@@ -56,117 +46,6 @@ fn at_most(position: u64, most: u64) -> u64
     ensures { λ r. ⌜ r ≡ min position most ⌝ }
 {
     if position < most { position } else { most }
-}
-
-fn either(first: bool, x: f32, y: f32) -> f32
-    ensures { λ r. ⌜ (r ≡ cond first x y) × T (fits binary32 r) ⌝ }
-{
-    if first { x } else { y }
-}
-
-// The values with the one of the imports ksig `variable` set.
-fn set_named(values: [f32; 16], imports: [u32; 16], variable: u32, value: f32) -> [f32; 16]
-    ensures { λ r. ⌜ r ≡ named variable value imports values ⌝ }
-{
-    let mut out = values;
-    let mut j: usize = 0;
-    while j < 16 {
-        out[j] = either(imports[j] == variable, value, values[j]);
-        j += 1;
-    }
-    out
-}
-
-fn wide(x: u16) -> u32
-    ensures { λ r. ⌜ r ≡ x ⌝ }
-{
-    x as u32
-}
-
-// A line's label, as its note has it.
-fn label_of(label: Label) -> NoteLabel
-    ensures { λ r. ⌜ r ≡ labelOf label ⌝ }
-{
-    match label {
-        Label::Labelled(n) => NoteLabel {
-            given: true,
-            symbol: n,
-        },
-        Label::Unlabelled => NoteLabel {
-            given: false,
-            symbol: 0,
-        },
-    }
-}
-
-// The first values, as many as there are fields, then zeros.
-fn fresh_values(given: [f32; 8], count: usize, fields: usize) -> [f32; 16]
-    ensures { λ r. ⌜ r ≡ freshOf (take fields (take count given)) ⌝ }
-{
-    let n = within(within(count, 8), fields);
-    synth::fresh(&given[0..n])
-}
-
-// A new note after its i pass.
-fn begun<'a>(code: &'a [u64], vals: &'a [f32], x: Instrument, note: Note) -> Note
-    ensures { λ r. ⌜ r ≡ withValues (once (now (vals .entry)) (stretch (x .istart) (x .iend) (now (code .entry))) (note .values)) note ⌝ }
-{
-    let mut room = synth::room(vals);
-    synth::passed(code, x.istart, x.iend, &mut room, note)
-}
-
-// The note that a line starts at a position, its event an instr with this label, name and duration; its i pass has run.
-fn note_of<'a>(
-    code: &'a [u64],
-    vals: &'a [f32],
-    x: Instrument,
-    l: Line,
-    position: u64,
-    label: Label,
-    name: u16,
-    duration: f32,
-) -> Note
-    requires { ⌜ position ≤ positionLimit ⌝ }
-    ensures { λ r. ⌜ r ≡ bornNote (now (code .entry)) (now (vals .entry)) x l position label name duration ⌝ }
-{
-    let given = l.values;
-    let values = fresh_values(given, l.count, x.fields);
-    let ticks = timebase::beats_to_ticks(duration);
-    let end = NoteEnd {
-        never: duration == -1.0,
-        at: position + ticks,
-    };
-    let origin = NoteOrigin {
-        keyed: false,
-        channel: 0,
-        key: 0,
-        released: false,
-    };
-    let note = notes::new_note(values, label_of(label), name, end, l.priority, origin);
-    begun(code, vals, x, note)
-}
-
-// The note that a note-on starts: field one gets the key's frequency, field two the velocity over 128; its i pass has run.
-fn pressed_note<'a>(code: &'a [u64], vals: &'a [f32], x: Instrument, name: u16, m: Message) -> Note
-    ensures { λ r. ⌜ r ≡ pressedNote (now (code .entry)) (now (vals .entry)) x name m ⌝ }
-{
-    let mut given = [0.0f32; 8];
-    given[0] = keys::frequency(m.key);
-    given[1] = keys::loudness(m.velocity);
-    let values = fresh_values(given, 2, x.fields);
-    let label = NoteLabel {
-        given: false,
-        symbol: 0,
-    };
-    let end = NoteEnd { never: true, at: 0 };
-    let origin = NoteOrigin {
-        keyed: true,
-        channel: m.channel,
-        key: m.key,
-        released: false,
-    };
-    let note = notes::new_note(values, label, name, end, false, origin);
-    begun(code, vals, x, note)
 }
 
 // One note more; there is room for it.
@@ -260,7 +139,16 @@ fn start_line<'a>(
             if v.count < MOST_NOTES {
                 let f = kept_orchestra::find(table, n, instrument);
                 let x = f.instrument;
-                let note = note_of(code, vals, x, l, position, label, instrument, duration);
+                let note = one_note::note_of(
+                    code,
+                    vals,
+                    x,
+                    l,
+                    position,
+                    label,
+                    instrument,
+                    duration,
+                );
                 return with_note(v, note);
             }
             if !l.priority {
@@ -272,7 +160,7 @@ fn start_line<'a>(
             }
             let f = kept_orchestra::find(table, n, instrument);
             let x = f.instrument;
-            let note = note_of(code, vals, x, l, position, label, instrument, duration);
+            let note = one_note::note_of(code, vals, x, l, position, label, instrument, duration);
             with_note(cut_off(v, place), note)
         }
         Event::Control {
@@ -315,21 +203,6 @@ pub fn start_notes<'a>(
     v
 }
 
-// A control line's effect on one note.
-fn controlled_note(x: Instrument, n: Note, label: u16, variable: u16, value: f32) -> Note
-    ensures { λ r. ⌜ r ≡ controlledNote x n label variable value ⌝ }
-{
-    if n.label.given {
-        if n.label.symbol == label {
-            let values = n.values;
-            let imports = x.imports;
-            let held = set_named(values, imports, wide(variable), value);
-            return notes::with_values(n, held);
-        }
-    }
-    n
-}
-
 // A control line's effect on the first notes; what lies behind them stays.
 fn control_notes(
     table: [Instrument; 8],
@@ -349,7 +222,7 @@ fn control_notes(
         let x = notes[j];
         let f = kept_orchestra::find(table, n, x.instrument);
         let i = f.instrument;
-        let y = controlled_note(i, x, label, variable, value);
+        let y = one_note::controlled_note(i, x, label, variable, value);
         a[j] = y;
         j += 1;
     }
@@ -400,20 +273,6 @@ pub fn control_lines(
     v
 }
 
-// An unmarked note of a key of a channel.
-fn is_held(n: Note, channel: u8, key: u8) -> bool
-    ensures { λ r. ⌜ r ≡ isHeldIn channel key n ⌝ }
-{
-    if n.origin.keyed {
-        if n.origin.channel == channel {
-            if n.origin.key == key {
-                return !n.origin.released;
-            }
-        }
-    }
-    false
-}
-
 // What a note-off does: the oldest unmarked note of its key and channel is marked for removal.
 fn let_go_oldest(v: Started, channel: u8, key: u8) -> Started
     requires { ⌜ v .count ≤ 16 ⌝ }
@@ -424,7 +283,7 @@ fn let_go_oldest(v: Started, channel: u8, key: u8) -> Started
     let mut i: usize = 0;
     while i < m {
         let x = notes[i];
-        if is_held(x, channel, key) {
+        if one_note::is_held(x, channel, key) {
             let mut a = notes;
             a[i] = notes::let_go(x);
             return Started {
@@ -455,7 +314,7 @@ fn play_message<'a>(
         if v.count < MOST_NOTES {
             let f = kept_orchestra::find(table, n, chosen);
             let x = f.instrument;
-            let note = pressed_note(code, vals, x, chosen, m);
+            let note = one_note::pressed_note(code, vals, x, chosen, m);
             return with_note(v, note);
         }
         return with_miss(v);
@@ -489,29 +348,6 @@ pub fn play_messages<'a>(
     v
 }
 
-// A note's cycle: its k pass, then an a pass for each sample of the mix.
-fn run_note(code: &[u64], room: &mut [f32; 4096], x: Instrument, n: Note, mix: &mut [f32]) -> Note
-    ensures note { λ r. ⌜ r ≡ ranNote (now (code .entry)) (numbersIn (now (room .entry))) x n (now (mix .entry)) ⌝ }
-    ensures mix { λ r. ⌜ now (mix .exit) ≡ ranMix (now (code .entry)) (numbersIn (now (room .entry))) x n (now (mix .entry)) ⌝ }
-    ensures room { λ r. ⌜ numbersIn (now (room .exit)) ≡ numbersIn (now (room .entry)) ⌝ }
-{
-    let k = synth::passed(code, x.kstart, x.kend, room, n);
-    synth::sounded(code, x.astart, x.aend, room, k, mix)
-}
-
-fn goes_on(n: Note, position: u64) -> bool
-    ensures { λ r. ⌜ r ≡ goesOn position (noteOf n) ⌝ }
-{
-    if n.origin.released {
-        return false;
-    }
-    if n.end.never {
-        true
-    } else {
-        position < n.end.at
-    }
-}
-
 // Step 5: the first notes run, oldest first, each adding its outputs to the mix; what lies behind them stays.
 pub fn run_notes<'a>(
     table: [Instrument; 8],
@@ -533,7 +369,7 @@ pub fn run_notes<'a>(
         let x = notes[j];
         let f = kept_orchestra::find(table, n, x.instrument);
         let i = f.instrument;
-        let y = run_note(code, &mut room, i, x, mix);
+        let y = one_note::run_note(code, &mut room, i, x, mix);
         a[j] = y;
         j += 1;
     }
@@ -550,7 +386,7 @@ pub fn remaining(notes: [Note; MOST_NOTES], count: usize, position: u64) -> Note
     let mut i: usize = 0;
     while i < m {
         let x = notes[i];
-        if goes_on(x, position) {
+        if one_note::goes_on(x, position) {
             a[k] = x;
             k += 1;
         }

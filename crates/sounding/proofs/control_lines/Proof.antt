@@ -6,7 +6,6 @@ use lib.ListN.{length, take, getD}
 use Rattle.score_line.specs.declared.Line.{Line}
 use Rattle.players.specs.Lists.{fold, over}
 use Rattle.players.proofs.Loops.{take-end}
-use Rattle.notes.specs.declared.Note.{Note}
 use Rattle.sounding.specs.Notes.{controlsIn, controlledAll}
 use Rattle.sounding.proofs.Steps.{over-self}
 use Rattle.sounding.proofs.Band.{control-more}

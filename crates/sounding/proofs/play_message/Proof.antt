@@ -5,7 +5,7 @@ use Rattle.players.specs.Cycle as cycle
 use Rattle.kept_voices.specs.Voices.{Held}
 use Rattle.sounding.specs.Started.{StartedBy}
 use Rattle.sounding.proofs.Steps.{start-room, start-full}
-use Rattle.sounding.proofs.OneNote.{pressed-yields}
+use Rattle.one_note.proofs.OneNote.{pressed-yields}
 use Rattle.sounding.proofs.Band.{press-starts, off-marks}
 use Rattle.sounding.proofs.play_message.Statement.{statement}
 use Rattle.sounding.proofs.play_message.Tie as tie

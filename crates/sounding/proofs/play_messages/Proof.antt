@@ -1,4 +1,4 @@
-use mathlib.Core.Path.{_≡_, refl, ap, _∙_}
+use mathlib.Core.Path.{_≡_, ap, _∙_}
 use Prim.Native.Nat.{ℕ, _+_, _≤_, _<_, _-_}
 use native.Mathlib.Omega.{arith}
 use lib.ListN.{length, take, length-map}
@@ -7,7 +7,8 @@ use Rattle.players.specs.Cycle.{afterMessages}
 use Rattle.players.specs.Holds.{sixteen}
 use Rattle.players.proofs.Loops.{take-end, take-min}
 use Rattle.kept_voices.specs.Voices.{voices}
-use Rattle.sounding.specs.Notes.{noteOf, startedIn, startedOver}
+use Rattle.sounding.specs.Notes.{startedIn, startedOver}
+use Rattle.one_note.specs.OneNote.{noteOf}
 use Rattle.sounding.proofs.Steps.{Starting, starting-none, starting-end}
 use Rattle.sounding.proofs.Band.{messages-more}
 use Rattle.sounding.proofs.play_messages.Statement.{statement}

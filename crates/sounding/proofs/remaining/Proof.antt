@@ -7,7 +7,7 @@ use lib.ListN.{length}
 use Rattle.players.specs.Lists.{keep, over}
 use Rattle.players.proofs.Loops.{Packed, packed-none, packed-yes, packed-no, take-end}
 use Rattle.notes.specs.declared.Note.{Note}
-use Rattle.sounding.specs.Notes.{goesOnIn}
+use Rattle.one_note.specs.OneNote.{goesOnIn}
 use Rattle.sounding.proofs.remaining.Statement.{statement}
 use Rattle.sounding.proofs.remaining.Tie as tie
 

@@ -1,7 +1,7 @@
 use Rattle.players.specs.Lists.{each}
 use Rattle.players.specs.Cycle.{Band, runFrom}
 use Rattle.kept_voices.specs.Voices.{Held}
-use Rattle.sounding.specs.Notes.{noteOf}
+use Rattle.one_note.specs.OneNote.{noteOf}
 use mathlib.Core.Path.{_≡_, ap, _∙_}
 use mathlib.Core.List.{List}
 use Prim.Native.Nat.{_≤_, _-_}
@@ -13,7 +13,7 @@ use Rattle.notes.specs.declared.Note.{Note}
 use Rattle.kept_voices.specs.Voices.{voices}
 use Rattle.sounding.specs.Notes.{notesIn}
 use Rattle.synth.specs.Room.{numbersIn, roomOf}
-use Rattle.sounding.proofs.OneNote.{ran-here, mixed-here}
+use Rattle.one_note.proofs.OneNote.{ran-here, mixed-here}
 use Rattle.sounding.proofs.Steps.{laid-notes}
 use Rattle.sounding.proofs.Band.{Running, running-none, running-step}
 use Rattle.sounding.proofs.run_notes.Statement.{statement}

@@ -2,7 +2,7 @@ use mathlib.Core.Path.{refl}
 use native.Mathlib.Omega.{arith}
 use lib.ListN.{length-map}
 use borrow.Author.Needs.{needs}
-use Rattle.sounding.proofs.OneNote.{born-yields, born-alone, born-priority}
+use Rattle.one_note.proofs.OneNote.{born-yields, born-alone, born-priority}
 use Rattle.sounding.proofs.Steps.{start-none, start-room, start-full}
 use Rattle.sounding.proofs.Cutting.{not-true, not-false, none-to-cut, start-cut}
 use Rattle.sounding.proofs.Band.{born-found, start-instr}

@@ -1,7 +1,7 @@
 use borrow.Author.Needs.{needs}
-use Rattle.sounding.proofs.OneNote.{begun-law}
-use Rattle.sounding.proofs.begun.Statement.{statement}
-use Rattle.sounding.proofs.begun.Tie as tie
+use Rattle.one_note.proofs.OneNote.{begun-law}
+use Rattle.one_note.proofs.begun.Statement.{statement}
+use Rattle.one_note.proofs.begun.Tie as tie
 
 pub begun-spec : {M : Type 1} → statement M
 begun-spec =

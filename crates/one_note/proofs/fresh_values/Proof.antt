@@ -5,9 +5,9 @@ use borrow.Author.Needs.{needs}
 use lib.ListN.{take}
 use Rattle.synth.specs.Passes.{freshOf}
 use Rattle.players.proofs.Loops.{take-min}
-use Rattle.sounding.proofs.Steps.{take-both}
-use Rattle.sounding.proofs.fresh_values.Statement.{statement}
-use Rattle.sounding.proofs.fresh_values.Tie as tie
+use Rattle.one_note.proofs.Values.{take-both}
+use Rattle.one_note.proofs.fresh_values.Statement.{statement}
+use Rattle.one_note.proofs.fresh_values.Tie as tie
 
 pub fresh-values-spec : {M : Type 1} → statement M
 fresh-values-spec =

@@ -1,6 +1,6 @@
 use Rattle.players.specs.Cycle.{goesOn}
-use Rattle.sounding.proofs.goes_on.Statement.{statement}
-use Rattle.sounding.proofs.goes_on.Tie as tie
+use Rattle.one_note.proofs.goes_on.Statement.{statement}
+use Rattle.one_note.proofs.goes_on.Tie as tie
 
 pub goes-on-spec : {M : Type 1} → statement M
 goes-on-spec =

@@ -1,6 +1,6 @@
 use borrow.Author.Needs.{needs}
-use Rattle.sounding.proofs.label_of.Statement.{statement}
-use Rattle.sounding.proofs.label_of.Tie as tie
+use Rattle.one_note.proofs.label_of.Statement.{statement}
+use Rattle.one_note.proofs.label_of.Tie as tie
 
 pub label-of-spec : {M : Type 1} → statement M
 label-of-spec =

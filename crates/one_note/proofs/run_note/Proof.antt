@@ -1,10 +1,10 @@
 use mathlib.Core.Path.{ap, _∙_}
 use Rattle.synth.specs.Room.{numbersIn}
 use Rattle.synth.proofs.Rooms.{numbers-once, numbers-played}
-use Rattle.sounding.proofs.OneNote.{ran-in, mixed-in}
+use Rattle.one_note.proofs.OneNote.{ran-in, mixed-in}
 use borrow.Author.Needs.{needs}
-use Rattle.sounding.proofs.run_note.Statement.{statement}
-use Rattle.sounding.proofs.run_note.Tie as tie
+use Rattle.one_note.proofs.run_note.Statement.{statement}
+use Rattle.one_note.proofs.run_note.Tie as tie
 
 passed-requires : tie.Need-passed-requires
 passed-requires c κs = search needs

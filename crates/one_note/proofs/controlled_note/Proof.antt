@@ -1,7 +1,7 @@
 use borrow.Author.Needs.{needs}
-use Rattle.sounding.proofs.OneNote.{control-yes, control-other, control-none}
-use Rattle.sounding.proofs.controlled_note.Statement.{statement}
-use Rattle.sounding.proofs.controlled_note.Tie as tie
+use Rattle.one_note.proofs.OneNote.{control-yes, control-other, control-none}
+use Rattle.one_note.proofs.controlled_note.Statement.{statement}
+use Rattle.one_note.proofs.controlled_note.Tie as tie
 
 pub controlled-note-spec : {M : Type 1} → statement M
 controlled-note-spec =

@@ -1,7 +1,7 @@
 use borrow.Author.Needs.{needs}
-use Rattle.sounding.proofs.OneNote.{pressed-law}
-use Rattle.sounding.proofs.pressed_note.Statement.{statement}
-use Rattle.sounding.proofs.pressed_note.Tie as tie
+use Rattle.one_note.proofs.OneNote.{pressed-law}
+use Rattle.one_note.proofs.pressed_note.Statement.{statement}
+use Rattle.one_note.proofs.pressed_note.Tie as tie
 
 pub pressed-note-spec : {M : Type 1} → statement M
 pressed-note-spec =

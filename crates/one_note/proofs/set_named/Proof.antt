@@ -3,9 +3,9 @@ use Prim.Native.Nat.{_≤_, _-_}
 use native.Mathlib.Omega.{arith}
 use lib.ListN.{length, take, length-set}
 use Rattle.kept_voices.specs.Voices.{named}
-use Rattle.sounding.proofs.Steps.{named-step, named-end}
-use Rattle.sounding.proofs.set_named.Statement.{statement}
-use Rattle.sounding.proofs.set_named.Tie as tie
+use Rattle.one_note.proofs.Values.{named-step, named-end}
+use Rattle.one_note.proofs.set_named.Statement.{statement}
+use Rattle.one_note.proofs.set_named.Tie as tie
 
 abbrev Inv-loop : tie.InvT-loop
 Inv-loop variable value values imports out₀ j₀ out j = (j ≤ 16) × (length out ≡ 16) × (take j out ≡ take j (named variable value imports values))

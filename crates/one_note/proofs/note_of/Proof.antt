@@ -1,9 +1,9 @@
 use native.Mathlib.Omega.{arith}
 use borrow.Author.Needs.{needs}
 use Rattle.timebase.proofs.Laws.{ticks-most}
-use Rattle.sounding.proofs.OneNote.{minus-one, born-law}
-use Rattle.sounding.proofs.note_of.Statement.{statement}
-use Rattle.sounding.proofs.note_of.Tie as tie
+use Rattle.one_note.proofs.OneNote.{minus-one, born-law}
+use Rattle.one_note.proofs.note_of.Statement.{statement}
+use Rattle.one_note.proofs.note_of.Tie as tie
 
 pub note-of-spec : {M : Type 1} → statement M
 note-of-spec =

@@ -22,7 +22,7 @@ use Rattle.synth.proofs.Rooms.{once-program, played-program}
 use Rattle.notes.specs.declared.Note.{Note}
 use Rattle.notes.specs.declared.NoteLabel.{NoteLabel}
 use Rattle.kept_voices.specs.Voices.{named}
-use Rattle.sounding.specs.Notes.{labelOf, bornNote, pressedNote, isHeldIn, controlledNote, kNote, ranNote, ranMix}
+use Rattle.one_note.specs.OneNote.{labelOf, bornNote, pressedNote, isHeldIn, controlledNote, kNote, ranNote, ranMix}
 use Rattle.kept_orchestra.specs.declared.Instrument.{Instrument}
 
 pub minus-one : (x : Float) → eq x (neg (ofBits binary32 0x3f800000)) ≡ eq x withoutEnd

@@ -1,0 +1,2 @@
+pub mod OneNote
+pub mod Values
