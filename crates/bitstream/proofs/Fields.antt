@@ -12,8 +12,8 @@ use lib.Seq.{take-at, drop-at, drop-drop, drop-nil, drop-append-add, take-all, t
 use lib.Dec.{leb}
 use Rattle.laws.proofs.Choice.{both-true}
 use Rattle.bitstream.specs.Bits.{field, bitsOf, valueOf}
-use Rattle.bitstream.specs.Fields.{farthest, put, over, roomFor, Room, pick, written}
-use Rattle.bitstream.specs.Reads.{readAt}
+use Rattle.bitstream.specs.Fields.{farthest, put, over, roomFor, pick, readAt}
+use Rattle.bitstream.specs.inside.Fields.{Room, written}
 use Rattle.bitstream.specs.declared.Got.the-variants.{Value, Short}
 use Rattle.bitstream.proofs.Laws.{length-field, valueOf-field, field-valueOf, valueOf-lt, length-bitsOf}
 

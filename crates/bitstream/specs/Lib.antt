@@ -1,4 +1,4 @@
 pub mod Bits
 pub mod Fields
-pub mod Reads
 pub mod Filling
+pub mod inside

@@ -3,8 +3,8 @@ ghost use mathlib.Core.Path.{_≡_};
 ghost use Prim.Native.Nat.{_+_, _*_, _/_, _%_, _^_, _<_, _≤_};
 ghost use lib.ListN.{length, take, drop, set};
 ghost use Rattle.bitstream.specs.Bits.{bitsOf, bit, field, valueOf};
-ghost use Rattle.bitstream.specs.Fields.{Room, roomFor, over, written};
-ghost use Rattle.bitstream.specs.Reads.{readAt};
+ghost use Rattle.bitstream.specs.inside.Fields.{Room, written};
+ghost use Rattle.bitstream.specs.Fields.{roomFor, over, readAt};
 ghost use Rattle.bitstream.specs.Filling.{filled};
 
 // The last position at which a field may begin.

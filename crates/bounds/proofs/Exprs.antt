@@ -9,7 +9,7 @@ use lib.IntN.{pos}
 use Rattle.tokens.specs.declared.Token.{Token}
 use Rattle.syntax.specs.Tree.{Expr, number, name, unary, binary, choose, Statements, done, assign, output, branch}
 use Rattle.signs.specs.Operators.{Unary, Binary}
-use Rattle.syntax.specs.Program.{Ins, ins, unaryOp, compile, code}
+use Rattle.syntax.specs.inside.Program.{Ins, ins, unaryOp, compile, code}
 use Rattle.syntax.specs.Grammar.{Derives, real, whole, named, prefixed, bracketed, called, called2, sides, chosen}
 use Rattle.translation.specs.Translation.{after, past}
 use Rattle.translation.specs.Statements.{depth}

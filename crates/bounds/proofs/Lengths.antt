@@ -4,8 +4,8 @@ use native.Mathlib.Omega.{arith}
 use mathlib.Core.List.{List, [], _∷_, map}
 use lib.ListN.{length, length-append}
 use Rattle.syntax.specs.Tree.{Statements, Instrument}
-use Rattle.syntax.specs.Program.{code, instrument, program}
-use Rattle.syntax.specs.Placed.{placed as put}
+use Rattle.syntax.specs.inside.Program.{code, instrument, program}
+use Rattle.syntax.specs.inside.Placed.{placed as put}
 use Rattle.translation.specs.Translation.{lowered}
 use Rattle.translation.proofs.Lengths.{lowered-short}
 use Rattle.bounds.specs.Sizes.{bodyAt, allLowered, LoweredFits}

@@ -5,9 +5,9 @@ use mathlib.Core.Path.{_≡_, refl, sym, _∙_}
 use mathlib.Core.List.{List, [], _∷_, map}
 use lib.ListN.{length, length-append}
 use Rattle.syntax.specs.Tree.{Expr, number, name, unary, binary, choose, Statements, done, assign, output, branch, Instrument}
-use Rattle.syntax.specs.Program.{compile, code, instrument, program}
+use Rattle.syntax.specs.inside.Program.{compile, code, instrument, program}
 use Rattle.syntax.specs.Names.{Named}
-use Rattle.syntax.specs.Placed.{place, putIn, put, placed}
+use Rattle.syntax.specs.inside.Placed.{place, putIn, put, placed}
 use Rattle.translation.specs.Statements.{depth}
 use Rattle.bounds.specs.Sizes.{Shallow, Small}
 use Rattle.bounds.proofs.Exprs.{length-name, length-unary, length-binary, length-choose, length-assign, length-output, length-branch}

@@ -7,8 +7,7 @@ use lib.ListN.{length, length-append, length-map, drop, getD}
 use lib.Seq.{drop-drop, drop-append-seam, getD-drop}
 use lib.Ieee.{Float}
 use Rattle.syntax.specs.Tree.{Expr, number, name, unary, binary, choose, Statements, done, assign, output, branch}
-use Rattle.syntax.specs.Program.{unaryOp, binaryOp}
-use Rattle.syntax.specs.Program.{Ins, ins, insArg, chooseOp, storeOp, outputOp, ifOp, elseOp, endOp, zeroF, compile, code}
+use Rattle.syntax.specs.inside.Program.{unaryOp, binaryOp, Ins, ins, insArg, chooseOp, storeOp, outputOp, ifOp, elseOp, endOp, zeroF, compile, code}
 use Rattle.expressions.specs.Areas.{valOf}
 use Rattle.operations.specs.Words.{programSize}
 use Rattle.translation.specs.Translation.{after, past}

@@ -8,7 +8,7 @@ use Rattle.tokens.specs.declared.Token.{Token}
 use Rattle.tokens.specs.declared.Token.the-variants.{Symbol, Sign}
 use Rattle.tokens.specs.Measures.{longestStretch}
 use Rattle.syntax.specs.Tree.{Expr, Statements, done}
-use Rattle.syntax.specs.Program.{code}
+use Rattle.syntax.specs.inside.Program.{code}
 use Rattle.syntax.specs.Grammar.{IsExpr, Stmts, none, set, out, when, either}
 use Rattle.bounds.specs.Sizes.{Shallow, Small}
 use Rattle.bounds.proofs.Exprs.{depth-tokens, compile-tokens, length-done, length-assign, length-output, length-branch}

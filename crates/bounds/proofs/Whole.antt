@@ -14,9 +14,9 @@ use Rattle.tokens.specs.declared.Token.{Token}
 use Rattle.tokens.specs.declared.Token.the-variants.{Symbol, Sign}
 use Rattle.tokens.specs.Measures.{mostTokens, bracketsKept, stretchesKept}
 use Rattle.syntax.specs.Tree.{Declaration, Instrument, fieldKind}
-use Rattle.syntax.specs.Program.{Ins, insArg, instrOp, declare, declared, code, instrument, program}
+use Rattle.syntax.specs.inside.Program.{Ins, insArg, instrOp, declare, declared, code, instrument, program}
 use Rattle.syntax.specs.Names.{namesOf}
-use Rattle.syntax.specs.Placed.{placed}
+use Rattle.syntax.specs.inside.Placed.{placed}
 use Rattle.syntax.specs.Grammar.{Names, one, more, Fields, none as no·fields, some as some·fields, Kinds, ivar, ksig, asig, imports, Decls, none as no·decls, some as some·decls, Instr, is as an·instr, Orchestra, last, next}
 use Rattle.operations.specs.Words.{programSize}
 use Rattle.translation.specs.Statements.{Playable}

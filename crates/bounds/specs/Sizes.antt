@@ -8,8 +8,8 @@ use lib.Ieee.{Float}
 use Rattle.tokens.specs.declared.Token.{Token}
 use Rattle.tokens.specs.Measures.{measured}
 use Rattle.syntax.specs.Tree.{Expr, Statements, done, assign, output, branch, Instrument, fieldKind}
-use Rattle.syntax.specs.Program.{Ins, declare, declared, instrument, program}
-use Rattle.syntax.specs.Placed.{placed}
+use Rattle.syntax.specs.inside.Program.{Ins, declare, declared, instrument, program}
+use Rattle.syntax.specs.inside.Placed.{placed}
 use Rattle.expressions.specs.Areas.{valOf}
 use Rattle.syntax.specs.Grammar.{Orchestra}
 use Rattle.operations.specs.Words.{mostIfs, mostParts, programSize}

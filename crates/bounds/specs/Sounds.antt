@@ -8,9 +8,9 @@ use lib.Ieee.{Float}
 use Rattle.tokens.specs.declared.Token.{Token}
 use Rattle.tokens.specs.Measures.{measured}
 use Rattle.syntax.specs.Tree.{Statements, Instrument}
-use Rattle.syntax.specs.Program.{program}
-use Rattle.syntax.specs.Placed.{placed}
-use Rattle.meaning.specs.Placed.{birth, kPass, aPasses}
+use Rattle.syntax.specs.inside.Program.{program}
+use Rattle.syntax.specs.inside.Placed.{placed}
+use Rattle.meaning.specs.inside.Placed.{birth, kPass, aPasses}
 use Rattle.syntax.specs.Grammar.{Orchestra}
 use Rattle.operations.specs.Words.{notePlaces}
 use Rattle.synth.specs.Passes.{freshOf, once, played}

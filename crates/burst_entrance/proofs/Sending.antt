@@ -10,7 +10,8 @@ use lib.Seq.{drop-cons, take-suc, take-all}
 use borrow.Author.Tests.{le-leb, lt-leb}
 use Rattle.answer.specs.Numbers.{numberOf, isTaken}
 use Rattle.answer.specs.declared.Answer.the-variants as answer
-use Rattle.bursts.specs.Bursts.{Burst, units, fault, burstOf, unitsIn, told, toldFrom, lengthAt}
+use Rattle.bursts.specs.Bursts.{Burst, units, fault, unitsIn}
+use Rattle.bursts.specs.inside.Reading.{burstOf, told, toldFrom, lengthAt}
 use Rattle.bursts.specs.declared.Cut.{Cut}
 use Rattle.bursts.proofs.Meaning.{Kind, is-units, is-cut, is-too-many, every-kind}
 use Rattle.bursts.proofs.Walk.{Ahead, ahead-first, told-units, Next, ahead-next}

@@ -10,7 +10,9 @@ use lib.Seq.{take-append-seam, drop-append-seam}
 use borrow.Author.Tests.{le-leb, lt-leb, leb-true, leb-false}
 use Rattle.laws.proofs.Choice.{cond-true, cond-false}
 use Rattle.answer.specs.declared.Answer.the-variants.{CutShort, TooManyValues}
-use Rattle.bursts.specs.Bursts.{Burst, units, fault, mostUnits, sixteenBits, before, Says, nothing, unit, cutLength, cutUnit, tooMany, behindLast, firstOf, burstFrom, burstOf, EveryBurst, OneMeaning}
+use Rattle.bursts.specs.Bursts.{Burst, units, fault, mostUnits, sixteenBits, before, Says, nothing, unit, cutLength, cutUnit, tooMany}
+use Rattle.bursts.specs.inside.Reading.{behindLast, firstOf, burstFrom, burstOf}
+use Rattle.bursts.specs.Claims.{EveryBurst, OneMeaning}
 
 -- a unit that stands there is cut off
 pub whole-unit : (n high low : ℕ) (u rest : List ℕ) → sixteenBits high low ≡ length u → burstFrom (suc n) (high ∷ low ∷ (u ++ rest)) ≡ before u (burstFrom n rest)

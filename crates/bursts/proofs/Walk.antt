@@ -10,7 +10,8 @@ use lib.Seq.{drop-cons, drop-drop, take-append-seam, drop-append-seam}
 use borrow.Author.Tests.{le-leb, lt-leb}
 use Rattle.answer.specs.Numbers.{isTaken}
 use Rattle.answer.specs.declared.Answer.the-variants.{Taken, CutShort, TooManyValues}
-use Rattle.bursts.specs.Bursts.{Burst, units, fault, mostUnits, sixteenBits, before, Says, nothing, unit, cutLength, cutUnit, tooMany, behindLast, firstOf, burstFrom, burstOf, unitsIn, toldFrom, told, lengthAt}
+use Rattle.bursts.specs.Bursts.{Burst, units, fault, mostUnits, sixteenBits, before, Says, nothing, unit, cutLength, cutUnit, tooMany, unitsIn}
+use Rattle.bursts.specs.inside.Reading.{behindLast, firstOf, burstFrom, burstOf, toldFrom, told, lengthAt}
 use Rattle.bursts.specs.declared.Cut.{Cut}
 use Rattle.bursts.proofs.Meaning.{Kind, is-units, is-cut, is-too-many, every-kind, every-burst, nothing-there}
 

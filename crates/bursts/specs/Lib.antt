@@ -1,1 +1,3 @@
 pub mod Bursts
+pub mod Claims
+pub mod inside

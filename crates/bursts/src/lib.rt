@@ -2,7 +2,8 @@
 use answer::Answer;
 ghost use mathlib.Core.Path.{_≡_};
 ghost use lib.ListN.{drop};
-ghost use Rattle.bursts.specs.Bursts.{sixteenBits, burstOf, told, lengthAt};
+ghost use Rattle.bursts.specs.Bursts.{sixteenBits};
+ghost use Rattle.bursts.specs.inside.Reading.{burstOf, told, lengthAt};
 
 // Whether bytes are a burst, and of how many units.
 pub struct Cut {

@@ -22,7 +22,7 @@ use Rattle.burst_entrance.specs.Singly.{sentIn}
 use Rattle.entrances.specs.Entrances.{broughtIn}
 use Rattle.entrances.specs.declared.Pushed.{Pushed}
 use Rattle.burst_entrance.specs.declared.Sent.{Sent}
-use Rattle.messages.specs.Reading.{callOf}
+use Rattle.messages.specs.inside.Reading.{callOf}
 use Rattle.keyboard.specs.Keyboard.{noMessages, pressedIn}
 use Rattle.keyboard.specs.declared.Messages.{Messages}
 use Rattle.keyboard.specs.declared.Pressed.{Pressed}

@@ -18,7 +18,7 @@ use Rattle.notes.specs.declared.Note.{Note}
 use Rattle.doors.specs.Doors.{emptyLine}
 use Rattle.burst_entrance.specs.Singly.{sentIn}
 use Rattle.entrances.specs.Entrances.{broughtIn}
-use Rattle.messages.specs.Reading.{callOf}
+use Rattle.messages.specs.inside.Reading.{callOf}
 use Rattle.keyboard.specs.Keyboard.{noMessages, pressedIn}
 use Rattle.keyboard.specs.declared.Messages.{Messages}
 use Rattle.kept_voices.specs.Voices.{Held}

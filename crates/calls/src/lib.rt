@@ -14,7 +14,7 @@ ghost use mathlib.Core.Path.{_≡_};
 ghost use mathlib.Core.Bool.{cond};
 ghost use lib.ListN.{length, take};
 ghost use Rattle.answer.specs.declared.Answer.the-variants.{Taken, Ended};
-ghost use Rattle.bursts.specs.Bursts.{burstOf};
+ghost use Rattle.bursts.specs.inside.Reading.{burstOf};
 ghost use Rattle.kept_voices.specs.Voices.{voices};
 ghost use Rattle.doors.specs.Doors.{scoreIn};
 ghost use Rattle.burst_entrance.specs.Singly.{areaIn};

@@ -11,7 +11,7 @@ use Rattle.answer.specs.Numbers.{numberOf, isTaken}
 use Rattle.answer.specs.declared.Answer as kind
 use Rattle.answer.specs.declared.Answer.the-variants as answer
 use Rattle.score_line.specs.declared.Line.{Line}
-use Rattle.score_text.specs.Reading.{lines}
+use Rattle.score_text.specs.inside.Reading.{lines}
 use Rattle.syntax.specs.Tree.{Instrument}
 use Rattle.syntax.specs.Names.{has}
 use Rattle.kept_voices.specs.Voices.{Held}
@@ -34,7 +34,7 @@ use Rattle.claims.proofs.Bursts.{unit-line, singly-answers, burst-as-un
 use Rattle.messages.specs.Message.{none as noStatus}
 use Rattle.messages.specs.Writing as midi
 use Rattle.messages.specs.Writing.{Says}
-use Rattle.messages.specs.Reading.{callOf}
+use Rattle.messages.specs.inside.Reading.{callOf}
 use Rattle.messages.proofs.Meaning.{one-meaning}
 use Rattle.claims.proofs.Keyboard.{Presses, keys-over, keys-faulty, keys-full, keys-taken, presses, whole-same, fault-same, no-fault}
 use Rattle.claims.proofs.Cycles.{Cycles, off, over-before, ends, plays as goes-on, cycles}

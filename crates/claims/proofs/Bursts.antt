@@ -10,7 +10,8 @@ use borrow.Author.Tests.{le-leb, lt-leb, leb-true}
 use Rattle.answer.specs.Numbers.{numberOf, isTaken}
 use Rattle.answer.specs.declared.Answer as kind
 use Rattle.answer.specs.declared.Answer.the-variants as answer
-use Rattle.bursts.specs.Bursts.{Burst, units, fault, burstOf}
+use Rattle.bursts.specs.Bursts.{Burst, units, fault}
+use Rattle.bursts.specs.inside.Reading.{burstOf}
 use Rattle.bursts.proofs.Meaning.{Kind, is-units, is-cut, is-too-many, every-kind, one-meaning}
 use Rattle.score_line.specs.declared.Line.{Line}
 use Rattle.score_line.specs.declared.LineRead.{LineRead}

@@ -7,7 +7,7 @@ use lib.Dec.{eqb}
 use borrow.Author.Tests.{eqb-true, eq-eqb}
 use Rattle.syntax.specs.Tree.{Instrument}
 use Rattle.syntax.specs.Names.{has, titleOf}
-use Rattle.players.specs.Results.{Some, here, later}
+use Rattle.players.specs.Lists.{Some, here, later}
 use Rattle.kept_orchestra.specs.declared.Program.{Program}
 use Rattle.loader_claims.specs.Claims.{StandsFor}
 use Rattle.panel.specs.Calls.{hasChosen}

@@ -15,7 +15,8 @@ use Rattle.notes.specs.declared.Note.{Note}
 use Rattle.players.specs.Lists.{each, keep, over}
 use Rattle.players.specs.Cycle.{isDue, samples}
 use Rattle.players.specs.Cycle as cycle
-use Rattle.players.specs.Holds.{Plays, laterThan, dueOf, endsBy, marked, capped, blockOf, played}
+use Rattle.players.specs.Holds.{Plays, laterThan, dueOf, endsBy, marked, blockOf, played}
+use Rattle.players.specs.inside.Holds.{capped}
 use Rattle.players.specs.Calls.{bring, burst, keyboard, cycle as cycle-call, one, numbered, After, isZero}
 use Rattle.players.specs.History.{at}
 use Rattle.players.proofs.Lists.{length-keep}

@@ -11,7 +11,7 @@ use borrow.Author.Tests.{ltb-true, ltb-false, leb-true, leb-false}
 use Rattle.answer.specs.declared.Answer as kind
 use Rattle.answer.specs.declared.Answer.the-variants as answer
 use Rattle.score_line.specs.declared.Line.{Line}
-use Rattle.score_text.specs.Reading.{lines}
+use Rattle.score_text.specs.inside.Reading.{lines}
 use Rattle.syntax.specs.Tree.{Instrument}
 use Rattle.syntax.specs.Names.{has}
 use Rattle.players.specs.Holds.{dueOf, endsBy}

@@ -13,7 +13,8 @@ use Rattle.score_line.specs.declared.Event.{Event}
 use Rattle.score_line.specs.declared.Event.the-variants.{Instr, Control, End, Tempo}
 use Rattle.syntax.specs.Tree.{Instrument}
 use Rattle.syntax.specs.Names.{has, titleOf}
-use Rattle.voices.specs.Tree.{instrumentOf, fieldsOf}
+use Rattle.meaning.specs.Meaning.{instrumentOf}
+use Rattle.voices.specs.Tree.{fieldsOf}
 use Rattle.players.specs.Lists.{each}
 use Rattle.players.specs.Holds.{behind}
 use Rattle.players.specs.History.{nowhere, at}

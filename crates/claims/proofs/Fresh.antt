@@ -21,13 +21,14 @@ use Rattle.syntax.specs.Names.{nameRules}
 use Rattle.syntax.specs.Rates.{rateRules}
 use Rattle.syntax.specs.Grammar.{Orchestra}
 use Rattle.grammar.proofs.Unique.{unique}
-use Rattle.orchestra.specs.Reading.{readOf}
+use Rattle.orchestra.specs.inside.Reading.{readOf}
 use Rattle.orchestra.specs.declared.Outcome.{Outcome}
 use Rattle.orchestra.specs.Verdict as orchestra
 use Rattle.orchestra.proofs.Verdict.{every-verdict}
-use Rattle.bursts.specs.Bursts.{Burst, units, fault, burstOf}
+use Rattle.bursts.specs.Bursts.{Burst, units, fault}
+use Rattle.bursts.specs.inside.Reading.{burstOf}
 use Rattle.entrances.specs.Entrances.{broughtIn}
-use Rattle.players.specs.Lists.{All, each, over}
+use Rattle.players.specs.Lists.{All, each, over, Some}
 use Rattle.players.proofs.Lists.{cond-true, cond-false}
 use Rattle.players.specs.Cycle.{samples}
 use Rattle.loader.specs.Loading.{loadOf}
@@ -42,7 +43,6 @@ use Rattle.panel.specs.declared.Brought.{Brought}
 use Rattle.panel.specs.declared.Cycled.{Cycled}
 use Rattle.players.specs.Holds.{settingsOf}
 use Rattle.players.specs.Plain.{plainStart}
-use Rattle.players.specs.Results.{Some}
 use Rattle.players.specs.Calls.{unit, Call, bring, burst, keyboard, cycle, one, After, Last, none as none-yet, traceFrom}
 use Rattle.players.specs.History.{nowhere}
 use Rattle.claims.specs.Fresh.{Check, First, fails, holds, all, Tokens, Tree, checks}

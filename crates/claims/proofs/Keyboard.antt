@@ -12,7 +12,7 @@ use Rattle.answer.specs.Numbers.{numberOf}
 use Rattle.answer.specs.declared.Answer.{Answer}
 use Rattle.answer.specs.declared.Answer.the-variants as answer
 use Rattle.messages.specs.Writing.{Call, whole, fault}
-use Rattle.messages.specs.Reading.{callOf}
+use Rattle.messages.specs.inside.Reading.{callOf}
 use Rattle.messages.specs.declared.Message.{Message}
 use Rattle.messages.proofs.Meaning.{one-meaning}
 use Rattle.messages.proofs.Faults.{Kind, is-whole, is-cut, is-not-carried, every-kind}

@@ -18,7 +18,8 @@ use Rattle.voices.proofs.Alike.{Alike, Notes, block-same, played-same, played-g
 use Rattle.kept_voices.specs.Voices.{Held}
 use Rattle.players.specs.Lists.{each, All}
 use Rattle.players.specs.Cycle.{Voices, positionLimit}
-use Rattle.players.specs.Holds.{Settings, Due, settingsOf, Holds, behind, withMessages, laterThan, dueOf, endsBy, marked, answerOf, capped, blockOf, played, cycled}
+use Rattle.players.specs.Holds.{Settings, Due, settingsOf, Holds, behind, withMessages, laterThan, dueOf, endsBy, marked, answerOf, blockOf, played, cycled}
+use Rattle.players.specs.inside.Holds.{capped}
 use Rattle.players.specs.Plain.{plainStart}
 use Rattle.players.specs.Calls.{Door, unit, reads, Call, bring, burst, keyboard, cycle, wholeMessages, messagesIn, Answer, one, After, numbered, linesOf, takenOf, isZero, Last, none, cyclesWith, lastWith, momentOf, traceFrom, trace, afterAll}
 use Rattle.players.specs.Condition3.{PlainAlike, WithinCeiling}
@@ -29,7 +30,7 @@ use Rattle.players.proofs.Ceiling.{block-within}
 use Rattle.players.proofs.Alike.{AllFollow, plain-alike}
 use Rattle.waiting.specs.declared.Queue.{Queue}
 use Rattle.messages.specs.Writing as midi
-use Rattle.messages.specs.Reading.{blank, callOf}
+use Rattle.messages.specs.inside.Reading.{blank, callOf}
 use Rattle.messages.specs.declared.Message.{Message}
 use Rattle.keyboard.specs.Keyboard.{noMessages, mostMessages, messagesIn as waitingMessages, behind as behindMessages}
 use Rattle.doors.specs.Doors.{emptyLine}
@@ -39,7 +40,8 @@ use Rattle.loader.specs.Loading.{loadOf}
 use Rattle.loader_claims.specs.Claims.{StandsFor}
 use Rattle.loader_claims.proofs.Loaded.{loaded}
 use Rattle.panel.specs.State.{tableOf, voicesOf, holdsOf, settingsIn, startOf, withQueue, withMessages as panelWith, endedOf}
-use Rattle.bursts.specs.Bursts.{Burst, burstOf, unitsIn}
+use Rattle.bursts.specs.Bursts.{Burst, unitsIn}
+use Rattle.bursts.specs.inside.Reading.{burstOf}
 use Rattle.panel.specs.Calls.{singly, freshOf, playedOf}
 use Rattle.panel.specs.declared.Panel.{Panel}
 use Rattle.panel.specs.declared.Fresh.{Fresh}

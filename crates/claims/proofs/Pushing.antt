@@ -9,7 +9,7 @@ use Rattle.answer.specs.Numbers.{numberOf, isTaken}
 use Rattle.answer.specs.declared.Answer.the-variants as answer
 use Rattle.score_line.specs.declared.Line.{Line}
 use Rattle.score.specs.Score.{Lines, all}
-use Rattle.score_text.specs.Reading.{lines}
+use Rattle.score_text.specs.inside.Reading.{lines}
 use Rattle.syntax.specs.Tree.{Instrument}
 use Rattle.voices.proofs.Lines.{fields-tree}
 use Rattle.kept_orchestra.specs.Kept.{fieldsIn}

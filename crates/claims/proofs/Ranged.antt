@@ -13,29 +13,28 @@ use Rattle.answer.specs.declared.Answer.{Answer}
 use Rattle.answer.specs.declared.Answer.the-variants as answer
 use Rattle.bitstream.specs.Bits.{bitsOf}
 use Rattle.bitstream.specs.Filling.{filled}
-use Rattle.bitstream.specs.Reads.{readAt}
+use Rattle.bitstream.specs.Fields.{readAt}
 use Rattle.bitstream.specs.declared.Got.{Got}
 use Rattle.bitstream.specs.declared.Got.the-variants as gives
 use Rattle.timebase.specs.Time.{cycleIn, tempoBits}
 use Rattle.timebase.proofs.Laws.{tempo-from-to, cycle-from-to}
-use Rattle.formats.specs.Source.{Source, bitSource, keypadSource}
-use Rattle.formats.specs.Reading.{Read, got, refused, andThen, numberFrom}
+use Rattle.formats.specs.Format.{Source, bitSource, keypadSource, Read, got, refused, andThen, numberFrom}
 use Rattle.formats.specs.Format as format
-use Rattle.formats.specs.Description.{pair, choose}
-use Rattle.formats.specs.Description.{format as formatOf}
+use Rattle.formats.specs.Description.{pair, choose, format as formatOf}
 use Rattle.formats.specs.declared.Fault.the-variants as fault
 use Rattle.score_line.specs.LineFormat.{inRange, symbol, labelled, float, when, Kind, instr, control, end, tempo, kind, Body, body, Values, values, Parts, afterTime, parts, eventOf, line}
-use Rattle.score_line.specs.Reading.{floatFrom, lineOf, lineFrom, refusedLine, lineRead, lineAt, wholeRun, lineInWords, keypadLine}
+use Rattle.score_line.specs.inside.Reading.{floatFrom}
+use Rattle.score_line.specs.Reading.{lineOf, lineFrom, refusedLine, lineRead, lineAt, wholeRun, lineInWords, keypadLine}
 use Rattle.score_line.specs.declared.Range.the-variants as range
 use Rattle.score_line.specs.declared.Event.{Event}
 use Rattle.score_line.specs.declared.Event.the-variants.{Instr, Control, End, Tempo}
 use Rattle.score_line.specs.declared.Line.{Line}
 use Rattle.score_line.specs.declared.LineRead.{LineRead}
 use Rattle.score.specs.Score.{Lines, all, faulty, before, lineThen, linesFrom, Score, taken, refusedScore, ended, counted, scoreOf, wholeLine, opened, unitOf}
-use Rattle.score_text.specs.Said.{Said, wordsOf, lineSaid}
-use Rattle.score_text.specs.Reading.{Text, lines, bad, judgedFrom, judgement, judged, textOf}
-use Rattle.score_text.specs.Reading as text-form
-use Rattle.voices.specs.Tree.{noSymbol}
+use Rattle.score_text.specs.Said.{Said, wordsOf, lineSaid, judgedFrom, judgement}
+use Rattle.score_text.specs.inside.Reading.{Text, lines, bad, judged, textOf}
+use Rattle.score_text.specs.inside.Reading as text-form
+use Rattle.meaning.specs.Meaning.{noSymbol}
 use Rattle.players.specs.Lists.{All}
 use Rattle.players.specs.Calls.{Door, stick, unit, keypad, text, reads, single}
 use Rattle.players.proofs.Count.{steady}

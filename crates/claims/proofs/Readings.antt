@@ -10,19 +10,19 @@ use Rattle.answer.specs.Numbers.{numberOf, isTaken}
 use Rattle.answer.specs.declared.Answer as kind
 use Rattle.answer.specs.declared.Answer.the-variants as answer
 use Rattle.bitstream.specs.Bits.{bitsOf}
-use Rattle.bitstream.specs.Reads.{readAt}
+use Rattle.bitstream.specs.Fields.{readAt}
 use Rattle.bitstream.specs.Filling.{filled}
 use Rattle.bitstream.specs.declared.Got.{Got}
 use Rattle.bitstream.specs.declared.Got.the-variants.{Value, Short}
-use Rattle.formats.specs.Source.{bitSource, keypadSource}
-use Rattle.formats.specs.Reading.{Read, got, refused}
+use Rattle.formats.specs.Format.{bitSource, keypadSource, Read, got, refused}
 use Rattle.formats.specs.declared.Fault.{Fault}
 use Rattle.formats.specs.declared.Fault.the-variants as fault
 use Rattle.score_line.specs.Reading.{lineFrom, lineAt, lineRead, lineInWords, wholeRun, refusedLine, answerOf, keypadLine}
 use Rattle.score_line.specs.declared.Line.{Line}
 use Rattle.score_line.specs.declared.LineRead.{LineRead}
 use Rattle.score.specs.Score.{Score, Lines, all, faulty as faulty-lines, linesFrom, counted, ended as ended-score, scoreOf, unitOf, opened, wholeLine}
-use Rattle.score_text.specs.Reading.{Text, lines, bad, linesFrom as text-from, judgedFrom, judgement, judged as judged-text, textOf}
+use Rattle.score_text.specs.inside.Reading.{Text, lines, bad, linesFrom as text-from, judged as judged-text, textOf}
+use Rattle.score_text.specs.Said.{judgedFrom, judgement}
 use Rattle.players.specs.Calls.{Door, stick, unit, keypad, text, reads, Answer}
 use Rattle.claims.specs.Verdict.{there, next}
 

@@ -11,14 +11,17 @@ use Rattle.score_line.specs.declared.Event.{Event}
 use Rattle.score_line.specs.declared.Event.the-variants.{Instr, Control, End, Tempo}
 use Rattle.score_line.specs.declared.Line.{Line}
 use Rattle.syntax.specs.Tree.{Instrument}
-use Rattle.voices.specs.Tree.{instrumentOf, treeVoices}
+use Rattle.meaning.specs.Meaning.{instrumentOf}
+use Rattle.voices.specs.Tree.{treeVoices}
 use Rattle.written_voices.specs.Alike.{HoldsAs}
-use Rattle.written_voices.specs.Voices.{writtenVoices, HeldAs, PlaysAsWritten, PastAsWritten}
+use Rattle.written_voices.specs.Voices.{writtenVoices}
+use Rattle.written_voices.specs.inside.Translation.{HeldAs, PlaysAsWritten, PastAsWritten}
 use Rattle.written_voices.specs.Voices as written
 use Rattle.written_voices.proofs.Written.{every-piece, every-past}
 use Rattle.kept_voices.specs.Voices as byPlace
 use Rattle.answer.specs.Numbers.{numberOf}
-use Rattle.bursts.specs.Bursts.{Burst, burstOf, unitsIn}
+use Rattle.bursts.specs.Bursts.{Burst, unitsIn}
+use Rattle.bursts.specs.inside.Reading.{burstOf}
 use Rattle.players.specs.Lists.{All, each}
 use Rattle.players.specs.Holds.{Settings, settingsOf}
 use Rattle.players.specs.Calls.{Door, unit, reads, Call, bring, burst, keyboard, cycle, Answer, one, After, linesOf, takenOf, Last, none, latest, Moment, takenIn, cyclesWith, lastWith, momentOf, traceFrom, trace, allTaken, afterAll}

@@ -14,11 +14,12 @@ use Rattle.syntax.specs.Tree.{Instrument}
 use Rattle.tokens.specs.Spelling.{Bytes}
 use Rattle.orchestra.specs.Verdict.{Accepted}
 use Rattle.written_voices.specs.Alike.{HoldsAs}
-use Rattle.written_voices.specs.Voices.{Held, writtenVoices, Fits, HeldAs}
-use Rattle.bursts.specs.Bursts.{Burst, units, fault, mostUnits, burstOf}
+use Rattle.written_voices.specs.Voices.{Held, writtenVoices, Fits}
+use Rattle.written_voices.specs.inside.Translation.{HeldAs}
+use Rattle.bursts.specs.Bursts.{Burst, units, fault, mostUnits}
+use Rattle.bursts.specs.inside.Reading.{burstOf}
 use Rattle.bursts.specs.Bursts as bursts
-use Rattle.players.specs.Lists.{All, each, over}
-use Rattle.players.specs.Results.{Some}
+use Rattle.players.specs.Lists.{All, each, over, Some}
 use Rattle.messages.specs.Message.{none as noStatus}
 use Rattle.messages.specs.Writing.{whole, Says}
 use Rattle.messages.specs.declared.Message.{Message}

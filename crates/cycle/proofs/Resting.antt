@@ -14,7 +14,8 @@ use Rattle.limiter.specs.Block as block
 use Rattle.score_line.specs.declared.Line.{Line}
 use Rattle.players.specs.Lists.{fold, keep, each, over}
 use Rattle.players.specs.Cycle.{Voices, positionLimit, ordered, anyEnd, lastTempo, started, controlled, afterMessages, runFrom, runAll}
-use Rattle.players.specs.Holds.{Settings, Due, dueAt, laterThan, dueOf, endsBy, startedOf, soundsOf, bandOf, capped, played}
+use Rattle.players.specs.Holds.{Settings, Due, dueAt, laterThan, dueOf, endsBy, startedOf, soundsOf, bandOf, played}
+use Rattle.players.specs.inside.Holds.{capped}
 use Rattle.players.proofs.Lists.{cond-true, cond-false}
 use Rattle.waiting.specs.Waiting.{anyDue}
 use Rattle.waiting.specs.Admission.{waitingIn}

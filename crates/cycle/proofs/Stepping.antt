@@ -11,7 +11,8 @@ use Rattle.limiter.specs.Block as block
 use Rattle.score_line.specs.declared.Line.{Line}
 use Rattle.players.specs.Lists.{keep, over}
 use Rattle.players.specs.Cycle.{Voices, positionLimit, isDue, ordered, anyEnd}
-use Rattle.players.specs.Holds.{Due, settingsOf, dueAt, laterThan, dueOf, endsBy, bandOf, capped, played}
+use Rattle.players.specs.Holds.{Due, settingsOf, dueAt, laterThan, dueOf, endsBy, bandOf, played}
+use Rattle.players.specs.inside.Holds.{capped}
 use Rattle.players.proofs.Lists.{cond-true, cond-false}
 use Rattle.waiting.specs.Admission.{waitingIn}
 use Rattle.waiting.specs.declared.Queue.{Queue}

@@ -14,7 +14,8 @@ use Rattle.notes.specs.declared.Note.{Note}
 use Rattle.players.specs.Lists.{each, keep, over}
 use Rattle.players.specs.Cycle.{Voices, Band, Started, positionLimit, lastTempo, started, controlled, afterMessages, runAll, goesOn}
 use Rattle.players.specs.Cycle as cycle
-use Rattle.players.specs.Holds.{Due, settingsOf, sixteen, startedOf, soundsOf, bandOf, capped, played}
+use Rattle.players.specs.Holds.{Due, settingsOf, sixteen, startedOf, soundsOf, bandOf, played}
+use Rattle.players.specs.inside.Holds.{capped}
 use Rattle.kept_voices.specs.Voices.{Held, voices}
 use Rattle.sounding.specs.Notes.{notesIn, startedIn as startedNotes, startedOver, controlledAll}
 use Rattle.one_note.specs.OneNote.{noteOf, structOf, goesOnIn}

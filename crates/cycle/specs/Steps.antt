@@ -5,7 +5,8 @@ use Rattle.keyboard.specs.Keyboard.{messagesIn}
 use Rattle.players.specs.Lists.{each, over}
 use Rattle.players.specs.Cycle.{Voices}
 use Rattle.players.specs.Cycle as cycle
-use Rattle.players.specs.Holds.{Settings, settingsOf, Due, Plays, capped, played}
+use Rattle.players.specs.Holds.{Settings, settingsOf, Due, Plays, played}
+use Rattle.players.specs.inside.Holds.{capped}
 use Rattle.kept_voices.specs.Voices.{Held}
 use Rattle.sounding.specs.Notes.{notesIn}
 use Rattle.one_note.specs.OneNote.{structOf}

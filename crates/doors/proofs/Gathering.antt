@@ -13,22 +13,22 @@ use Rattle.formats.specs.declared.Fault.{Fault}
 use Rattle.score_line.specs.Reading.{answerOf}
 use Rattle.score_line.specs.declared.Line.{Line}
 use Rattle.score_line.specs.declared.LineRead.{LineRead}
-use Rattle.bitstream.specs.Reads.{readAt}
+use Rattle.bitstream.specs.Fields.{readAt}
 use Rattle.bitstream.specs.Filling.{filled}
 use Rattle.bitstream.specs.declared.Got.{Got}
 use Rattle.bitstream.specs.declared.Got.the-variants.{Value, Short}
-use Rattle.score.specs.Score.{Score, Lines, all, faulty, linesFrom, taken, refusedScore, counted, ended, scoreOf, heard, firstOf, nextOf, Ahead}
+use Rattle.score.specs.Score.{Score, Lines, all, faulty, linesFrom, taken, refusedScore, counted, ended, scoreOf}
+use Rattle.score.specs.inside.Walk.{heard, firstOf, nextOf, Ahead}
 use Rattle.score.specs.declared.Cursor.{Cursor}
 use Rattle.score.specs.declared.Step.{Step}
 use Rattle.score.specs.declared.ScoreRead.{ScoreRead}
 use Rattle.score.proofs.Ways.{fault-not-taken}
 use Rattle.score.proofs.Walk.{ahead-first, ahead-left, ahead-next}
-use Rattle.score_text.specs.Reading.{Text, lines, bad, linesFrom as text-from, judgedFrom, judgement, judged, textOf}
-use Rattle.score_text.specs.Reading.{lineFrom}
+use Rattle.score_text.specs.inside.Reading.{Text, lines, bad, linesFrom as text-from, judged, textOf, lineFrom}
+use Rattle.score_text.specs.Said.{judgedFrom, judgement}
 use Rattle.text_event.specs.Results.{lineTold}
 use Rattle.text_event.specs.declared.TextLine.{TextLine}
-use Rattle.text_reader.specs.Texts.{textTold}
-use Rattle.text_reader.specs.Texts.{Ahead as AheadText}
+use Rattle.text_reader.specs.Texts.{textTold, Ahead as AheadText}
 use Rattle.text_reader.specs.declared.TextRead.{TextRead}
 use Rattle.text_reader.proofs.Walk.{ahead-first as text-first, ahead-next as text-next}
 use Rattle.players.specs.Lists.{over}

@@ -13,7 +13,7 @@ ghost use lib.ListN.{length};
 ghost use Rattle.answer.specs.Numbers.{isTaken};
 ghost use Rattle.bitstream.specs.Bits.{bitsOf};
 ghost use Rattle.score.specs.Score.{scoreOf, refusedScore};
-ghost use Rattle.score_text.specs.Reading.{textOf};
+ghost use Rattle.score_text.specs.inside.Reading.{textOf};
 ghost use Rattle.players.specs.Calls.{mustBeTimed, single, reads};
 ghost use Rattle.players.specs.Calls as door;
 ghost use Rattle.doors.specs.Doors.{mostHanded, emptyLine, handedOf};

@@ -8,7 +8,7 @@ use lib.ListN.{length, drop}
 use lib.Ieee.{Float}
 use borrow.Author.Tests.{le-leb, lt-leb}
 use Rattle.tokens.specs.declared.Token.{Token}
-use Rattle.syntax.specs.Program.{ins, chooseOp}
+use Rattle.syntax.specs.inside.Program.{ins, chooseOp}
 use Rattle.expressions.specs.declared.Got.{Got}
 use Rattle.expressions.specs.declared.Got.the-variants.{Next, Refused}
 use Rattle.expressions.specs.declared.Head.{Head}

@@ -9,7 +9,7 @@ use expressions::head_at;
 use expressions::pass;
 use expressions::tail_at;
 ghost use mathlib.Core.Path.{_≡_};
-ghost use Rattle.tokens.specs.Token.{toks};
+ghost use Rattle.tokens.specs.inside.Token.{toks};
 ghost use Rattle.expressions.specs.Reader.{reader, lastly};
 ghost use Rattle.expressions.specs.Areas.{areas, Ready, Runs};
 

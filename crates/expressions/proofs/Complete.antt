@@ -15,7 +15,7 @@ use Rattle.syntax.specs.Tree.{Expr, number, name, unary, binary, choose}
 use Rattle.signs.specs.Signs as S
 use Rattle.signs.specs.Operators as O
 use Rattle.signs.specs.Operators.{unarySign}
-use Rattle.syntax.specs.Program.{Ins, ins, chooseOp, compile, unaryOp, binaryOp}
+use Rattle.syntax.specs.inside.Program.{Ins, ins, chooseOp, compile, unaryOp, binaryOp}
 use Rattle.expressions.specs.declared.Tail.{Tail}
 use Rattle.expressions.specs.declared.Tail.the-variants.{Binary, Question, Stop}
 use Rattle.expressions.specs.Roles.{headL, tailOf, tailL, tailSign}

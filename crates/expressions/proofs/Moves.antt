@@ -8,10 +8,10 @@ use lib.ListN.{length, drop, set}
 use lib.Dec.{eqb}
 use lib.Ieee.{Float, binary32, ofInt}
 use lib.IntN.{pos}
-use Rattle.tokens.specs.Token.{toks}
+use Rattle.tokens.specs.inside.Token.{toks}
 use Rattle.tokens.specs.declared.Token.{Token}
 use Rattle.tokens.specs.declared.Token.the-variants.{Whole, Sign}
-use Rattle.syntax.specs.Program.{Ins, numberOp}
+use Rattle.syntax.specs.inside.Program.{Ins, numberOp}
 use Rattle.expressions.specs.declared.Head.the-variants.{Push}
 use Rattle.expressions.specs.declared.Got.{Got}
 use Rattle.expressions.specs.declared.Got.the-variants.{Next, Refused}

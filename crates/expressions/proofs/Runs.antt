@@ -9,7 +9,7 @@ use lib.ListN.{length, take, drop, set, length-append, length-drop, length-map}
 use lib.Seq.{drop-drop, sets, length-sets, take-set-le}
 use Rattle.laws.proofs.Lists.{map-append}
 use Rattle.tokens.specs.declared.Token.{Token}
-use Rattle.syntax.specs.Program.{Ins}
+use Rattle.syntax.specs.inside.Program.{Ins}
 use Rattle.expressions.specs.declared.Got.{Got}
 use Rattle.expressions.specs.declared.Got.the-variants.{Next, Refused}
 use Rattle.expressions.specs.Roles.{signL}

@@ -13,7 +13,7 @@ use Rattle.signs.specs.Signs as S
 use Rattle.signs.specs.Operators as O
 use Rattle.signs.specs.Operators.{unarySign, binarySign}
 use Rattle.syntax.specs.Tree.{Expr, number, name}
-use Rattle.syntax.specs.Program.{Ins, compile, unaryOp, binaryOp}
+use Rattle.syntax.specs.inside.Program.{Ins, compile, unaryOp, binaryOp}
 use Rattle.expressions.specs.declared.Head.{Head}
 use Rattle.expressions.specs.declared.Head.the-variants.{Push, Unary, Open, Call, Call2, Bad}
 use Rattle.expressions.specs.declared.Tail.{Tail}

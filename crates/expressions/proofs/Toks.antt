@@ -6,7 +6,7 @@ use mathlib.Core.List.{List, [], _∷_}
 use mathlib.Core.Bool.{Bool, false}
 use lib.ListN.{length, drop, getD, drop-of-length-le}
 use lib.Ieee.{Float}
-use Rattle.tokens.specs.Token.{tokenAt, zeroF, toks}
+use Rattle.tokens.specs.inside.Token.{tokenAt, zeroF, toks}
 use Rattle.tokens.specs.declared.Token.{Token}
 use Rattle.expressions.specs.declared.Head.{Head}
 use Rattle.expressions.specs.declared.Head.the-variants.{Bad}

@@ -7,7 +7,7 @@ use lib.Dec.{eqb}
 use Rattle.tokens.specs.declared.Token.{Token}
 use Rattle.syntax.specs.Tree.{Expr, number, name, unary, binary, choose}
 use Rattle.signs.specs.Operators as O
-use Rattle.syntax.specs.Program.{Ins, ins, nameOp, numberOp, chooseOp, unaryOp, binaryOp, compile}
+use Rattle.syntax.specs.inside.Program.{Ins, ins, nameOp, numberOp, chooseOp, unaryOp, binaryOp, compile}
 use Rattle.syntax.specs.Grammar.{Derives}
 use Rattle.expressions.proofs.Complete.{complete}
 

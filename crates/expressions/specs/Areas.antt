@@ -7,7 +7,7 @@ use lib.ListN.{length, take, drop}
 use lib.Seq.{sets}
 use lib.Ieee.{Float}
 use Rattle.tokens.specs.declared.Token.{Token}
-use Rattle.syntax.specs.Program.{Ins}
+use Rattle.syntax.specs.inside.Program.{Ins}
 use Rattle.expressions.specs.declared.Got.{Got}
 use Rattle.expressions.specs.declared.Got.the-variants.{Next, Refused}
 use Rattle.expressions.specs.Roles.{signL}

@@ -9,7 +9,7 @@ use Rattle.tokens.specs.declared.Token.{Token}
 use Rattle.tokens.specs.declared.Token.the-variants.{Number, Symbol, Whole, Sign}
 use Rattle.signs.specs.Signs as S
 use Rattle.signs.specs.Operators as O
-use Rattle.syntax.specs.Program.{zeroF, nameOp, numberOp, unaryOp, binaryOp}
+use Rattle.syntax.specs.inside.Program.{zeroF, nameOp, numberOp, unaryOp, binaryOp}
 use Rattle.expressions.specs.declared.Head.{Head}
 use Rattle.expressions.specs.declared.Head.the-variants.{Push, Unary, Open, Call, Call2, Bad}
 use Rattle.expressions.specs.declared.Tail.{Tail}

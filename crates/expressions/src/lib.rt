@@ -2,7 +2,7 @@
 use tokens::Token;
 ghost use mathlib.Core.Path.{_≡_};
 ghost use lib.ListN.{drop};
-ghost use Rattle.tokens.specs.Token.{toks};
+ghost use Rattle.tokens.specs.inside.Token.{toks};
 ghost use Rattle.expressions.specs.Roles.{headOf, tailOf, isSign, headL, tailL, signL};
 ghost use Rattle.expressions.specs.Areas.{areas, storedAt, oneMore, passed, Place};
 

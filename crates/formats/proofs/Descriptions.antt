@@ -11,14 +11,12 @@ use denote.Floats.{passes}
 use lib.Dec.{T, leb, eqb}
 use lib.ListN.{length}
 use lib.Ieee.Fits.{and-i, eq→eqb}
-use Rattle.formats.specs.Source.{Source}
-use Rattle.formats.specs.Reading.{Read, got, refused, andThen}
+use Rattle.formats.specs.Format.{Source, Read, got, refused, andThen, Field, of, Format, named, ifSetFields, ifSetLawful, timesFrom, timesFields, all}
 use Rattle.formats.specs.declared.Fault.{Fault}
 use Rattle.formats.specs.declared.Fault.the-variants as fault
-use Rattle.formats.specs.Fields.{Field, of, widths}
-use Rattle.formats.specs.Format.{Format, named, ifSetFields, ifSetLawful, timesFrom, timesFields, all}
+use Rattle.formats.specs.inside.Lengths.{widths, ifSetLength, timesLength, lengthOf}
 use Rattle.formats.specs.Format as F
-use Rattle.formats.specs.Description.{Description, flag, field, oneOf, nothing, choose, ifSet, setThen, times, as-a, format, small, ifSetLength, timesLength, lengthOf}
+use Rattle.formats.specs.Description.{Description, flag, field, oneOf, nothing, choose, ifSet, setThen, times, as-a, format, small}
 use Rattle.formats.proofs.Gives.{Fits, Gives}
 use Rattle.formats.proofs.Laws.{Law, Stands, number-there, field-law, small-law, flag-law, lawful-flag, oneOf-law, nothing-law, choose-law, ifSet-law, setThen-law, times-law, as-a-law}
 

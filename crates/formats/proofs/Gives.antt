@@ -3,9 +3,7 @@ use Prim.Native.Nat.{ℕ, _^_, _<_, _≤_}
 use mathlib.Core.Path.{_≡_}
 use mathlib.Core.List.{List, [], _∷_}
 use Rattle.bitstream.specs.declared.Got.the-variants.{Value}
-use Rattle.formats.specs.Source.{Source}
-use Rattle.formats.specs.Reading.{Read, got}
-use Rattle.formats.specs.Fields.{Field, of}
+use Rattle.formats.specs.Format.{Source, Read, got, Field, of}
 
 -- the source gives v in that width, and what follows holds at the position past it
 pub record Step (s : Source) (width v at : ℕ) (Rest : ℕ → Type 0) : Type 0 where

@@ -8,13 +8,12 @@ use native.Mathlib.Omega.{arith}
 use lib.ListN.{length, take, drop, length-append, length-drop}
 use lib.Seq.{take-at, drop-at, drop-drop}
 use Rattle.bitstream.specs.Bits.{field, valueOf}
-use Rattle.bitstream.specs.Fields.{put, farthest}
-use Rattle.bitstream.specs.Reads.{readAt}
+use Rattle.bitstream.specs.Fields.{put, farthest, readAt}
 use Rattle.bitstream.specs.declared.Got.the-variants.{Value}
 use Rattle.bitstream.proofs.Laws.{length-field, valueOf-field}
 use Rattle.bitstream.proofs.Fields.{room-yes, read-back}
-use Rattle.formats.specs.Source.{bitSource}
-use Rattle.formats.specs.Fields.{Field, of, fieldBits, widths}
+use Rattle.formats.specs.Format.{bitSource, Field, of, fieldBits}
+use Rattle.formats.specs.inside.Lengths.{widths}
 use Rattle.formats.proofs.Gives.{Fits, Gives, Bounded}
 
 -- the width of every field holds its number

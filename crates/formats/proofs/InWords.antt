@@ -12,8 +12,7 @@ use lib.ListN.{length, getD, drop, length-drop}
 use lib.Seq.{drop-drop, drop-cons, getD-drop}
 use Rattle.bitstream.specs.Fields.{pick}
 use Rattle.bitstream.specs.declared.Got.the-variants.{Value, Short}
-use Rattle.formats.specs.Source.{keypadSource}
-use Rattle.formats.specs.Fields.{Field, of, fieldWords}
+use Rattle.formats.specs.Format.{keypadSource, Field, of, fieldWords}
 use Rattle.formats.proofs.Gives.{Gives, Bounded}
 use Rattle.formats.proofs.InBits.{Small}
 

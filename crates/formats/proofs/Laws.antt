@@ -15,14 +15,11 @@ use lib.Ieee.Fits.{and-i, and-l, and-r, eq→eqb}
 use Rattle.bitstream.specs.Bits.{digit}
 use Rattle.bitstream.specs.declared.Got.{Got}
 use Rattle.bitstream.specs.declared.Got.the-variants.{Value, Short}
-use Rattle.formats.specs.Source.{Source}
-use Rattle.formats.specs.Reading.{Read, got, refused, andThen, whole, numberFrom}
+use Rattle.formats.specs.Format.{Source, Read, got, refused, andThen, whole, numberFrom, Field, of, Format, field, small, flag, named, found, oneOf, nothing, choose, ifSet, ifSetFields, ifSetLawful, setThen, timesFrom, timesFields, all, times, as-a}
 use Rattle.formats.specs.declared.Fault.{Fault}
 use Rattle.formats.specs.declared.Fault.the-variants as fault
-use Rattle.formats.specs.Fields.{Field, of}
 use Rattle.formats.proofs.Gives.{Fits, Gives, Found, Bounded}
 use Rattle.formats.proofs.InBits.{Small}
-use Rattle.formats.specs.Format.{Format, field, small, flag, named, found, oneOf, nothing, choose, ifSet, ifSetFields, ifSetLawful, setThen, timesFrom, timesFields, all, times, as-a}
 
 -- ---- what is proved of a format
 

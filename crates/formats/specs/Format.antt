@@ -1,17 +1,70 @@
 -- Formats: how a value is read from a source, the fields that it is written as, and which values are lawful, in one term.
 -- Definitions only.
-use Prim.Native.Nat.{ℕ, zero, suc}
+use Prim.Native.Nat.{ℕ, zero, suc, _+_}
 use mathlib.Core.Bool.{Bool, true, false, cond, _&&_}
 use mathlib.Core.List.{List, [], _∷_}
 use mathlib.Core.Option.{Option, none, some}
-use lib.ListN.{length}
-use lib.Dec.{eqb, leb}
+use lib.ListN.{length, getD}
+use lib.Dec.{eqb, leb, ltb}
 use Rattle.bitstream.specs.Bits.{digit}
-use Rattle.formats.specs.Source.{Source}
-use Rattle.formats.specs.Reading.{Read, got, refused, andThen, numberFrom}
-use Rattle.formats.specs.Fields.{Field, of}
 use Rattle.formats.specs.declared.Fault.{Fault}
 use Rattle.formats.specs.declared.Fault.the-variants as fault
+use Rattle.bitstream.specs.Fields.{readAt, pick, put}
+use Rattle.bitstream.specs.declared.Got.{Got}
+use Rattle.bitstream.specs.declared.Got.the-variants.{Value, Short}
+use Rattle.formats.specs.declared.Fault.the-variants.{CutShort}
+
+-- ---- where a record's numbers come from
+
+-- a source gives, for a width and a position, a number and the position past it, or `Short` where no number is whole
+abbrev pub Source : Type 0
+Source = ℕ → ℕ → Got
+
+-- bits: a field of that width
+unfoldable pub bitSource : List Bool → Source
+bitSource l width at = readAt l at width
+
+-- the keypad: the next of its numbers, whatever the width
+unfoldable pub keypadSource : List ℕ → Source
+keypadSource words width at = pick (ltb at (length words)) (Value (getD words at 0) (at + 1)) Short
+
+-- ---- what reading a part gives
+
+-- a part and the position past it, or the first fault
+pub data Read (A : Type 0) : Type 0 where
+  got : A → ℕ → Read A
+  refused : Fault → Read A
+
+-- and then: what follows, where no fault was met
+abbrev pub andThen : {A B : Type 0} → Read A → (A → ℕ → Read B) → Read B
+andThen (got a p) k = k a p
+andThen (refused f) k = refused f
+
+abbrev pub whole : Got → Read ℕ
+whole (Value v p) = got v p
+whole Short = refused CutShort
+
+-- a field's number
+unfoldable pub numberFrom : Source → ℕ → ℕ → Read ℕ
+numberFrom s width at = whole (s width at)
+
+-- ---- the one list of fields that a record's bits and its keypad numbers are made of
+
+-- a field: its width in bits and its number
+pub data Field : Type 0 where
+  of : ℕ → ℕ → Field
+
+-- the bits of fields, each in its width, before what follows
+unfoldable pub fieldBits : List Field → List Bool → List Bool
+fieldBits [] rest = rest
+fieldBits (of width v ∷ fs) rest = put width v (fieldBits fs rest)
+
+-- the numbers of fields, for the keypad
+unfoldable pub fieldWords : List Field → List ℕ
+fieldWords [] = []
+fieldWords (of width v ∷ fs) = v ∷ fieldWords fs
+
+-- ---- a format
 
 pub record Format (A : Type 0) : Type 0 where
   pub from : Source → ℕ → Read A

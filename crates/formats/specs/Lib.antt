@@ -1,5 +1,3 @@
-pub mod Source
-pub mod Reading
-pub mod Fields
 pub mod Format
 pub mod Description
+pub mod inside

@@ -6,8 +6,7 @@ use mathlib.Core.Bool.{false}
 use Rattle.tokens.specs.declared.Token.{Token}
 use Rattle.tokens.specs.declared.Token.the-variants.{Symbol, Sign}
 use Rattle.syntax.specs.Tree.{Expr, Statements, Declaration, Instrument, fieldKind}
-use Rattle.syntax.specs.Program.{ins, insArg, instrOp, outputOp, ifOp, elseOp, endOp, storeOp, compile, code, declare, declared, program}
-use Rattle.syntax.specs.Program.{instrument as code·of}
+use Rattle.syntax.specs.inside.Program.{ins, insArg, instrOp, outputOp, ifOp, elseOp, endOp, storeOp, compile, code, declare, declared, program, instrument as code·of}
 use Rattle.expressions.specs.Roles.{signL}
 use Rattle.expressions.specs.Reader.{Res, no, ok, prepend}
 use Rattle.grammar.specs.declared.Lead.the-variants.{Stop as No}

@@ -4,7 +4,7 @@ use mathlib.Core.Path.{_≡_, ap, _∙_}
 use mathlib.Core.List.{List}
 use lib.ListN.{length, drop}
 use lib.Ieee.{Float}
-use Rattle.tokens.specs.Token.{tokenAt, toks}
+use Rattle.tokens.specs.inside.Token.{tokenAt, toks}
 use Rattle.tokens.specs.declared.Token.{Token}
 use Rattle.tokens.specs.declared.Token.the-variants.{Symbol, Sign}
 use Rattle.expressions.proofs.Toks.{drop-toks, drop-past}

@@ -6,7 +6,7 @@ use mathlib.Core.List.{List, [], _∷_, _++_}
 use mathlib.Core.Bool.{true}
 use lib.ListN.{length, drop, length-append}
 use Rattle.tokens.specs.declared.Token.{Token}
-use Rattle.syntax.specs.Program.{Ins}
+use Rattle.syntax.specs.inside.Program.{Ins}
 use Rattle.expressions.specs.Roles.{signL}
 use Rattle.expressions.specs.Reader.{Res, seq, sign, emit, reader}
 use Rattle.expressions.proofs.Laws.{All, none, some, All-weaken, All-seq, All-cond, reader-bounded}

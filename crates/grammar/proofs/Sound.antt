@@ -10,8 +10,7 @@ use borrow.Author.Tests.{eqb-true}
 use Rattle.tokens.specs.declared.Token.{Token}
 use Rattle.tokens.specs.declared.Token.the-variants.{Number, Symbol, Whole, Sign}
 use Rattle.syntax.specs.Tree.{Expr, Statements, done, assign, output, branch, Declaration, Instrument, fieldKind, importsKind}
-use Rattle.syntax.specs.Program.{Ins, ins, insArg, instrOp, outputOp, ifOp, elseOp, endOp, storeOp, compile, code, declare, declared, program}
-use Rattle.syntax.specs.Program.{instrument as code·of}
+use Rattle.syntax.specs.inside.Program.{Ins, ins, insArg, instrOp, outputOp, ifOp, elseOp, endOp, storeOp, compile, code, declare, declared, program, instrument as code·of}
 use Rattle.expressions.specs.Roles.{signL, isSign}
 use Rattle.expressions.specs.Reader.{Res, ok, seq, sign}
 use Rattle.grammar.specs.declared.Start.{Start}

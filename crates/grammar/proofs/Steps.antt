@@ -6,7 +6,7 @@ use mathlib.Core.List.{List, [], _∷_, _++_}
 use mathlib.Core.Bool.{Bool, true, false, cond}
 use lib.ListN.{length, drop, length-append}
 use Rattle.tokens.specs.declared.Token.{Token}
-use Rattle.syntax.specs.Program.{Ins, ins, insArg, instrOp, outputOp, ifOp, elseOp, endOp, storeOp}
+use Rattle.syntax.specs.inside.Program.{Ins, ins, insArg, instrOp, outputOp, ifOp, elseOp, endOp, storeOp}
 use Rattle.syntax.specs.Tree.{fieldKind, importsKind}
 use Rattle.expressions.specs.Roles.{signL}
 use Rattle.expressions.specs.Reader.{Res, ok, seq, sign, emit}

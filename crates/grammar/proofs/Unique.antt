@@ -7,7 +7,7 @@ use mathlib.Core.Bool.{true, false}
 use Rattle.tokens.specs.declared.Token.{Token}
 use Rattle.tokens.specs.declared.Token.the-variants.{Sign}
 use Rattle.syntax.specs.Tree.{Expr, Statements, Declaration, Instrument}
-use Rattle.syntax.specs.Program.{compile}
+use Rattle.syntax.specs.inside.Program.{compile}
 use Rattle.expressions.specs.Roles.{signL, tailL}
 use Rattle.expressions.specs.Reader.{ok, reader}
 use Rattle.grammar.specs.declared.Lead.the-variants.{Stop as No}

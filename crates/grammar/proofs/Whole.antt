@@ -6,7 +6,7 @@ use mathlib.Core.Path.{_≡_, sym}
 use mathlib.Core.List.{List}
 use lib.ListN.{length}
 use Rattle.tokens.specs.declared.Token.{Token}
-use Rattle.syntax.specs.Program.{Ins}
+use Rattle.syntax.specs.inside.Program.{Ins}
 use Rattle.expressions.specs.Reader.{Res}
 use Rattle.grammar.specs.Reader.{deep, whole}
 use Rattle.expressions.proofs.Laws.{All, none}

@@ -5,7 +5,7 @@ use mathlib.Core.List.{List, [], _∷_}
 use lib.ListN.{length, drop}
 use Rattle.tokens.specs.declared.Token.{Token}
 use Rattle.syntax.specs.Tree.{fieldKind, importsKind}
-use Rattle.syntax.specs.Program.{ins, insArg, instrOp, outputOp, ifOp, elseOp, endOp, storeOp}
+use Rattle.syntax.specs.inside.Program.{ins, insArg, instrOp, outputOp, ifOp, elseOp, endOp, storeOp}
 use Rattle.signs.specs.Signs as S
 use Rattle.expressions.specs.Roles.{signL, roundOpen, roundClose, comma}
 use Rattle.expressions.specs.Reader.{Res, no, ok, seq, sign, emit, reader}

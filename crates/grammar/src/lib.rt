@@ -2,7 +2,7 @@
 use tokens::Token;
 ghost use mathlib.Core.Path.{_≡_};
 ghost use lib.ListN.{drop};
-ghost use Rattle.tokens.specs.Token.{toks};
+ghost use Rattle.tokens.specs.inside.Token.{toks};
 ghost use Rattle.grammar.specs.Starts.{startOf, leadOf, wordOf, startL, leadL, wordL};
 
 // What a token starts among statements.

@@ -6,7 +6,7 @@ use mathlib.Core.List.{List}
 use lib.ListN.{length, drop, length-drop}
 use Rattle.tokens.specs.declared.Token.{Token}
 use Rattle.syntax.specs.Tree.{Instrument}
-use Rattle.syntax.specs.Program.{program}
+use Rattle.syntax.specs.inside.Program.{program}
 use Rattle.expressions.specs.declared.Got.{Got}
 use Rattle.expressions.specs.declared.Got.the-variants.{Next}
 use Rattle.expressions.specs.Reader.{no, ok}

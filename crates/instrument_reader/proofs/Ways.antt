@@ -7,7 +7,7 @@ use mathlib.Core.Bool.{Bool, true, false, cond}
 use lib.ListN.{length, drop, drop-of-length-le}
 use Rattle.tokens.specs.declared.Token.{Token}
 use Rattle.syntax.specs.Tree.{fieldKind}
-use Rattle.syntax.specs.Program.{insArg}
+use Rattle.syntax.specs.inside.Program.{insArg}
 use Rattle.expressions.specs.declared.Got.{Got}
 use Rattle.expressions.specs.declared.Got.the-variants.{Next, Refused}
 use Rattle.expressions.specs.Roles.{signL}

@@ -3,7 +3,7 @@ use expressions::Got;
 use grammar::Lead;
 use grammar::Word;
 ghost use lib.ListN.{length};
-ghost use Rattle.tokens.specs.Token.{toks};
+ghost use Rattle.tokens.specs.inside.Token.{toks};
 ghost use Rattle.expressions.specs.Areas.{areas, Holds, Ready, Runs};
 ghost use Rattle.grammar.specs.Reader.{name, names, listed, declarations, fields, header, body, instrument, orchestra};
 ghost use Rattle.instrument_reader.specs.Reading.{Reads};

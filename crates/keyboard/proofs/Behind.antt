@@ -11,7 +11,7 @@ use borrow.Author.Tests.{le-leb, lt-leb}
 use Rattle.answer.specs.Numbers.{isTaken}
 use Rattle.answer.specs.declared.Answer.the-variants.{Taken, NoRoom}
 use Rattle.messages.specs.Writing.{Call, whole, fault}
-use Rattle.messages.specs.Reading.{most, padded, gathered, callOf}
+use Rattle.messages.specs.inside.Reading.{most, padded, gathered, callOf}
 use Rattle.messages.specs.declared.Message.{Message}
 use Rattle.messages.specs.declared.Gathered.{Gathered}
 use Rattle.messages.proofs.Faults.{Kind, is-whole, is-cut, is-not-carried, every-kind}

@@ -6,7 +6,7 @@ use lib.ListN.{length, take, replicate}
 use lib.Dec.{leb}
 use Rattle.answer.specs.declared.Answer.the-variants.{Taken, NoRoom}
 use Rattle.messages.specs.Writing as midi
-use Rattle.messages.specs.Reading.{blank}
+use Rattle.messages.specs.inside.Reading.{blank}
 use Rattle.messages.specs.declared.Message.{Message}
 use Rattle.players.specs.Lists.{over}
 use Rattle.keyboard.specs.declared.Messages.{Messages}

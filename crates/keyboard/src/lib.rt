@@ -6,7 +6,7 @@ ghost use mathlib.Core.List.{_++_};
 ghost use Prim.Native.Nat.{_+_, _≤_, min};
 ghost use lib.ListN.{take};
 ghost use Rattle.players.specs.Lists.{over};
-ghost use Rattle.messages.specs.Reading.{callOf};
+ghost use Rattle.messages.specs.inside.Reading.{callOf};
 ghost use Rattle.keyboard.specs.Keyboard.{noMessages, pressedIn};
 
 // The note messages that wait, from the first on.

@@ -46,9 +46,9 @@ entry : (n : ℕ) → n < 128 → Rule n (getD table n 0) × (getD table n 0 < 2
 unfolding table
 entry n h = passed n (getD table n 0) (at right table all-right n h)
 
-pub every-key : EveryKeyRight
+pub every-key-right : EveryKeyRight
 unfolding table
-every-key n h = entry n h .0
+every-key-right n h = entry n h .0
 
 pub entry-small : (n : ℕ) → n < 128 → getD table n 0 < 2 ^ 24
 unfolding table

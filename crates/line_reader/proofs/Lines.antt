@@ -13,13 +13,12 @@ use lib.Ieee.{Float}
 use Rattle.laws.proofs.Choice.{cond-true, cond-false}
 use Rattle.answer.specs.Numbers.{isTaken}
 use Rattle.answer.specs.declared.Answer.the-variants as answer
-use Rattle.formats.specs.Source.{Source}
-use Rattle.formats.specs.Reading.{Read, got, refused, andThen, numberFrom}
-use Rattle.formats.specs.Format.{named, found}
+use Rattle.formats.specs.Format.{Source, Read, got, refused, andThen, numberFrom, named, found}
 use Rattle.formats.specs.Description.{choose, pair, format}
 use Rattle.formats.specs.declared.Fault.{Fault}
 use Rattle.formats.specs.declared.Fault.the-variants as fault
-use Rattle.score_line.specs.Reading.{numberIs, realIs, whenIs, eventIs, smallFrom, floatFrom, whenFrom, eventFrom, valuesFrom, asEvent, withValues, afterCount, afterEvent, afterWhen, lineFrom, answerOf, refusedLine, lineRead, wholeRun, lineInWords, keypadLine}
+use Rattle.score_line.specs.inside.Reading.{numberIs, realIs, whenIs, eventIs, smallFrom, floatFrom, whenFrom, eventFrom, valuesFrom, asEvent, withValues, afterCount, afterEvent, afterWhen}
+use Rattle.score_line.specs.Reading.{lineFrom, answerOf, refusedLine, lineRead, wholeRun, lineInWords, keypadLine}
 use Rattle.score_line.specs.declared.When.{When}
 use Rattle.score_line.specs.declared.Label.{Label}
 use Rattle.score_line.specs.declared.Event.{Event}

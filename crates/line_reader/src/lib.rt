@@ -15,9 +15,10 @@ ghost use mathlib.Core.Path.{_≡_};
 ghost use Prim.Native.Nat.{_≤_};
 ghost use mathlib.Core.List.{[]};
 ghost use Rattle.bitstream.specs.Bits.{bitsOf};
-ghost use Rattle.formats.specs.Source.{sourceOf};
-ghost use Rattle.formats.specs.Reading.{got};
-ghost use Rattle.score_line.specs.Reading.{answerOf, valuesFrom, withValues, afterCount, afterEvent, afterWhen, lineFrom, refusedLine, lineRead, lineAt, lineInWords, keypadLine};
+ghost use Rattle.formats.specs.inside.Source.{sourceOf};
+ghost use Rattle.formats.specs.Format.{got};
+ghost use Rattle.score_line.specs.Reading.{answerOf, lineFrom, refusedLine, lineRead, lineAt, lineInWords, keypadLine};
+ghost use Rattle.score_line.specs.inside.Reading.{valuesFrom, withValues, afterCount, afterEvent, afterWhen};
 
 fn answer_of(f: Fault) -> Answer
     ensures { λ r. ⌜ r ≡ answerOf f ⌝ }

@@ -1,6 +1,5 @@
 -- What reading meets in the fields of any line, lawful or not. Assumes nothing.
-use Prim.Native.Nat.{ℕ, zero, suc, _+_, _≤_}
-use Prim.Native.Nat.{min as lesser}
+use Prim.Native.Nat.{ℕ, zero, suc, _+_, _≤_, min as lesser}
 use mathlib.Core.Path.{_≡_, refl, sym, ap, ap₂, _∙_, subst}
 use mathlib.Core.Bool.{Bool, _&&_, cond}
 use mathlib.Core.List.{List, [], _∷_, _++_, append-nil}
@@ -18,10 +17,7 @@ use Rattle.answer.specs.Numbers.{numberOf, isTaken}
 use Rattle.answer.specs.declared.Answer.{Answer}
 use Rattle.answer.specs.declared.Answer.the-variants as answer
 use Rattle.bitstream.specs.Fields.{farthest}
-use Rattle.formats.specs.Source.{Source, bitSource, keypadSource}
-use Rattle.formats.specs.Reading.{Read, got, refused, andThen}
-use Rattle.formats.specs.Fields.{Field, fieldBits, fieldWords}
-use Rattle.formats.specs.Format.{all}
+use Rattle.formats.specs.Format.{Source, bitSource, keypadSource, Read, got, refused, andThen, Field, fieldBits, fieldWords, all}
 use Rattle.formats.specs.Description.{format}
 use Rattle.formats.specs.declared.Fault.{Fault}
 use Rattle.formats.specs.declared.Fault.the-variants as fault
@@ -41,9 +37,9 @@ use Rattle.score_line.specs.declared.Line.{Line}
 use Rattle.score_line.specs.declared.LineRead.{LineRead}
 use Rattle.score_line.specs.declared.Range.{Range}
 use Rattle.score_line.specs.declared.Range.the-variants as range
-use Rattle.line_writer.specs.Fields.{lineFields, lineBits, lineBefore, lineWords}
-use Rattle.line_writer.specs.Writing.{lineFault}
-use Rattle.line_writer.specs.Claims.{taken, isSymbol, storedWhen, storedLabel, storedEvent, stored, meant, asRead, AnyRead, EveryLineRead, Meant, EveryMeant, FaultNumber, no-fault, out-of-range, too-many-values, FaultNumbers}
+use Rattle.line_writer.specs.Writing.{lineFields, lineBits, lineBefore, lineWords, lineFault}
+use Rattle.line_writer.specs.Claims.{taken, asRead, AnyRead, EveryLineRead, Meant, EveryMeant, FaultNumber, no-fault, out-of-range, too-many-values, FaultNumbers}
+use Rattle.line_writer.specs.Stored.{isSymbol, storedWhen, storedLabel, storedEvent, stored, meant}
 use Rattle.line_writer.proofs.LineLaw.{parts-proper, event-again, line-proper}
 use Rattle.line_writer.proofs.Proved.{length-line, before-append}
 

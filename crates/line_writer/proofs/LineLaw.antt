@@ -1,6 +1,5 @@
 -- What the line's format asks for the laws of all formats, and what they say of it. Assumes nothing.
-use Prim.Native.Nat.{ℕ, zero, suc, _+_, _-_, _*_, _^_, _<_, _≤_}
-use Prim.Native.Nat.{min as lesser}
+use Prim.Native.Nat.{ℕ, zero, suc, _+_, _-_, _*_, _^_, _<_, _≤_, min as lesser}
 use mathlib.Core.Path.{_≡_, refl, sym, ap, ap₂, _∙_, subst}
 use mathlib.Core.Bool.{Bool, true, _&&_}
 use mathlib.Core.List.{List, [], _∷_, _++_}
@@ -18,7 +17,8 @@ use Rattle.timebase.specs.Time.{finiteBits}
 use Rattle.timebase.proofs.Laws.{pattern-back, time-finite, duration-finite, tempo-finite}
 use Rattle.formats.specs.Format.{Format, named, all}
 use Rattle.formats.specs.Format as F
-use Rattle.formats.specs.Description.{format, timesLength, lengthOf}
+use Rattle.formats.specs.Description.{format}
+use Rattle.formats.specs.inside.Lengths.{timesLength, lengthOf}
 use Rattle.formats.proofs.Laws.{Law}
 use Rattle.formats.proofs.Descriptions.{Views, Proper, law}
 use Rattle.score_line.specs.LineFormat.{symbol, inRange, float, number, whenOf, whenParts, timed, when, labelOf, labelParts, label, Kind, instr, control, end, tempo, typeOf, kinds, kind, Body, labelled, body, counted, Values, values, Parts, afterTime, parts, eventOf, eventParts, countOf, listOf, valuesOf, zeroFloat, padded, lineWith, kindOf, partsOf, isZero, used, filled, line}

@@ -1,9 +1,8 @@
 -- Fields put into the code's arrays, one after the other. Assumes nothing.
-use Prim.Native.Nat.{ℕ, suc, _+_, _-_, _<_, _≤_}
+use Prim.Native.Nat.{ℕ, suc, _+_, _-_, _<_, _≤_, min as lesser}
 use mathlib.Core.Path.{_≡_, refl, sym, ap, ap₂, _∙_, subst}
 use mathlib.Core.Bool.{Bool, true, false, not, true≢false}
 use mathlib.Core.List.{List, [], _∷_, _++_, append-assoc, append-nil, map}
-use Prim.Native.Nat.{min as lesser}
 use native.Mathlib.Nat.{add-assoc, min-eq-left, min-eq-right}
 use native.Mathlib.Decide.{decLe}
 use native.Mathlib.Numerals.{add-one}
@@ -21,18 +20,16 @@ use Rattle.score_line.specs.declared.Label.{Label}
 use Rattle.score_line.specs.declared.Label.the-variants.{Unlabelled, Labelled}
 use Rattle.score_line.specs.declared.Event.{Event}
 use Rattle.score_line.specs.declared.Event.the-variants.{Instr, Control, End, Tempo}
-use Rattle.formats.specs.Fields.{Field, of, fieldWords, fieldWidths, widths}
-use Rattle.formats.specs.Format.{small, timesFields}
+use Rattle.formats.specs.Format.{Field, of, fieldWords, small, timesFields}
+use Rattle.formats.specs.inside.Lengths.{fieldWidths, widths}
 use Rattle.formats.specs.Description.{format}
 use Rattle.formats.proofs.InWords.{length-words}
 use Rattle.formats.proofs.Descriptions.{append}
-use Rattle.line_writer.specs.Fields.{flag, float, whenBefore, labelBefore, eventBefore, valueFields, lineFields}
-use Rattle.line_writer.specs.Packed.{toEighteen, packed, Room, Joined}
+use Rattle.line_writer.specs.inside.Fields.{flag, float, whenBefore, labelBefore, eventBefore, valueFields}
+use Rattle.line_writer.specs.Writing.{lineFields, toEighteen}
+use Rattle.line_writer.specs.inside.Packed.{packed, Room, Joined}
 use Rattle.line_writer.specs.declared.Fields.{Fields}
-use Rattle.score_line.specs.LineFormat.{timed, when, label, kind, body, eventParts, kindOf, number, counted, afterTime, parts, line}
-use Rattle.score_line.specs.LineFormat.{labelled as labelled·format}
-use Rattle.score_line.specs.LineFormat.{float as real}
-use Rattle.score_line.specs.LineFormat.{values as values·format}
+use Rattle.score_line.specs.LineFormat.{timed, when, label, kind, body, eventParts, kindOf, number, counted, afterTime, parts, line, labelled as labelled·format, float as real, values as values·format}
 use Rattle.score_line.specs.declared.Range.the-variants as range
 
 -- ---- a float's bits

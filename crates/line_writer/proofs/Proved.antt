@@ -13,11 +13,9 @@ use lib.Ieee.Fits.{and-l}
 use Rattle.answer.specs.Numbers.{isTaken}
 use Rattle.answer.specs.declared.Answer.the-variants as answer
 use Rattle.bitstream.specs.Fields.{farthest}
-use Rattle.formats.specs.Source.{Source, bitSource, keypadSource}
-use Rattle.formats.specs.Reading.{Read, got, refused}
-use Rattle.formats.specs.Fields.{fieldWords, widths}
-use Rattle.formats.specs.Format.{all}
-use Rattle.formats.specs.Description.{format, lengthOf}
+use Rattle.formats.specs.Format.{Source, bitSource, keypadSource, Read, got, refused, fieldWords, all}
+use Rattle.formats.specs.inside.Lengths.{widths, lengthOf}
+use Rattle.formats.specs.Description.{format}
 use Rattle.formats.specs.declared.Fault.{Fault}
 use Rattle.formats.specs.declared.Fault.the-variants as fault
 use Rattle.formats.proofs.Gives.{Gives, Bounded}
@@ -29,7 +27,7 @@ use Rattle.score_line.specs.LineFormat.{isZero, used, filled, partsOf, parts, l
 use Rattle.score_line.specs.Reading.{lineFrom, answerOf, refusedLine, lineRead, lineAt, lineInWords, wholeRun, keypadLine}
 use Rattle.score_line.specs.declared.Line.{Line}
 use Rattle.score_line.specs.declared.LineRead.{LineRead}
-use Rattle.line_writer.specs.Fields.{lineFields, lineBefore, lineBits, lineWords}
+use Rattle.line_writer.specs.Writing.{lineFields, lineBefore, lineBits, lineWords}
 use Rattle.line_writer.specs.Claims.{taken, BitsReadBack, WordsReadBack, BitsWrittenBack, WordsWrittenBack, BitsTellLines}
 use Rattle.line_writer.proofs.LineLaw.{line-law, line-most}
 

@@ -15,18 +15,19 @@ use mir.Val.{Fits}
 use mir.Syntax.{w64}
 use Rattle.answer.specs.declared.Answer.{Answer}
 use Rattle.bitstream.specs.Bits.{bitsOf, field}
-use Rattle.bitstream.specs.Fields.{farthest, over, written, put}
+use Rattle.bitstream.specs.Fields.{farthest, over, put}
+use Rattle.bitstream.specs.inside.Fields.{written}
 use Rattle.bitstream.proofs.Laws.{length-field, length-bitsOf}
 use Rattle.bitstream.proofs.Fields.{over-over, written-over}
 use Rattle.score_line.specs.Reading.{keypadLine}
 use Rattle.score_line.specs.declared.Line.{Line}
-use Rattle.formats.specs.Fields.{Field, of, fieldBits, fieldWords, fieldWidths, widths}
+use Rattle.formats.specs.Format.{Field, of, fieldBits, fieldWords}
+use Rattle.formats.specs.inside.Lengths.{fieldWidths, widths}
 use Rattle.formats.proofs.InBits.{length-bits}
 use Rattle.formats.proofs.InWords.{length-words}
 use Rattle.formats.proofs.Descriptions.{Narrow, narrow}
-use Rattle.line_writer.specs.Fields.{lineFields, lineBits, lineBefore, lineWords}
-use Rattle.line_writer.specs.Packed.{toEighteen, packed, zipped, fieldsIn, Writable, Wrote}
-use Rattle.line_writer.specs.Writing.{lineFault, lineSlot, bitsFit, lineOver, pastLine, LineWritten}
+use Rattle.line_writer.specs.Writing.{lineFields, lineBits, lineBefore, lineWords, toEighteen, lineFault, lineSlot, bitsFit, lineOver, pastLine, LineWritten}
+use Rattle.line_writer.specs.inside.Packed.{packed, zipped, fieldsIn, Writable, Wrote}
 use Rattle.line_writer.specs.declared.Fields.{Fields}
 use Rattle.line_writer.proofs.LineLaw.{line-proper}
 use Rattle.line_writer.proofs.Packs.{length-widths, sum-snoc}

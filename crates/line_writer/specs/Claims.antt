@@ -2,27 +2,19 @@
 -- proofs/Proved.antt and proofs/AnyLine.antt.
 use Prim.Native.Nat.{ℕ, _+_, _^_, _<_, _≤_}
 use mathlib.Core.Path.{_≡_}
-use mathlib.Core.Bool.{Bool, true, _&&_, cond}
+use mathlib.Core.Bool.{Bool, cond}
 use mathlib.Core.List.{List, _++_}
-use lib.Dec.{T, eqb, leb}
-use lib.Ieee.{Float, binary32, fits}
+use lib.Dec.{T}
 use lib.ListN.{length, getD, take, drop}
 use Rattle.answer.specs.Numbers.{numberOf, isTaken}
 use Rattle.answer.specs.declared.Answer.the-variants as answer
 use Rattle.bitstream.specs.Fields.{farthest}
-use Rattle.formats.specs.Format.{all}
-use Rattle.score_line.specs.LineFormat.{lawful, used, padded}
+use Rattle.score_line.specs.LineFormat.{lawful}
 use Rattle.score_line.specs.Reading.{lineAt, lineInWords, keypadLine, refusedLine}
-use Rattle.score_line.specs.declared.When.{When}
-use Rattle.score_line.specs.declared.When.the-variants.{Timed, Untimed}
-use Rattle.score_line.specs.declared.Label.{Label}
-use Rattle.score_line.specs.declared.Label.the-variants.{Unlabelled, Labelled}
-use Rattle.score_line.specs.declared.Event.{Event}
-use Rattle.score_line.specs.declared.Event.the-variants.{Instr, Control, End, Tempo}
 use Rattle.score_line.specs.declared.Line.{Line}
 use Rattle.score_line.specs.declared.LineRead.{LineRead}
-use Rattle.line_writer.specs.Fields.{lineBefore, lineBits, lineWords}
-use Rattle.line_writer.specs.Writing.{lineFault}
+use Rattle.line_writer.specs.Writing.{lineBefore, lineBits, lineWords, lineFault}
+use Rattle.line_writer.specs.Stored.{stored, meant}
 
 -- a line that was taken, and the position past it
 abbrev pub taken : Line → ℕ → LineRead
@@ -58,31 +50,6 @@ abbrev pub BitsTellLines : Type 0
 BitsTellLines = (a b : Line) (r t : List Bool) → T (lawful a) → T (lawful b) → lineBefore a r ≡ lineBefore b t → (a ≡ b) × (r ≡ t)
 
 -- ---- any line that the code can hold, lawful or not
-
-abbrev pub isSymbol : ℕ → Bool
-isSymbol n = leb n 65535
-
-abbrev pub storedWhen : When → Bool
-storedWhen Untimed = true
-storedWhen (Timed late t) = fits binary32 t
-
-abbrev pub storedLabel : Label → Bool
-storedLabel Unlabelled = true
-storedLabel (Labelled n) = isSymbol n
-
-abbrev pub storedEvent : Event → Bool
-storedEvent (Instr label instrument duration) = storedLabel label && (isSymbol instrument && fits binary32 duration)
-storedEvent (Control label variable value) = isSymbol label && (isSymbol variable && fits binary32 value)
-storedEvent End = true
-storedEvent (Tempo tempo) = fits binary32 tempo
-
--- every float has 32 bits, every symbol 16, and there are eight places for values: a line as its type says
-abbrev pub stored : Line → Bool
-stored l = storedWhen (l .when) && (storedEvent (l .event) && (eqb (length (l .values)) 8 && all (fits binary32) (l .values)))
-
--- a line as it is meant: the places that it does not use are zero, and a line that is no instr line has no values
-abbrev pub meant : Line → Line
-meant l = record { when = l .when; priority = l .priority; event = l .event; count = used l; values = padded (take (used l) (l .values)) }
 
 -- what reading a line's own fields gives: the line as it is meant, or its fault
 abbrev pub asRead : Line → ℕ → LineRead

@@ -1,4 +1,4 @@
-pub mod Fields
-pub mod Packed
 pub mod Writing
 pub mod Claims
+pub mod Stored
+pub mod inside

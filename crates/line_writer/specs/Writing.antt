@@ -1,16 +1,37 @@
--- What the writer of lines gives. Definitions only.
-use Prim.Native.Nat.{ℕ, _+_}
+-- A line's fields by its format, their bits and keypad numbers, and what the writer of lines gives. Definitions only.
+use Prim.Native.Nat.{ℕ, _+_, _-_}
 use mathlib.Core.Bool.{Bool, _&&_}
-use mathlib.Core.List.{List}
+use mathlib.Core.List.{List, [], _++_}
 use mathlib.Core.Path.{_≡_}
 use lib.Dec.{leb}
-use lib.ListN.{length}
+use lib.ListN.{length, replicate}
 use Rattle.answer.specs.declared.Answer.{Answer}
 use Rattle.bitstream.specs.Fields.{farthest, over, pick}
 use Rattle.score_line.specs.Reading.{keypadLine}
 use Rattle.score_line.specs.declared.Line.{Line}
-use Rattle.line_writer.specs.Fields.{lineBits, lineWords}
-use Rattle.line_writer.specs.Packed.{toEighteen}
+use Rattle.formats.specs.Format.{Field, fieldBits, fieldWords}
+use Rattle.formats.specs.Description.{format}
+use Rattle.score_line.specs.LineFormat.{line}
+
+-- each field with its width and its number
+abbrev pub lineFields : Line → List Field
+lineFields l = format line .fields l []
+
+unfoldable pub lineBefore : Line → List Bool → List Bool
+unfolding fieldBits
+lineBefore l rest = fieldBits (lineFields l) rest
+
+unfoldable pub lineBits : Line → List Bool
+unfolding lineBefore
+lineBits l = lineBefore l []
+
+unfoldable pub lineWords : Line → List ℕ
+unfolding fieldWords
+lineWords l = fieldWords (lineFields l)
+
+-- zeros to the end of an array of 18
+unfoldable pub toEighteen : List ℕ → List ℕ
+toEighteen l = l ++ replicate (18 - length l) 0
 
 -- the fault that reading would meet in a line as it stands, 0 for none
 unfoldable pub lineFault : Line → Answer

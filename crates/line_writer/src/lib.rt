@@ -6,15 +6,14 @@ use score_line::Line;
 use score_line::When;
 ghost use mathlib.Core.Path.{_≡_};
 ghost use mathlib.Core.List.{[], _∷_, map};
-ghost use Prim.Native.Nat.{_*_, _≤_};
-ghost use Prim.Native.Nat.{min as lesser};
+ghost use Prim.Native.Nat.{_*_, _≤_, min as lesser};
 ghost use lib.ListN.{length, take};
 ghost use lib.Ieee.{binary32, toBits};
 ghost use Rattle.bitstream.specs.Bits.{bitsOf, digit};
-ghost use Rattle.formats.specs.Fields.{of};
-ghost use Rattle.line_writer.specs.Fields.{float, whenBefore, labelBefore, eventBefore, valueFields, lineFields, lineBits};
-ghost use Rattle.line_writer.specs.Packed.{packed, Room, Joined, fieldsIn, Writable, Wrote};
-ghost use Rattle.line_writer.specs.Writing.{lineFault, lineSlot, bitsFit, LineWritten};
+ghost use Rattle.formats.specs.Format.{of};
+ghost use Rattle.line_writer.specs.inside.Fields.{float, whenBefore, labelBefore, eventBefore, valueFields};
+ghost use Rattle.line_writer.specs.Writing.{lineFields, lineBits, lineFault, lineSlot, bitsFit, LineWritten};
+ghost use Rattle.line_writer.specs.inside.Packed.{packed, Room, Joined, fieldsIn, Writable, Wrote};
 ghost use Rattle.score_line.specs.Reading.{keypadLine};
 
 // The last position at which a field may begin.

@@ -11,7 +11,7 @@ use Rattle.laws.proofs.Lists.{map-append}
 use Rattle.tokens.specs.declared.Token.{Token}
 use Rattle.syntax.specs.Tree.{Expr, number, name, unary, binary, choose, Statements, done, assign, output, branch, Declaration, Instrument, fieldKind}
 use Rattle.syntax.specs.Names.{named, namedBy, namesOf}
-use Rattle.syntax.specs.Program.{Ins, compile, code, declare, declared, program}
+use Rattle.syntax.specs.inside.Program.{Ins, compile, code, declare, declared, program}
 use Rattle.syntax.specs.Grammar as grammar
 use Rattle.syntax.specs.Grammar.{Kinds, Decls, Instr, Orchestra}
 use Rattle.rules.specs.Formed.{opsOf, argsOf}

@@ -4,8 +4,8 @@ use mathlib.Core.Path.{_≡_, refl}
 use mathlib.Core.List.{List, [], _∷_, map}
 use Rattle.tokens.specs.declared.Token.{Token}
 use Rattle.syntax.specs.Tree.{Declaration, Instrument}
-use Rattle.syntax.specs.Program.{actOf}
-use Rattle.syntax.specs.Placed.{placed}
+use Rattle.syntax.specs.inside.Program.{actOf}
+use Rattle.syntax.specs.inside.Placed.{placed}
 use Rattle.syntax.specs.declared.Act.the-variants.{Declare}
 use Rattle.syntax.specs.Grammar as grammar
 use Rattle.syntax.specs.Grammar.{Kinds, Decls, Instr, Orchestra}

@@ -11,8 +11,8 @@ use Rattle.tokens.specs.declared.Token.{Token}
 use Rattle.tokens.specs.Measures.{measured}
 use Rattle.syntax.specs.Tree.{Instrument}
 use Rattle.syntax.specs.Names.{mostInstruments, nameRules}
-use Rattle.syntax.specs.Placed.{placed}
-use Rattle.syntax.specs.Program.{zeroF, program, instrument}
+use Rattle.syntax.specs.inside.Placed.{placed}
+use Rattle.syntax.specs.inside.Program.{zeroF, program, instrument}
 use Rattle.syntax.specs.Grammar.{Orchestra}
 use Rattle.rules.specs.Formed.{opOf, argOf, opsOf, argsOf, valsOf}
 use Rattle.operations.specs.Words.{codeSize, programSize}
@@ -23,7 +23,7 @@ use Rattle.loader_claims.specs.Code.{wordsOf, startsOf, ProgramCode}
 use Rattle.loader_claims.proofs.Stretches.{program-code}
 use Rattle.loader_claims.proofs.KindsAll.{orchestra-kinds}
 use Rattle.orchestra.specs.declared.Outcome.{Outcome}
-use Rattle.orchestra.specs.Compiled.{padded, laid, headsFrom, compile}
+use Rattle.orchestra.specs.inside.Compiled.{padded, laid, headsFrom, compile}
 use Rattle.orchestra.proofs.Heads.{at-most-8}
 use Rattle.orchestra.proofs.Verdict.{accepted-exactly}
 use Rattle.kept_orchestra.specs.declared.Instrument as row

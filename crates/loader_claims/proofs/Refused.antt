@@ -5,7 +5,7 @@ use lib.ListN.{replicate}
 use Rattle.syntax.specs.Names.{mostInstruments}
 use Rattle.operations.specs.Words.{codeSize}
 use Rattle.lowering.specs.Orchestra.{codeOf, rateOfProgram, walkFrom, filled}
-use Rattle.orchestra.specs.Compiled as compiled
+use Rattle.orchestra.specs.inside.Compiled as compiled
 use Rattle.orchestra.proofs.Verdict.{refused-blank as read-blank}
 use Rattle.kept_orchestra.specs.Kept.{blank}
 use Rattle.loader.specs.Loading.{mostStarts, laidIn, rowsFrom, programOf, keptOf, loadOf}

@@ -10,8 +10,8 @@ use Rattle.laws.proofs.Lists.{map-append}
 use Rattle.tokens.specs.declared.Token.{Token}
 use Rattle.tokens.specs.Measures.{measured}
 use Rattle.syntax.specs.Tree.{Instrument}
-use Rattle.syntax.specs.Placed.{placed}
-use Rattle.syntax.specs.Program.{Ins, insArg, instrOp, instrument, program}
+use Rattle.syntax.specs.inside.Placed.{placed}
+use Rattle.syntax.specs.inside.Program.{Ins, insArg, instrOp, instrument, program}
 use Rattle.syntax.specs.Grammar.{Orchestra}
 use Rattle.rules.specs.Formed.{opOf, argOf, opsOf, argsOf, valsOf}
 use Rattle.operations.specs.Words.{codeSize, notePlaces}
@@ -22,7 +22,7 @@ use Rattle.bounds.specs.Sizes.{bodyAt}
 use Rattle.bounds.proofs.Sounding.{instrument-sounds}
 use Rattle.loader_claims.specs.Code.{wordsOf, startsOf, InstrumentCode}
 use Rattle.loader_claims.proofs.Stretches.{instrument-code, getD-filled}
-use Rattle.orchestra.specs.Compiled.{headsFrom}
+use Rattle.orchestra.specs.inside.Compiled.{headsFrom}
 use Rattle.kept_orchestra.specs.declared.Instrument as row
 use Rattle.voices.specs.Represents.{Row, Rows}
 use Rattle.loader.specs.Loading.{mostStarts, laidIn, noImport, fieldCount, importsAt, rowAt, rowsFrom}

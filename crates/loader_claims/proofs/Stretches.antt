@@ -7,7 +7,7 @@ use lib.ListN.{length, getD, drop, replicate, length-append, List·getD-append}
 use lib.Seq.{take-at, drop-at, getD-append-add}
 use lib.Ieee.{Float}
 use Rattle.syntax.specs.Tree.{Instrument}
-use Rattle.syntax.specs.Program.{instrument, program}
+use Rattle.syntax.specs.inside.Program.{instrument, program}
 use Rattle.rules.specs.Formed.{opsOf, argsOf}
 use Rattle.synth.specs.Passes.{stretch}
 use Rattle.operations.specs.Words.{notePlaces}

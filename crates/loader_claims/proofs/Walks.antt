@@ -7,8 +7,7 @@ use lib.ListN.{length, length-append}
 use lib.Ieee.{Float}
 use borrow.Author.Tests.{ne-eqb}
 use Rattle.syntax.specs.Tree.{Expr, number, name, unary, binary, choose, Statements, done, assign, output, branch, Declaration, Instrument, fieldKind}
-use Rattle.syntax.specs.Program.{unaryOp, binaryOp}
-use Rattle.syntax.specs.Program.{Ins, ins, insArg, actOf, instrOp, compile, code as codeOfTree, declare, declared, instrument, program, storeOp, outputOp, ifOp, elseOp, endOp, chooseOp}
+use Rattle.syntax.specs.inside.Program.{unaryOp, binaryOp, Ins, ins, insArg, actOf, instrOp, compile, code as codeOfTree, declare, declared, instrument, program, storeOp, outputOp, ifOp, elseOp, endOp, chooseOp}
 use Rattle.syntax.specs.declared.Act.the-variants.{Value, Declare, Instr}
 use Rattle.syntax.proofs.Operations.{unary-value, binary-value}
 use Rattle.rules.specs.Formed.{FormedKinds, opsOf, argsOf}

@@ -7,7 +7,7 @@ use Rattle.syntax.specs.Names.{mostInstruments}
 use Rattle.answer.specs.declared.Answer.the-variants.{Taken}
 use Rattle.tokens.specs.Spelling.{Bytes}
 use Rattle.syntax.specs.Tree.{Instrument}
-use Rattle.syntax.specs.Program.{zeroF}
+use Rattle.syntax.specs.inside.Program.{zeroF}
 use Rattle.operations.specs.Words.{codeSize, programSize}
 use Rattle.kept_orchestra.specs.Kept.{blank}
 use Rattle.orchestra.specs.Verdict.{Accepted}

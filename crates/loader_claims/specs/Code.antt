@@ -5,7 +5,7 @@ use mathlib.Core.List.{List, [], _∷_, _++_}
 use lib.ListN.{length, getD}
 use lib.Ieee.{Float}
 use Rattle.syntax.specs.Tree.{Instrument}
-use Rattle.syntax.specs.Program.{instrument, program}
+use Rattle.syntax.specs.inside.Program.{instrument, program}
 use Rattle.rules.specs.Formed.{FormedKinds, opsOf, argsOf}
 use Rattle.synth.specs.Passes.{stretch}
 use Rattle.translation.specs.Translation.{lowered}

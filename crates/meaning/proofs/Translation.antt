@@ -13,15 +13,15 @@ use Rattle.laws.proofs.Choice.{both-true}
 use Rattle.syntax.specs.Tree.{Expr, number, name, unary, binary, choose, Statements, done, assign, output, branch, Instrument}
 use Rattle.syntax.specs.Names.{Named, named, namedBy, namesOf, symbols, has, knownIn, known, namesKept}
 use Rattle.syntax.specs.Rates.{Rate, iRate, kRate, aRate, same, rateOf}
-use Rattle.syntax.specs.Placed.{speed, placeOf, place, putIn, put}
+use Rattle.syntax.specs.inside.Placed.{speed, placeOf, place, putIn, put}
 use Rattle.syntax.proofs.Places.{kept, index, place-is, place-low, apart-in}
 use Rattle.syntax.proofs.Rates.{name-rate, speed-same}
 use Rattle.float32.specs.Builtins.{zeroF, truth, selectOf}
 use Rattle.signs.specs.Operators.{unaryDoes}
-use Rattle.meaning.specs.Placed as placed
+use Rattle.meaning.specs.inside.Placed as placed
 use Rattle.meaning.specs.Meaning as M
 use Rattle.meaning.specs.Meaning.{Environment, Memory, Working, seen, assigned, heard, value, pass, birth, aPasses, cycle}
-use Rattle.meaning.specs.Translation.{bodyOf, Stands, Alike, ValueAgrees, PassAgrees, BirthAgrees, CycleAgrees}
+use Rattle.meaning.specs.inside.Translation.{bodyOf, Stands, Alike, ValueAgrees, PassAgrees, BirthAgrees, CycleAgrees}
 
 -- ---- values and passes
 

@@ -1,4 +1,2 @@
 pub mod Meaning
-pub mod Placed
-pub mod Translation
-pub mod Outputs
+pub mod inside

@@ -6,8 +6,8 @@ use native.Mathlib.Nat.{mod-lt}
 use lib.Dec.{eqb, lit≤}
 use lib.ListN.{getD}
 use Rattle.messages.specs.Message.{kind, channelOf, noteOff, noteOn, heard}
-use Rattle.messages.specs.Writing.{Call, whole, fault, before, AllData, Says, nothing, written, running, system, stray, cut, running-cut, Lawful, AllLawful, LawfulCall}
-use Rattle.messages.specs.Reading.{EveryMessageLawful}
+use Rattle.messages.specs.Writing.{Call, whole, fault, before, AllData, Says, nothing, written, running, system, stray, cut, running-cut}
+use Rattle.messages.specs.Claims.{Lawful, AllLawful, LawfulCall, EveryMessageLawful}
 use Rattle.messages.specs.declared.Heard.{Heard}
 use Rattle.messages.specs.declared.Heard.the-variants.{Note, Other}
 use Rattle.messages.proofs.Meaning.{every-call}

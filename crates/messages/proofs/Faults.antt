@@ -3,7 +3,7 @@ use mathlib.Core.List.{List}
 use Prim.Native.Nat.{ℕ}
 use Rattle.answer.specs.declared.Answer.the-variants.{CutShort, NotCarried}
 use Rattle.messages.specs.Writing.{Call, whole, fault, before, Says, nothing, written, running, system, stray, cut, running-cut}
-use Rattle.messages.specs.Reading.{callOf}
+use Rattle.messages.specs.inside.Reading.{callOf}
 use Rattle.messages.specs.declared.Heard.{Heard}
 use Rattle.messages.specs.declared.Heard.the-variants.{Note, Other}
 use Rattle.messages.specs.declared.Message.{Message}

@@ -12,8 +12,8 @@ use Rattle.laws.proofs.Choice.{cond-true, cond-false}
 use Rattle.answer.specs.declared.Answer.{Answer}
 use Rattle.answer.specs.declared.Answer.the-variants.{Taken, CutShort}
 use Rattle.messages.specs.Writing.{Call, whole, fault, before}
-use Rattle.messages.specs.Reading.{start, stepped, behind, callFrom, callOf, most, blank, padded, hand, gathered}
-use Rattle.messages.specs.Passes.{answered, added}
+use Rattle.messages.specs.inside.Reading.{start, stepped, behind, callFrom, callOf, most, blank, padded, hand, gathered}
+use Rattle.messages.specs.inside.Passes.{answered, added}
 use Rattle.messages.specs.declared.Message.{Message}
 use Rattle.messages.specs.declared.Heard.{Heard}
 use Rattle.messages.specs.declared.Heard.the-variants.{Note, Other}

@@ -13,7 +13,8 @@ use Rattle.laws.proofs.Choice.{cond-true, cond-false}
 use Rattle.answer.specs.declared.Answer.the-variants.{CutShort, NotCarried}
 use Rattle.messages.specs.Message.{firstStatus, firstSystem, none, kind, dataBytes, heard}
 use Rattle.messages.specs.Writing.{Call, whole, fault, before, AllData, Whole, Part, Stops, at-end, at-status, Says, nothing, written, running, system, stray, cut, running-cut}
-use Rattle.messages.specs.Reading.{place, given, resumed, begun, stepped, behind, callFrom, callOf, EveryCall, OneMeaning}
+use Rattle.messages.specs.inside.Reading.{place, given, resumed, begun, stepped, behind, callFrom, callOf}
+use Rattle.messages.specs.Claims.{EveryCall, OneMeaning}
 use Rattle.messages.specs.declared.Heard.the-variants.{Other}
 use Rattle.messages.specs.declared.Step.{Step}
 use Rattle.messages.specs.declared.Step.the-variants.{Stops as Halts}

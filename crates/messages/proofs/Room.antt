@@ -10,7 +10,7 @@ use lib.ListN.{length, take}
 use lib.Seq.{take-all, length-take-le}
 use Rattle.answer.specs.declared.Answer.the-variants.{Taken}
 use Rattle.messages.specs.Writing.{whole}
-use Rattle.messages.specs.Reading.{most, hand, gathered}
+use Rattle.messages.specs.inside.Reading.{most, hand, gathered}
 use Rattle.messages.specs.declared.Message.{Message}
 
 pub all-handed-on : (ms : List Message) → length ms ≤ most → gathered (whole ms) ≡ hand ms Taken

@@ -7,8 +7,8 @@ use lib.ListN.{set, replicate}
 use Rattle.answer.specs.declared.Answer.the-variants.{Taken}
 use Rattle.laws.proofs.Choice.{cond-true, cond-false}
 use Rattle.messages.specs.Message.{firstSystem, none, dataBytes}
-use Rattle.messages.specs.Reading.{place, given, resumed, begun, most, blank, hand}
-use Rattle.messages.specs.Passes.{added}
+use Rattle.messages.specs.inside.Reading.{place, given, resumed, begun, most, blank, hand}
+use Rattle.messages.specs.inside.Passes.{added}
 use Rattle.messages.specs.declared.Message.{Message}
 use Rattle.messages.specs.declared.Heard.{Heard}
 use Rattle.messages.specs.declared.Heard.the-variants.{Note, Other}

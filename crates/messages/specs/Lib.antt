@@ -1,4 +1,4 @@
 pub mod Message
 pub mod Writing
-pub mod Reading
-pub mod Passes
+pub mod Claims
+pub mod inside

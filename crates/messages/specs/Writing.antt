@@ -55,17 +55,3 @@ pub data Says : ℕ → List ℕ → Call → Type 0 where
   -- a message cut by the end or any status byte
   cut : {s k : ℕ} {ds bs : List ℕ} → Part k ds → Stops bs → Says s (k ∷ (ds ++ bs)) (fault CutShort)
   running-cut : {s d : ℕ} {ds bs : List ℕ} → Part s (d ∷ ds) → Stops bs → Says s (d ∷ (ds ++ bs)) (fault CutShort)
-
--- a message's channel is below 16, its key and its velocity below 128
-pub record Lawful (m : Message) : Type 0 where
-  pub channel : m .channel < 16
-  pub key : m .key < 128
-  pub velocity : m .velocity < 128
-
-unfoldable pub AllLawful : List Message → Type 0
-AllLawful [] = Unit {0}
-AllLawful (m ∷ ms) = Lawful m × AllLawful ms
-
-unfoldable pub LawfulCall : Call → Type 0
-LawfulCall (whole ms) = AllLawful ms
-LawfulCall (fault a) = Unit {0}

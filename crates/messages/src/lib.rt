@@ -4,8 +4,8 @@ ghost use mathlib.Core.Path.{_≡_};
 ghost use mathlib.Core.List.{[]};
 ghost use Rattle.answer.specs.declared.Answer.the-variants.{Taken};
 ghost use Rattle.messages.specs.Message.{dataBytes, noteOff, noteOn, heard};
-ghost use Rattle.messages.specs.Reading.{given as givenOf, resumed as resumedOf, begun as begunOf, stepped, callOf, hand, gathered};
-ghost use Rattle.messages.specs.Passes.{added, answered as answeredOf};
+ghost use Rattle.messages.specs.inside.Reading.{given as givenOf, resumed as resumedOf, begun as begunOf, stepped, callOf, hand, gathered};
+ghost use Rattle.messages.specs.inside.Passes.{added, answered as answeredOf};
 
 // A note-on, or a note-off, which has velocity 0.
 pub struct Message {

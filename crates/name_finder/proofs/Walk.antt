@@ -14,7 +14,8 @@ use lib.Seq.{drop-cons, drop-drop}
 use lib.Dec.{leb, eqb}
 use Rattle.laws.proofs.Choice.{cond-true, cond-false}
 use Rattle.names.specs.Form.{Names}
-use Rattle.names.specs.Asking.{before, listOf, nameAmong, nameIn, unlessEmpty, nameFound}
+use Rattle.names.specs.inside.Asking.{before, listOf, nameAmong, nameIn}
+use Rattle.names.specs.Asking.{unlessEmpty, nameFound}
 use Rattle.names.proofs.Lists.{list-none, list-entry, list-cut}
 use Rattle.name_finder.specs.Places.{between, Stands}
 use Rattle.name_finder.specs.declared.Place.{Place}

@@ -3,7 +3,7 @@ use Prim.Native.Nat.{ℕ, _-_, _≤_}
 use mathlib.Core.Path.{_≡_}
 use mathlib.Core.List.{List}
 use lib.ListN.{length, take, drop}
-use Rattle.names.specs.Asking.{nameIn}
+use Rattle.names.specs.inside.Asking.{nameIn}
 use Rattle.name_finder.specs.declared.Place.{Place}
 
 -- the bytes from one place to another

@@ -2,7 +2,8 @@
 ghost use mathlib.Core.Path.{_≡_};
 ghost use mathlib.Core.Bool.{cond};
 ghost use lib.Dec.{eqb};
-ghost use Rattle.names.specs.Asking.{nameIn, nameFound};
+ghost use Rattle.names.specs.inside.Asking.{nameIn};
+ghost use Rattle.names.specs.Asking.{nameFound};
 ghost use Rattle.name_finder.specs.Places.{Stands};
 
 // A stretch of a list, from one place to another.

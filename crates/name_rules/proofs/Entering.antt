@@ -12,7 +12,7 @@ use borrow.Author.Tests.{lt-ltb, le-ltb}
 use denote.Enum.Declared.{tagOf}
 use types.Run.{OneOf, miss}
 use Rattle.syntax.specs.Names.{Named, symbols, has}
-use Rattle.syntax.specs.Placed.{place}
+use Rattle.syntax.specs.inside.Placed.{place}
 use Rattle.syntax.specs.declared.Act.{Act}
 use Rattle.syntax.specs.declared.Act.the-variants.{Value, Name, Store, Output, If, Else, End, Declare, Instr}
 use Rattle.syntax.proofs.Act.{the-type}

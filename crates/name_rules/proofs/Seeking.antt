@@ -10,8 +10,7 @@ use lib.Seq.{drop-cons, getD-take, length-take-le}
 use lib.Dec.{eqb, leb, ltb, leb·suc-suc}
 use borrow.Author.Tests.{eq-eqb, ne-eqb, lt-ltb, le-ltb, lt-leb, le-leb, ltb-true, ltb-false}
 use Rattle.syntax.specs.Names.{symbols, has}
-use Rattle.syntax.specs.Placed.{placeFrom, place}
-use Rattle.syntax.specs.Placed.{speedOfKind}
+use Rattle.syntax.specs.inside.Placed.{placeFrom, place, speedOfKind}
 use Rattle.name_rules.specs.Table.{ownOf, seekIn}
 
 -- ---- the loop of `seek`

@@ -7,7 +7,7 @@ ghost use mathlib.Core.List.{List};
 ghost use lib.ListN.{length, take};
 ghost use lib.Dec.{ltb};
 ghost use Rattle.syntax.specs.Names.{has};
-ghost use Rattle.syntax.specs.Placed.{place as placeOf, speedOfKind};
+ghost use Rattle.syntax.specs.inside.Placed.{place as placeOf, speedOfKind};
 ghost use Rattle.name_rules.specs.Entries.{lawful, namesAfter, titlesAfter, placedName};
 ghost use Rattle.name_rules.specs.Table.{seekIn, own};
 

@@ -13,11 +13,11 @@ use Rattle.laws.proofs.Choice.{cond-false}
 use Rattle.answer.specs.declared.Answer.{Answer}
 use Rattle.answer.specs.declared.Answer.the-variants.{Taken, NoRoom}
 use Rattle.bitstream.specs.Bits.{bitsOf, valueOf}
-use Rattle.bitstream.specs.Fields.{Room}
+use Rattle.bitstream.specs.inside.Fields.{Room}
 use Rattle.bitstream.specs.Filling.{bytesFrom}
 use Rattle.bitstream.proofs.Laws.{length-bitsOf}
-use Rattle.names.specs.Form.{Names, lengthBits, listBytes}
-use Rattle.names.specs.Reading.{Read, namesFrom, Table, holds, refused, tableOf}
+use Rattle.names.specs.Form.{Names, lengthBits, listBytes, Table, holds, refused}
+use Rattle.names.specs.inside.Reading.{Read, namesFrom, tableOf}
 use Rattle.names.specs.Asking.{Unpacking, unpacking, laid, unpackingOf}
 use Rattle.names.proofs.Asked.{unpacked}
 use Rattle.name_unpacker.specs.Passes.{numberAt, namesOf, judgement, listed, isWhole, Fits, laidAt, entryAt, Copies, Entry, NameLaid, Left}

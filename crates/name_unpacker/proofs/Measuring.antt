@@ -13,15 +13,15 @@ use lib.Dec.{leb, ltb, eqb}
 use Rattle.laws.proofs.Choice.{cond-true, cond-false}
 use Rattle.answer.specs.declared.Answer.the-variants.{CutShort, LeftOver}
 use Rattle.bitstream.specs.Bits.{bitsOf, valueOf}
-use Rattle.bitstream.specs.Fields.{Room, roomFor}
+use Rattle.bitstream.specs.inside.Fields.{Room}
+use Rattle.bitstream.specs.Fields.{roomFor, readAt}
 use Rattle.bitstream.specs.Filling.{filled, bytesFrom}
-use Rattle.bitstream.specs.Reads.{readAt}
 use Rattle.bitstream.specs.declared.Got.{Got}
 use Rattle.bitstream.specs.declared.Got.the-variants.{Value, Short}
 use Rattle.bitstream.proofs.Laws.{length-bitsOf, valueOf-lt}
 use Rattle.bitstream.proofs.Fields.{read-back, room-yes}
-use Rattle.names.specs.Form.{Names, countBits, lengthBits, namesBits, listBytes}
-use Rattle.names.specs.Reading.{Read, got, cut, andThen, numberFrom, namesFrom, tableFrom, holds, refused, isFilling, judged, tableOf}
+use Rattle.names.specs.Form.{Names, countBits, lengthBits, namesBits, listBytes, holds, refused}
+use Rattle.names.specs.inside.Reading.{Read, got, cut, andThen, numberFrom, namesFrom, tableFrom, isFilling, judged, tableOf}
 use Rattle.names.proofs.Table.{Met, whole, begun, Many, names-met}
 use Rattle.name_unpacker.specs.Passes.{numberAt, namesOf, Counted, measured, judgement}
 use Rattle.name_unpacker.specs.declared.Extent.{Extent}

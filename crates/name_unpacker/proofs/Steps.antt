@@ -12,15 +12,15 @@ use lib.Seq.{drop-drop, length-take-le}
 use lib.Dec.{ltb}
 use Rattle.laws.proofs.Choice.{cond-true, cond-false}
 use Rattle.bitstream.specs.Bits.{bitsOf, valueOf}
-use Rattle.bitstream.specs.Fields.{Room}
+use Rattle.bitstream.specs.inside.Fields.{Room}
 use Rattle.bitstream.specs.Filling.{bytesFrom}
-use Rattle.bitstream.specs.Reads.{readAt}
+use Rattle.bitstream.specs.Fields.{readAt}
 use Rattle.bitstream.specs.declared.Got.{Got}
 use Rattle.bitstream.specs.declared.Got.the-variants.{Value, Short}
 use Rattle.bitstream.proofs.Laws.{length-bitsOf, valueOf-lt}
 use Rattle.bitstream.proofs.Fields.{room-yes}
 use Rattle.names.specs.Form.{Names, lengthBits, listBytes}
-use Rattle.names.specs.Reading.{Read, got, cut, andThen, numberFrom, stretchFrom, nameFrom, namesFrom}
+use Rattle.names.specs.inside.Reading.{Read, got, cut, andThen, numberFrom, stretchFrom, nameFrom, namesFrom}
 use Rattle.name_unpacker.specs.Passes.{numberAt, listed, isWhole, entryAt}
 
 -- ---- the tests and reads of the code

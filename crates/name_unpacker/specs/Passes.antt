@@ -6,8 +6,8 @@ use mathlib.Core.List.{List, [], _∷_, _++_}
 use lib.ListN.{length, take, drop}
 use Rattle.bitstream.specs.Bits.{bitsOf, valueOf}
 use Rattle.bitstream.specs.Filling.{bytesFrom}
-use Rattle.names.specs.Form.{Names, countBits, lengthBits, listBytes}
-use Rattle.names.specs.Reading.{Read, got, cut, namesFrom, Table, holds, refused}
+use Rattle.names.specs.Form.{Names, countBits, lengthBits, listBytes, Table, holds, refused}
+use Rattle.names.specs.inside.Reading.{Read, got, cut, namesFrom}
 use Rattle.names.specs.Asking.{Unpacking}
 use Rattle.name_unpacker.specs.declared.Extent.{Extent}
 use Rattle.name_unpacker.specs.declared.Extent.the-variants.{Whole, Cut}

@@ -6,9 +6,9 @@ ghost use Prim.Native.Nat.{_*_, _^_, _<_};
 ghost use lib.ListN.{length, drop};
 ghost use lib.Dec.{ltb};
 ghost use Rattle.bitstream.specs.Bits.{bitsOf};
-ghost use Rattle.bitstream.specs.Fields.{Room};
+ghost use Rattle.bitstream.specs.inside.Fields.{Room};
 ghost use Rattle.bitstream.specs.Filling.{bytesFrom};
-ghost use Rattle.names.specs.Reading.{tableOf};
+ghost use Rattle.names.specs.inside.Reading.{tableOf};
 ghost use Rattle.names.specs.Asking.{laid, unpackingOf};
 ghost use Rattle.name_unpacker.specs.Passes.{numberAt, namesOf, Counted, measured, judgement, listed, Fits, laidAt, Copies, Entry, NameLaid, Left};
 

@@ -7,9 +7,10 @@ use lib.ListN.{length, drop}
 use lib.Seq.{take-at}
 use Rattle.laws.proofs.Choice.{cond-true}
 use Rattle.answer.specs.declared.Answer.the-variants.{Taken}
-use Rattle.names.specs.Form.{Names, listBytes}
-use Rattle.names.specs.Reading.{Table, holds, tableOf}
-use Rattle.names.specs.Asking.{nameIn, nameFound, unlessEmpty, unpackingOf, unpacking, Unpacking, laid}
+use Rattle.names.specs.Form.{Names, listBytes, Table, holds}
+use Rattle.names.specs.inside.Reading.{tableOf}
+use Rattle.names.specs.inside.Asking.{nameIn}
+use Rattle.names.specs.Asking.{nameFound, unlessEmpty, unpackingOf, unpacking, Unpacking, laid}
 use Rattle.names.specs.Claims.{piece, NamesFound}
 use Rattle.names.proofs.Table.{table-read}
 use Rattle.names.proofs.Lists.{name-in-list}

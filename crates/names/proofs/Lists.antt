@@ -11,7 +11,7 @@ use lib.Seq.{take-at, drop-at, length-take-le}
 use lib.Dec.{leb}
 use Rattle.laws.proofs.Choice.{cond-true, cond-false}
 use Rattle.names.specs.Form.{Names, listBytes}
-use Rattle.names.specs.Asking.{before, entries, listOf, nameAmong, nameIn}
+use Rattle.names.specs.inside.Asking.{before, entries, listOf, nameAmong, nameIn}
 use Rattle.names.specs.Claims.{ListRead, ListSpelled, OneList, NameInList, NoNameInOther}
 
 some-inj : (x y : Names) → some x ≡ some y → x ≡ y

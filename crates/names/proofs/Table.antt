@@ -16,8 +16,8 @@ use Rattle.bitstream.specs.Bits.{field, bitsOf, valueOf}
 use Rattle.bitstream.specs.Filling.{missing, filledUp, bytesFrom}
 use Rattle.bitstream.proofs.Laws.{length-field, valueOf-field, field-valueOf, valueOf-lt, length-bitsOf}
 use Rattle.bitstream.proofs.Filling.{zeros-value, value-zeros, filled-up, bits-bytesFrom, bytesFrom-bits}
-use Rattle.names.specs.Form.{Names, countBits, lengthBits, nameBits, namesBits, tableBits, Bytes, LawfulName, LawfulNames, LawfulTable}
-use Rattle.names.specs.Reading.{Read, got, cut, andThen, numberFrom, stretchFrom, nameFrom, namesFrom, tableFrom, holds, refused, isFilling, judged, tableOf}
+use Rattle.names.specs.Form.{Names, countBits, lengthBits, nameBits, namesBits, tableBits, Bytes, LawfulName, LawfulNames, LawfulTable, holds, refused}
+use Rattle.names.specs.inside.Reading.{Read, got, cut, andThen, numberFrom, stretchFrom, nameFrom, namesFrom, tableFrom, isFilling, judged, tableOf}
 use Rattle.names.specs.Claims.{LeftOver, Verdict, spells, is-cut, left-over, EveryTable, TableRead, TableCut, TableLeftOver, OneTable}
 
 -- what reading bits met: something lawful that stands there, or the beginning of it

@@ -9,9 +9,10 @@ use Rattle.answer.specs.declared.Answer.the-variants.{Taken, CutShort}
 use Rattle.answer.specs.declared.Answer.the-variants as answers
 use Rattle.bitstream.specs.Bits.{bitsOf}
 use Rattle.bitstream.specs.Filling.{filledUp}
-use Rattle.names.specs.Form.{Names, nameOf, tableBits, listBytes, LawfulTable}
-use Rattle.names.specs.Reading.{holds, refused, tableOf}
-use Rattle.names.specs.Asking.{listOf, nameIn, nameFound, unlessEmpty, unpackingOf, Unpacking}
+use Rattle.names.specs.Form.{Names, nameOf, tableBits, listBytes, LawfulTable, holds, refused}
+use Rattle.names.specs.inside.Reading.{tableOf}
+use Rattle.names.specs.inside.Asking.{listOf, nameIn}
+use Rattle.names.specs.Asking.{nameFound, unlessEmpty, unpackingOf, Unpacking}
 
 -- ---- a symbol table: its bits, and zero bits to a whole byte
 

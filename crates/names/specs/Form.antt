@@ -4,6 +4,7 @@ use mathlib.Core.List.{List, [], _∷_, _++_}
 use mathlib.Core.Bool.{Bool}
 use lib.ListN.{length, getD}
 use Rattle.bitstream.specs.Bits.{field, bitsOf}
+use Rattle.answer.specs.declared.Answer.{Answer}
 
 -- the names of the symbols from 0 on, in order; the empty one says that its symbol has none (002, 1.3)
 abbrev pub Names : Type 0
@@ -55,3 +56,8 @@ LawfulNames (name ∷ names) = LawfulName name × LawfulNames names
 pub record LawfulTable (names : Names) : Type 0 where
   pub few : length names < 2 ^ countBits
   pub lawful : LawfulNames names
+
+-- the names of a table, or the number that refuses it
+pub data Table : Type 0 where
+  holds : Names → Table
+  refused : Answer → Table

@@ -1,4 +1,4 @@
 pub mod Form
-pub mod Reading
 pub mod Asking
 pub mod Claims
+pub mod inside

@@ -7,7 +7,7 @@ use native.Mathlib.Numerals.{add-one}
 use lib.Dec.{eqb}
 use lib.ListN.{length, getD, drop, drop-of-length-le}
 use lib.Seq.{drop-cons}
-use Rattle.numerals.specs.Reading.{startsWith, rest}
+use Rattle.numerals.specs.inside.Reading.{startsWith, rest}
 use Rattle.number_reader.specs.Results.{Starts}
 
 pub here : (s : List ℕ) (at : ℕ) → at < length s → drop at s ≡ getD s at 0 ∷ drop (at + 1) s

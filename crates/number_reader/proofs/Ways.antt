@@ -13,7 +13,7 @@ use lib.ListN.{length, getD, drop}
 use lib.Ieee.{Float, binary32, ofInt, div, neg}
 use Rattle.laws.proofs.Choice.{cond-true, cond-false}
 use Rattle.numerals.specs.Numeral.{mostNumber, mostDecimals, floatOf}
-use Rattle.numerals.specs.Reading.{Read, got, refused, isDigit, Run, digitsFrom, withoutPoint, decimalsFrom, unsignedFrom, numberFrom, symbolFrom, nameFrom}
+use Rattle.numerals.specs.inside.Reading.{Read, got, refused, isDigit, Run, digitsFrom, withoutPoint, decimalsFrom, unsignedFrom, numberFrom, symbolFrom, nameFrom}
 use Rattle.numerals.proofs.Quotient.{quotient}
 use Rattle.numerals.proofs.Signs.{minus-float}
 use Rattle.number_reader.specs.Results.{digitsIs, Starts}

@@ -5,7 +5,7 @@ use mathlib.Core.Bool.{Bool, true}
 use mathlib.Core.List.{List}
 use lib.ListN.{length, drop}
 use lib.Ieee.{Float}
-use Rattle.numerals.specs.Reading.{Read, got, refused, Run, startsWith}
+use Rattle.numerals.specs.inside.Reading.{Read, got, refused, Run, startsWith}
 use Rattle.number_reader.specs.declared.NumberRead.{NumberRead}
 use Rattle.number_reader.specs.declared.NumberRead.the-variants as number
 use Rattle.number_reader.specs.declared.NameRead.{NameRead}

@@ -3,7 +3,7 @@ ghost use mathlib.Core.Path.{_≡_};
 ghost use Prim.Native.Nat.{_^_, _<_, _≤_};
 ghost use lib.ListN.{drop};
 ghost use Rattle.numerals.specs.Numeral.{mostNumber, mostDecimals, floatOf};
-ghost use Rattle.numerals.specs.Reading.{digitsFrom, decimalsFrom, unsignedFrom, numberFrom, symbolFrom, nameFrom};
+ghost use Rattle.numerals.specs.inside.Reading.{digitsFrom, decimalsFrom, unsignedFrom, numberFrom, symbolFrom, nameFrom};
 ghost use Rattle.number_reader.specs.Results.{digitsIs, numberIs, nameIs, Starts};
 
 const MINUS: u8 = 45;

@@ -11,7 +11,7 @@ use lib.ListN.{length}
 use lib.Arith.{digits-lt, digits-div, digits-mod, mod-mul}
 use lib.Dec.{ltb}
 use Rattle.numerals.specs.Numeral.{zeroDigit, Digits, digitBytes, valueFrom, lowest, widthOf, decimal}
-use Rattle.numerals.specs.Reading.{startsWith}
+use Rattle.numerals.specs.inside.Reading.{startsWith}
 use Rattle.numerals.proofs.Quotient.{ten-pos}
 
 pub lowest-digits : (k n : ℕ) → Digits (lowest k n)

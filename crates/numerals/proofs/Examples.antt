@@ -6,7 +6,7 @@ use mathlib.Core.Path.{_≡_, refl}
 use mathlib.Core.Bool.{true, false}
 use mathlib.Core.List.{List, [], _∷_}
 use Rattle.numerals.specs.Numeral.{floatOf}
-use Rattle.numerals.specs.Reading.{got, refused, numberFrom, nameFrom}
+use Rattle.numerals.specs.inside.Reading.{got, refused, numberFrom, nameFrom}
 
 -- the bytes of a text
 abbrev pub bytes : String → List ℕ

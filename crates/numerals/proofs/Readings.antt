@@ -12,7 +12,7 @@ use lib.Ieee.{Float}
 use Rattle.laws.proofs.Choice.{cond-false, both-true}
 use Rattle.numerals.proofs.DecimalDigits.{lowest-length, wide, decimal-digits, decimal-value, decimal-back, not-zero}
 use Rattle.numerals.specs.Numeral.{minusSign, point, zeroDigit, nameLetter, Digits, digitBytes, valueFrom, Numeral, mostNumber, mostDecimals, wholeOf, Lawful, signBytes, decimalBytes, spelled, floatOf, meaning, widthOf, decimal, mostSymbol, nameBytes}
-use Rattle.numerals.specs.Reading.{Read, got, refused, andThen, startsWith, rest, isDigit, startsDigit, Run, digitsFrom, withoutPoint, decimalsFrom, unsignedFrom, numberFrom, symbolFrom, nameFrom}
+use Rattle.numerals.specs.inside.Reading.{Read, got, refused, andThen, startsWith, rest, isDigit, startsDigit, Run, digitsFrom, withoutPoint, decimalsFrom, unsignedFrom, numberFrom, symbolFrom, nameFrom}
 
 -- ---- readings
 

@@ -1,4 +1,4 @@
 pub mod Numeral
 pub mod Nearest
 pub mod Shortest
-pub mod Reading
+pub mod inside

@@ -14,13 +14,13 @@ use Rattle.answer.specs.declared.Answer.{Answer}
 use Rattle.answer.specs.declared.Answer.the-variants.{Taken, BadToken, BadGrammar, BadNames, BadRates, TooLarge}
 use Rattle.tokens.specs.declared.Token.{Token}
 use Rattle.tokens.specs.declared.Tokens.{Tokens}
-use Rattle.tokens.specs.Token.{toks}
-use Rattle.tokens.specs.Scanning.{Got as Spelt, none, some, tokensOf}
+use Rattle.tokens.specs.inside.Token.{toks}
+use Rattle.tokens.specs.inside.Scanning.{Got as Spelt, none, some, tokensOf}
 use Rattle.tokens.specs.Measures.{measured, bracketsKept, stretchesKept}
-use Rattle.tokens.specs.Reading.{stored as stored·tokens, judged, readOf as tokens·of}
+use Rattle.tokens.specs.inside.Reading.{stored as stored·tokens, judged, readOf as tokens·of}
 use Rattle.tokens.proofs.Laws.{tokens-lawful, stored-tokens}
 use Rattle.syntax.specs.Tree.{Instrument}
-use Rattle.syntax.specs.Program.{zeroF, program, actOf}
+use Rattle.syntax.specs.inside.Program.{zeroF, program, actOf}
 use Rattle.syntax.specs.Names.{Named}
 use Rattle.expressions.specs.Reader.{Res, no, ok}
 use Rattle.expressions.specs.declared.Got.{Got}
@@ -40,9 +40,9 @@ use Rattle.name_rules.specs.Entries.{namesAfter}
 use Rattle.rules.specs.Naming.{namesPass, placesPass, placedFrom}
 use Rattle.rules.specs.Rating.{ratesPass}
 use Rattle.orchestra.specs.declared.Outcome.{Outcome}
-use Rattle.orchestra.specs.Compiled.{padded}
-use Rattle.orchestra.specs.Reading.{taken, refused, startsFrom, byNames, byGrammar, readOf}
-use Rattle.orchestra.specs.Arrays.{judgement, placedIf, keptIn, finishedIn}
+use Rattle.orchestra.specs.inside.Compiled.{padded}
+use Rattle.orchestra.specs.inside.Reading.{taken, refused, startsFrom, byNames, byGrammar, readOf}
+use Rattle.orchestra.specs.inside.Arrays.{judgement, placedIf, keptIn, finishedIn}
 
 never : {A : Type 0} → _≡_ {A = ℕ} 0 1 → A
 never z = absurd (omega arith)

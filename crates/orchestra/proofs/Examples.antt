@@ -4,15 +4,15 @@ use mathlib.Core.Path.{_≡_, refl}
 use mathlib.Core.List.{List, [], _∷_, _++_}
 use lib.ListN.{replicate}
 use Rattle.answer.specs.declared.Answer.the-variants.{Taken, BadToken, BadGrammar, BadNames, BadRates, TooLarge}
-use Rattle.tokens.specs.Scanning.{tokensAfter, tokenFrom}
+use Rattle.tokens.specs.inside.Scanning.{tokensAfter, tokenFrom}
 use Rattle.tokens.specs.Measures.{opened, since, bracketsKept, stretchesKept}
 use Rattle.expressions.specs.Reader.{deep, reader}
 use Rattle.grammar.specs.Reader.{deep as deep·all, whole}
 use Rattle.syntax.specs.Names.{has}
-use Rattle.syntax.specs.Placed.{placeFrom}
+use Rattle.syntax.specs.inside.Placed.{placeFrom}
 use Rattle.rules.specs.Naming.{namesFrom, placedFrom}
 use Rattle.rules.specs.Rating.{ratesFrom}
-use Rattle.orchestra.specs.Reading.{readOf, startsFrom}
+use Rattle.orchestra.specs.inside.Reading.{readOf, startsFrom}
 
 -- the symbol n, below 256
 abbrev sym : ℕ → List ℕ

@@ -4,7 +4,7 @@ use mathlib.Core.Path.{_≡_, refl}
 use mathlib.Core.List.{List}
 use Rattle.tokens.specs.declared.Token.{Token}
 use Rattle.syntax.specs.Tree.{Declaration, Instrument}
-use Rattle.syntax.specs.Program.{actOf}
+use Rattle.syntax.specs.inside.Program.{actOf}
 use Rattle.syntax.specs.declared.Act.the-variants.{Declare}
 use Rattle.syntax.specs.Grammar.{Kinds, ivar, ksig, asig, imports, Decls, none as no·decls, some as some·decls, is, Orchestra, last, next}
 use Rattle.rules.specs.Formed.{FormedKinds, FormedAll}

@@ -11,15 +11,14 @@ use borrow.Author.Tests.{eqb-true, leb-true}
 use Rattle.laws.proofs.Lists.{map-append}
 use Rattle.syntax.specs.Tree.{Expr, number, name, unary, binary, choose, Statements, done, assign, output, branch, Declaration, Instrument, fieldKind}
 use Rattle.syntax.specs.Names.{nameRules, distinct, titleOf, eachKept}
-use Rattle.syntax.specs.Placed.{placed}
-use Rattle.syntax.specs.Program.{Ins, instrOp, actOf, compile, code, declare, declared, instrument, program}
+use Rattle.syntax.specs.inside.Placed.{placed}
+use Rattle.syntax.specs.inside.Program.{Ins, instrOp, actOf, compile, code, declare, declared, instrument, program, unaryOp, binaryOp}
 use Rattle.syntax.specs.declared.Act.{Act}
 use Rattle.syntax.specs.declared.Act.the-variants.{Value, Declare, Instr}
-use Rattle.syntax.specs.Program.{unaryOp, binaryOp}
 use Rattle.syntax.proofs.Operations.{unary-value, binary-value}
 use Rattle.rules.specs.Formed.{FormedKinds, FormedAll, opOf, opsOf}
-use Rattle.orchestra.specs.Compiled.{headsFrom}
-use Rattle.orchestra.specs.Reading.{startsFrom}
+use Rattle.orchestra.specs.inside.Compiled.{headsFrom}
+use Rattle.orchestra.specs.inside.Reading.{startsFrom}
 use Rattle.rules.proofs.PlacesLaw.{ops-stay}
 
 -- what is a value or declares a name is not instr

@@ -11,8 +11,8 @@ use Rattle.answer.specs.declared.Answer.the-variants.{Taken, BadNames, BadRates
 use Rattle.rules.specs.Naming.{namesPass, placesPass}
 use Rattle.rules.specs.Rating.{ratesPass}
 use Rattle.orchestra.specs.declared.Starts.{Starts}
-use Rattle.orchestra.specs.Reading.{startsFrom, taken}
-use Rattle.orchestra.specs.Arrays.{judgement, placedIf, startsIn, keptIn}
+use Rattle.orchestra.specs.inside.Reading.{startsFrom, taken}
+use Rattle.orchestra.specs.inside.Arrays.{judgement, placedIf, startsIn, keptIn}
 
 module _ (os ns : List ℕ) {b : Bool} (e : b ≡ namesPass os ns) where
   pub misnamed : b ≡ false → (BadNames ≡ judgement os ns) × (ns ≡ placedIf os ns)

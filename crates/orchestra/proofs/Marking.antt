@@ -9,9 +9,9 @@ use lib.Seq.{take-all, take-append-le, drop-cons}
 use lib.Dec.{eqb, ltb}
 use borrow.Author.Tests.{eq-eqb, ne-eqb, lt-ltb, le-ltb, ltb-true, ltb-false}
 use Rattle.orchestra.specs.declared.Starts.{Starts}
-use Rattle.orchestra.specs.Compiled.{padded}
-use Rattle.orchestra.specs.Reading.{startsFrom}
-use Rattle.orchestra.specs.Arrays.{starting, startsIn, headedAt, markedAt, Fits}
+use Rattle.orchestra.specs.inside.Compiled.{padded}
+use Rattle.orchestra.specs.inside.Reading.{startsFrom}
+use Rattle.orchestra.specs.inside.Arrays.{starting, startsIn, headedAt, markedAt, Fits}
 
 -- ---- the ways through one turn
 

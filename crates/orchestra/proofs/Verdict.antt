@@ -9,15 +9,15 @@ use lib.Dec.{ltb}
 use borrow.Author.Tests.{ltb-true, ltb-false, lt-ltb, le-ltb}
 use Rattle.answer.specs.declared.Answer.the-variants.{Taken, BadGrammar, BadNames, BadRates, TooLarge}
 use Rattle.tokens.specs.declared.Token.{Token}
-use Rattle.tokens.specs.Scanning.{Got, none, some, tokensOf, ScansSpelling}
+use Rattle.tokens.specs.inside.Scanning.{Got, none, some, tokensOf, ScansSpelling}
 use Rattle.tokens.specs.Measures.{longest, measured}
 use Rattle.tokens.proofs.Laws.{every-scan, spelt-found, one-spelling}
 use Rattle.syntax.specs.Tree.{Instrument}
 use Rattle.syntax.specs.Names.{nameRules}
-use Rattle.syntax.specs.Placed.{placed}
+use Rattle.syntax.specs.inside.Placed.{placed}
 use Rattle.syntax.specs.Rates.{rateRules}
 use Rattle.syntax.proofs.Rates.{rates-agree}
-use Rattle.syntax.specs.Program.{program}
+use Rattle.syntax.specs.inside.Program.{program}
 use Rattle.expressions.specs.Reader.{Res, no, ok}
 use Rattle.expressions.proofs.Laws.{All, none as unread, some as read}
 use Rattle.syntax.specs.Grammar.{Orchestra}
@@ -33,8 +33,8 @@ use Rattle.rules.proofs.PlacesLaw.{places-law, ops-stay, vals-stay}
 use Rattle.rules.proofs.RatesLaw.{rates-law}
 use Rattle.orchestra.specs.declared.Outcome.{Outcome}
 use Rattle.orchestra.specs.declared.Program.{Program}
-use Rattle.orchestra.specs.Compiled.{laid, compile, blank}
-use Rattle.orchestra.specs.Reading.{taken, refused, startsFrom, byRates, byNames, byGrammar, byTokens, readOf}
+use Rattle.orchestra.specs.inside.Compiled.{laid, compile, blank}
+use Rattle.orchestra.specs.inside.Reading.{taken, refused, startsFrom, byRates, byNames, byGrammar, byTokens, readOf}
 use Rattle.orchestra.specs.Verdict.{Sized, Accepted, Verdict, tooLong, noTokens, tooLarge, outside, misnamed, misrated, accepted, EveryVerdict, VerdictGiven, AcceptedExactly, OneReading, RefusedBlank}
 use Rattle.orchestra.proofs.Formed.{formed}
 use Rattle.orchestra.proofs.Heads.{heads-are, all-heads, at-most-8}

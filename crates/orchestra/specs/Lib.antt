@@ -1,5 +1,2 @@
-pub mod Compiled
-pub mod Reading
-pub mod Arrays
 pub mod Verdict
-pub mod Stages
+pub mod inside

@@ -13,8 +13,8 @@ use Rattle.syntax.specs.Tree.{Instrument}
 use Rattle.syntax.specs.Names.{nameRules}
 use Rattle.syntax.specs.Rates.{rateRules}
 use Rattle.syntax.specs.Grammar.{Orchestra}
-use Rattle.orchestra.specs.Compiled.{compile, blank}
-use Rattle.orchestra.specs.Reading.{taken, refused, readOf}
+use Rattle.orchestra.specs.inside.Compiled.{compile, blank}
+use Rattle.orchestra.specs.inside.Reading.{taken, refused, readOf}
 use Rattle.orchestra.specs.declared.Outcome.{Outcome}
 
 -- the bytes are these tokens, within the sizes

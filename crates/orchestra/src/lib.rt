@@ -4,10 +4,10 @@ use expressions::Got;
 ghost use mathlib.Core.Path.{_≡_};
 ghost use Prim.Native.Nat.{_≤_};
 ghost use lib.ListN.{length, take};
-ghost use Rattle.tokens.specs.Token.{toks};
+ghost use Rattle.tokens.specs.inside.Token.{toks};
 ghost use Rattle.grammar.specs.Reader.{orchestra};
-ghost use Rattle.orchestra.specs.Reading.{refused, startsFrom, byGrammar, readOf};
-ghost use Rattle.orchestra.specs.Arrays.{starting, startsIn, markedAt, Fits, judgement, placedIf, keptIn, finishedIn};
+ghost use Rattle.orchestra.specs.inside.Reading.{refused, startsFrom, byGrammar, readOf};
+ghost use Rattle.orchestra.specs.inside.Arrays.{starting, startsIn, markedAt, Fits, judgement, placedIf, keptIn, finishedIn};
 
 // How many instruments there are at most.
 const MOST_INSTRUMENTS: usize = 8;

@@ -28,7 +28,7 @@ use Rattle.calls.specs.OnState as onState
 use Rattle.calls.specs.OnState.{pressedOf}
 use Rattle.calls.specs.declared.Brought.{Brought as OnState}
 use Rattle.calls.specs.declared.Left.{Left}
-use Rattle.messages.specs.Reading.{callOf}
+use Rattle.messages.specs.inside.Reading.{callOf}
 use Rattle.keyboard.specs.Keyboard.{pressedIn}
 use Rattle.keyboard.specs.declared.Pressed.{Pressed}
 

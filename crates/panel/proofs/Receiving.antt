@@ -7,7 +7,8 @@ use lib.Dec.{leb}
 use lib.ListN.{length}
 use Rattle.answer.specs.Numbers.{numberOf}
 use Rattle.answer.specs.declared.Answer.the-variants.{Taken, NoRoom}
-use Rattle.bursts.specs.Bursts.{Burst, units, fault, burstOf}
+use Rattle.bursts.specs.Bursts.{Burst, units, fault}
+use Rattle.bursts.specs.inside.Reading.{burstOf}
 use Rattle.players.specs.Lists.{over}
 use Rattle.players.specs.Calls.{unit, mustBeTimed, reads}
 use Rattle.burst_entrance.specs.Singly.{singlyIn, sentIn, areaIn}

@@ -9,14 +9,15 @@ use Rattle.answer.specs.Numbers.{numberOf, isTaken}
 use Rattle.answer.specs.declared.Answer.{Answer}
 use Rattle.answer.specs.declared.Answer.the-variants.{Taken, OutOfRange, NoInstrument, NoRoom, Ended, BlockLength}
 use Rattle.score.specs.Score.{Score}
-use Rattle.bursts.specs.Bursts.{Burst, units, fault, burstOf}
+use Rattle.bursts.specs.Bursts.{Burst, units, fault}
+use Rattle.bursts.specs.inside.Reading.{burstOf}
 use Rattle.players.specs.Lists.{over}
 use Rattle.players.specs.Cycle.{samples}
 use Rattle.players.specs.Holds.{dueOf, blockOf}
 use Rattle.players.specs.Calls.{Door, unit, mustBeTimed, reads}
 use Rattle.cycle.specs.OneCycle as oneCycle
 use Rattle.entrances.specs.Entrances.{broughtIn}
-use Rattle.messages.specs.Reading.{callOf}
+use Rattle.messages.specs.inside.Reading.{callOf}
 use Rattle.keyboard.specs.Keyboard.{pressedIn}
 use Rattle.kept_orchestra.specs.Kept.{foundIn}
 use Rattle.panel.specs.State.{tableOf, voicesOf, holdsOf, settingsIn, withState, withQueue, withMessages, endedOf, startOf}

@@ -16,7 +16,8 @@ use Rattle.score_line.specs.declared.Line.{Line}
 use Rattle.messages.specs.declared.Message.{Message}
 use Rattle.players.specs.Lists.{keep, fold, All}
 use Rattle.players.specs.Cycle.{Voices, Note, Started, isDue, earlier, insert, ordered, positionLimit, tempoFrom, lastTempo, canCut, cutOldest, joinedBy, letGoOldest, startedBy, started, born, controlled, pressed, afterMessage, afterMessages}
-use Rattle.players.specs.Holds.{Settings, Plays, Holds, Due, sixty, dueAt, laterThan, dueOf, endsBy, capped, startedOf, soundsOf, played}
+use Rattle.players.specs.Holds.{Settings, Plays, Holds, Due, sixty, dueAt, laterThan, dueOf, endsBy, startedOf, soundsOf, played}
+use Rattle.players.specs.inside.Holds.{capped}
 use Rattle.players.proofs.Lists.{length-keep, all-keep}
 
 -- a tempo of at least 1: 1,024 ticks a cycle or more

@@ -13,9 +13,9 @@ use Rattle.timebase.specs.Time.{ticksIn, endless as withoutEnd}
 use Rattle.score_line.specs.declared.Event.{Event}
 use Rattle.score_line.specs.declared.Event.the-variants.{Instr, Control, End, Tempo}
 use Rattle.score_line.specs.declared.Line.{Line}
-use Rattle.players.specs.Lists.{fold, each, All}
+use Rattle.players.specs.Lists.{fold, each, All, Some, here, later}
 use Rattle.players.specs.Cycle.{Voices, Note, Started, Band, withState, isEnd, anyEnd, tempoFrom, lastTempo, samples, canCut, cutOldest, joinedBy, born, controlledBy, controlEvent, controlled, pressed, runFrom, runAll, goesOn}
-use Rattle.players.specs.Results.{Some, here, later, EndFound, NoTempo, LastSets, HasPriority, NoPriority, NotesJoin, PriorityKept, controlledState, controlledAll, ControlsSet, NotesEnd, withOutputs, Adding, heard, SamplesSum}
+use Rattle.players.specs.Results.{EndFound, NoTempo, LastSets, HasPriority, NoPriority, NotesJoin, PriorityKept, controlledState, controlledAll, ControlsSet, NotesEnd, withOutputs, Adding, heard, SamplesSum}
 use Rattle.players.proofs.Lists.{cond-true, cond-false, fold-append}
 
 -- ---- steps 1 and 2

@@ -13,10 +13,11 @@ use Rattle.score_line.specs.declared.When.the-variants.{Timed, Untimed}
 use Rattle.score_line.specs.declared.Line.{Line}
 use Rattle.score_line.specs.declared.LineRead.{LineRead}
 use Rattle.score.specs.Score.{Score, scoreOf, unitOf}
-use Rattle.score_text.specs.Reading.{textOf}
-use Rattle.bursts.specs.Bursts.{unitsIn, burstOf}
+use Rattle.score_text.specs.inside.Reading.{textOf}
+use Rattle.bursts.specs.Bursts.{unitsIn}
+use Rattle.bursts.specs.inside.Reading.{burstOf}
 use Rattle.messages.specs.Writing as midi
-use Rattle.messages.specs.Reading.{callOf}
+use Rattle.messages.specs.inside.Reading.{callOf}
 use Rattle.messages.specs.declared.Message.{Message}
 use Rattle.players.specs.Lists.{each}
 use Rattle.players.specs.Cycle.{samples}

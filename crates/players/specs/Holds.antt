@@ -1,7 +1,7 @@
 -- What a player holds, in two parts, and document 01's cycle as a function of the settings, the due lines and what plays.
 use mathlib.Core.Bool.{Bool, true, false, not, _||_, cond}
 use mathlib.Core.List.{List, [], _++_}
-use Prim.Native.Nat.{ℕ, _+_, min}
+use Prim.Native.Nat.{ℕ, _+_}
 use lib.IntN.{ℤ}
 use lib.Dec.{ltb}
 use lib.Ieee.{Float, binary32, ofBits}
@@ -93,17 +93,6 @@ module _ {S : Type 0} where
   -- the number that the next cycle answers
   unfoldable pub answerOf : Holds S → ℕ
   answerOf h = cond (h .plays .ended) 9 (cond (endsBy (dueOf h) (h .plays)) 9 0)
-
-  -- the count of missed notes as far as 64 bits go
-  unfoldable pub capped : Plays S → Plays S
-  capped p =
-      record {
-        notes = p .notes;
-        position = p .position;
-        tempo = p .tempo;
-        counts = record { missed = min (p .counts .missed) 18446744073709551615 };
-        ended = p .ended;
-      }
 
 -- ---- steps 2 to 8
 

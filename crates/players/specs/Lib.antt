@@ -6,3 +6,4 @@ pub mod Plain
 pub mod Calls
 pub mod Condition3
 pub mod History
+pub mod inside

@@ -26,3 +26,8 @@ All P (x ∷ xs) = P x × All P xs
 -- an array whose first elements are those of a list, and the others as they were
 abbrev pub over : {A : Type 0} → List A → List A → List A
 over xs old = xs ++ drop (length xs) old
+
+-- an element of which something is true
+pub data Some {A : Type 0} (P : A → Type 0) : List A → Type 0 where
+  here : {x : A} {xs : List A} → P x → Some P (x ∷ xs)
+  later : {x : A} {xs : List A} → Some P xs → Some P (x ∷ xs)

@@ -18,6 +18,7 @@ use Rattle.score_line.specs.declared.Line.{Line}
 use Rattle.players.specs.Lists.{keep, fold, each, All}
 use Rattle.messages.specs.declared.Message.{Message}
 use Rattle.players.specs.Cycle.{Voices, Note, Started, withState, letGo, letGoOldest, joinedBy, ordered, anyEnd, lastTempo, samples, born, started, controlled, pressed, afterMessages, runAll, goesOn}
+use Rattle.players.specs.Lists.{Some}
 
 -- ---- the due lines, in order
 
@@ -67,11 +68,6 @@ OneOrder =
     (arrived a b : List Line) → All (λ (l : Line). isNumber (l .when)) arrived → Goes arrived a → Goes arrived b → a ≡ b
 
 -- ---- steps 1 and 2
-
--- an element of which something is true
-pub data Some {A : Type 0} (P : A → Type 0) : List A → Type 0 where
-  here : {x : A} {xs : List A} → P x → Some P (x ∷ xs)
-  later : {x : A} {xs : List A} → Some P xs → Some P (x ∷ xs)
 
 unfoldable pub EndFound : Type 0
 EndFound = (due : List Line) → (anyEnd due ≡ true) ↔ Some (λ (l : Line). l .event ≡ End) due

@@ -4,8 +4,8 @@ use mathlib.Core.Path.{_≡_, sym, ap, _∙_}
 use mathlib.Core.Bool.{Bool, true, false, _&&_}
 use lib.Dec.{leb}
 use borrow.Author.Tests.{lt-ltb, le-ltb, le-leb, lt-leb}
-use Rattle.syntax.specs.Program.{actOf}
-use Rattle.syntax.specs.Placed.{rateOf}
+use Rattle.syntax.specs.inside.Program.{actOf}
+use Rattle.syntax.specs.inside.Placed.{rateOf}
 use Rattle.syntax.specs.declared.Act.{Act}
 use Rattle.syntax.specs.declared.Act.the-variants.{Value, Name, Store, Output, If, Else, End, Declare, Instr}
 use Rattle.rate_rules.specs.Change.{rates, guard, entered, left, ratesLawful, ratesAfter}

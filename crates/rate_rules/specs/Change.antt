@@ -2,7 +2,7 @@
 use Prim.Native.Nat.{ℕ, _+_, _-_, max}
 use mathlib.Core.Bool.{Bool, true, _&&_, cond}
 use lib.Dec.{leb, ltb}
-use Rattle.syntax.specs.Placed.{rateOf}
+use Rattle.syntax.specs.inside.Placed.{rateOf}
 use Rattle.syntax.specs.declared.Act.{Act}
 use Rattle.syntax.specs.declared.Act.the-variants.{Value, Name, Store, Output, If, Else, End, Declare, Instr}
 use Rattle.rate_rules.specs.declared.Rates.{Rates}

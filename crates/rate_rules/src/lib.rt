@@ -4,8 +4,8 @@ ghost use mathlib.Core.Path.{_≡_};
 ghost use mathlib.Core.Bool.{_&&_};
 ghost use Prim.Native.Nat.{_-_, _<_, max};
 ghost use lib.Dec.{leb};
-ghost use Rattle.syntax.specs.Program.{actOf};
-ghost use Rattle.syntax.specs.Placed.{rateOf};
+ghost use Rattle.syntax.specs.inside.Program.{actOf};
+ghost use Rattle.syntax.specs.inside.Placed.{rateOf};
 ghost use Rattle.rate_rules.specs.Change.{rates, guard as guardOf, entered as enteredOf, left as leftOf, ratesLawful, ratesAfter};
 
 // Rates as numbers, i slowest.

@@ -3,7 +3,7 @@ use Prim.Native.Nat.{ℕ}
 use mathlib.Core.Path.{_≡_, refl, ap, _∙_}
 use mathlib.Core.List.{List, [], _∷_, _++_, append-assoc}
 use Rattle.syntax.specs.Tree.{Declaration, Instrument, fieldKind}
-use Rattle.syntax.specs.Program.{Ins, insArg, actOf, instrOp, code, declare, declared, instrument}
+use Rattle.syntax.specs.inside.Program.{Ins, insArg, actOf, instrOp, code, declare, declared, instrument}
 use Rattle.syntax.specs.Names.{Named, named, namedBy, namesOf}
 use Rattle.syntax.specs.declared.Act.the-variants.{Declare}
 use Rattle.rules.specs.Formed.{FormedKinds}

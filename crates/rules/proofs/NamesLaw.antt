@@ -9,13 +9,12 @@ use lib.ListN.{length, length-append}
 use lib.Dec.{leb, ltb}
 use borrow.Author.Tests.{le-leb, lt-leb, ltb-true, ltb-false}
 use Rattle.syntax.specs.Tree.{Expr, number, name, unary, binary, choose, Statements, done, assign, output, branch, Instrument}
-use Rattle.syntax.specs.Program.{Ins, ins, insArg, actOf, storeOp, chooseOp, outputOp, ifOp, elseOp, endOp, instrOp, compile, code, instrument, program}
+use Rattle.syntax.specs.inside.Program.{Ins, ins, insArg, actOf, storeOp, chooseOp, outputOp, ifOp, elseOp, endOp, instrOp, compile, code, instrument, program, unaryOp, binaryOp}
 use Rattle.syntax.specs.Names.{Named, namesOf, symbols, has, apart, distinct, knownIn, known, namesKept, eachKept, titleOf, nameRules}
 use Rattle.syntax.specs.declared.Act.{Act}
 use Rattle.syntax.specs.declared.Act.the-variants.{Value, Store, Output, If, Else, End, Declare, Instr}
 use Rattle.name_rules.specs.Entries.{lawful, namesAfter, titlesAfter}
 use Rattle.rules.specs.Naming.{namesFrom, namesPass}
-use Rattle.syntax.specs.Program.{unaryOp, binaryOp}
 use Rattle.syntax.proofs.Operations.{unary-value, binary-value}
 use Rattle.rules.specs.Formed.{FormedKinds, FormedAll, opsOf, argsOf}
 use Rattle.rules.proofs.Declaring.{declareAll, Kinds, instrument-is, kinds-of}

@@ -8,7 +8,7 @@ use mathlib.Core.Bool.{Bool, true, false, not, _&&_, cond}
 use lib.ListN.{length, take, drop, getD, set, length-set, drop-of-length-le, replicate}
 use lib.Seq.{drop-cons, drop-set-lt, take-suc-set, take-all}
 use borrow.Author.Tests.{not-true, not-false}
-use Rattle.syntax.specs.Program.{actOf}
+use Rattle.syntax.specs.inside.Program.{actOf}
 use Rattle.syntax.specs.Names.{Named}
 use Rattle.syntax.specs.declared.Act.{Act}
 use Rattle.syntax.specs.declared.Act.the-variants.{Value, Name, Store, Output, If, Else, End, Declare, Instr}

@@ -8,14 +8,13 @@ use lib.ListN.{length}
 use lib.Dec.{leb}
 use borrow.Author.Tests.{lt-ltb, leb-true}
 use Rattle.syntax.specs.Tree.{Expr, number, name, unary, binary, choose, Statements, done, assign, output, branch, Instrument}
-use Rattle.syntax.specs.Program.{Ins, ins, insArg, actOf, nameOp, storeOp, chooseOp, outputOp, ifOp, elseOp, endOp, instrOp, compile, code, program}
+use Rattle.syntax.specs.inside.Program.{Ins, ins, insArg, actOf, nameOp, storeOp, chooseOp, outputOp, ifOp, elseOp, endOp, instrOp, compile, code, program, unaryOp, binaryOp}
 use Rattle.syntax.specs.Names.{Named, namesOf, symbols, distinct, known, namesKept, eachKept, titleOf, nameRules}
-use Rattle.syntax.specs.Placed.{place, putIn, put, placed}
+use Rattle.syntax.specs.inside.Placed.{place, putIn, put, placed}
 use Rattle.syntax.specs.declared.Act.{Act}
 use Rattle.syntax.specs.declared.Act.the-variants.{Value, Store, Output, If, Else, End, Declare, Instr}
 use Rattle.name_rules.specs.Entries.{namesAfter, placedName}
 use Rattle.rules.specs.Naming.{placedFrom, placesPass}
-use Rattle.syntax.specs.Program.{unaryOp, binaryOp}
 use Rattle.syntax.proofs.Operations.{unary-value, binary-value}
 use Rattle.rules.specs.Formed.{FormedAll, opsOf, argsOf, valsOf}
 use Rattle.rules.proofs.Declaring.{declareAll, Kinds, instrument-is, kinds-of}

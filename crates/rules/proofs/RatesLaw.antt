@@ -8,17 +8,14 @@ use lib.ListN.{length}
 use lib.Dec.{leb, ltb, eqb}
 use borrow.Author.Tests.{le-leb, lt-ltb, ltb-false, leb-true, leb-false}
 use Rattle.syntax.specs.Tree.{Expr, number, name, unary, binary, choose, Statements, done, assign, output, branch, Instrument}
-use Rattle.syntax.specs.Program.{Ins, ins, insArg, actOf, storeOp, chooseOp, outputOp, ifOp, elseOp, endOp, instrOp, compile, code, program}
+use Rattle.syntax.specs.inside.Program.{Ins, ins, insArg, actOf, storeOp, chooseOp, outputOp, ifOp, elseOp, endOp, instrOp, compile, code, program, unaryOp, binaryOp}
 use Rattle.syntax.specs.Names.{Named, namesOf, namesKept, eachKept, nameRules}
-use Rattle.syntax.specs.Placed.{placeFrom, putIn, put, placed}
+use Rattle.syntax.specs.inside.Placed.{placeFrom, putIn, put, placed, speed, speedOfKind, rateOf, rate, ratesKept, rateRules}
 use Rattle.syntax.specs.Rates.{Rate, iRate, kRate, aRate, rateOfKind}
-use Rattle.syntax.specs.Placed.{speed, speedOfKind}
-use Rattle.syntax.specs.Placed.{rateOf, rate, ratesKept, rateRules}
 use Rattle.syntax.specs.declared.Act.{Act}
 use Rattle.syntax.specs.declared.Act.the-variants.{Value, Store, Output, If, Else, End, Declare, Instr}
 use Rattle.rate_rules.specs.Change.{rates, entered, ratesLawful, ratesAfter}
 use Rattle.rules.specs.Rating.{ratesFrom, ratesPass}
-use Rattle.syntax.specs.Program.{unaryOp, binaryOp}
 use Rattle.syntax.proofs.Operations.{unary-value, binary-value}
 use Rattle.rules.specs.Formed.{FormedAll, opsOf, argsOf}
 use Rattle.rate_rules.specs.declared.Rates.{Rates}

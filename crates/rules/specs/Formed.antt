@@ -4,7 +4,7 @@ use mathlib.Core.Path.{_≡_}
 use mathlib.Core.List.{List, [], _∷_, map}
 use lib.Ieee.{Float}
 use Rattle.syntax.specs.Tree.{Declaration, Instrument}
-use Rattle.syntax.specs.Program.{Ins, actOf}
+use Rattle.syntax.specs.inside.Program.{Ins, actOf}
 use Rattle.syntax.specs.declared.Act.the-variants.{Declare}
 
 unfoldable pub FormedKinds : List Declaration → Type 0

@@ -2,7 +2,7 @@
 use Prim.Native.Nat.{ℕ}
 use mathlib.Core.Bool.{Bool, true, _&&_}
 use mathlib.Core.List.{List, [], _∷_}
-use Rattle.syntax.specs.Program.{actOf}
+use Rattle.syntax.specs.inside.Program.{actOf}
 use Rattle.syntax.specs.Names.{Named}
 use Rattle.name_rules.specs.Entries.{lawful, namesAfter, titlesAfter, placedName}
 

@@ -1,6 +1,5 @@
 -- More than 8 values are refused before any of them is read: what stands behind their number does not matter. Assumes nothing.
-use Prim.Native.Nat.{ℕ, _+_, _-_, _≤_, _<_}
-use Prim.Native.Nat.{min as lesser}
+use Prim.Native.Nat.{ℕ, _+_, _-_, _≤_, _<_, min as lesser}
 use mathlib.Core.Path.{_≡_, refl, sym, ap, ap₂, _∙_}
 use mathlib.Core.Bool.{Bool, true, false, cond}
 use mathlib.Core.List.{List, _∷_, _++_, map}
@@ -12,19 +11,18 @@ use lib.ListN.{length, getD, take, replicate, length-map}
 use lib.Seq.{take-all, take-at}
 use lib.Ieee.{Float}
 use Rattle.timebase.specs.Time.{timeBits, durationBits}
-use Rattle.formats.specs.Source.{Source, keypadSource}
-use Rattle.formats.specs.Reading.{Read, got, refused, andThen, numberFrom}
-use Rattle.formats.specs.Format.{small}
+use Rattle.formats.specs.Format.{Source, keypadSource, Read, got, refused, andThen, numberFrom, small}
 use Rattle.formats.specs.declared.Fault.{Fault}
 use Rattle.formats.specs.declared.Fault.the-variants.{OutOfRange, TooManyValues}
-use Rattle.score_line.specs.Reading.{lineFrom, labelFrom, smallFrom, lineInWords, lineRead}
+use Rattle.score_line.specs.Reading.{lineFrom, lineInWords, lineRead}
+use Rattle.score_line.specs.inside.Reading.{labelFrom, smallFrom}
 use Rattle.score_line.specs.LineFormat.{inRange, float, number, timed, when, label, kind, body, counted, values, afterTime, parts, line, labelOf}
 use Rattle.score_line.specs.declared.Label.{Label}
 use Rattle.score_line.specs.declared.Label.the-variants.{Labelled, Unlabelled}
 use Rattle.score_line.specs.declared.Line.{Line}
 use Rattle.score_text.specs.Said.{bits, flag, labelWords, wordsOf, lineSaid}
 use Rattle.score_text.specs.Said as said
-use Rattle.score_text.specs.Reading.{saidAt}
+use Rattle.score_text.specs.inside.Reading.{saidAt}
 use Rattle.said_line.specs.Judged.{judgedAt, eight, keptOf, instrNumbers, instrWords}
 
 -- ---- an instr line of too many values, from any source

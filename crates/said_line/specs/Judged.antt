@@ -1,6 +1,5 @@
 -- What the stick's rules make of what a line of text says, and its values as they are kept. Definitions only.
-use Prim.Native.Nat.{ℕ, _+_, _-_}
-use Prim.Native.Nat.{min as lesser}
+use Prim.Native.Nat.{ℕ, _+_, _-_, min as lesser}
 use mathlib.Core.Bool.{Bool, cond}
 use mathlib.Core.List.{List, _∷_, _++_, map}
 use mathlib.Core.Option.{Option}
@@ -12,7 +11,7 @@ use Rattle.score_line.specs.LineFormat as format
 use Rattle.score_line.specs.declared.LineRead.{LineRead}
 use Rattle.score_text.specs.Said.{bits, flag, labelWords, lineSaid}
 use Rattle.score_text.specs.Said as said
-use Rattle.score_text.specs.Reading.{saidAt}
+use Rattle.score_text.specs.inside.Reading.{saidAt}
 use Rattle.said_line.specs.declared.Kept.{Kept}
 
 -- the line, or the first fault

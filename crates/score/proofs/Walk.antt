@@ -10,17 +10,17 @@ use lib.ListN.{length}
 use Rattle.answer.specs.declared.Answer.{Answer}
 use Rattle.answer.specs.declared.Answer.the-variants.{Taken, CutShort, NotCarried, LeftOver}
 use Rattle.answer.specs.Numbers.{isTaken}
-use Rattle.bitstream.specs.Reads.{readAt}
+use Rattle.bitstream.specs.Fields.{readAt}
 use Rattle.bitstream.specs.Filling.{filled}
 use Rattle.bitstream.specs.declared.Got.{Got}
 use Rattle.bitstream.specs.declared.Got.the-variants.{Value, Short}
-use Rattle.formats.specs.Source.{bitSource}
-use Rattle.formats.specs.Reading.{Read, got, refused}
+use Rattle.formats.specs.Format.{bitSource, Read, got, refused}
 use Rattle.formats.specs.declared.Fault.{Fault}
 use Rattle.score_line.specs.Reading.{lineFrom, lineAt, lineRead, refusedLine, answerOf}
 use Rattle.score_line.specs.declared.Line.{Line}
 use Rattle.score_line.specs.declared.LineRead.{LineRead}
-use Rattle.score.specs.Score.{Lines, all, faulty, before, lineThen, linesFrom, Score, taken, refusedScore, ended, counted, scoreOf, startOf, firstOf, nextOf, walked, Ahead, wholeLine, opened, unitOf}
+use Rattle.score.specs.Score.{Lines, all, faulty, before, lineThen, linesFrom, Score, taken, refusedScore, ended, counted, scoreOf, wholeLine, opened, unitOf}
+use Rattle.score.specs.inside.Walk.{startOf, firstOf, nextOf, walked, Ahead}
 use Rattle.score.specs.declared.Cursor.{Cursor}
 use Rattle.score.proofs.Ways.{fault-not-taken, whole-refused}
 

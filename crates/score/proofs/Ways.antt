@@ -8,18 +8,18 @@ use native.Mathlib.Omega.{arith}
 use borrow.Author.Tests.{eq-eqb, ne-eqb}
 use Rattle.answer.specs.Numbers.{isTaken}
 use Rattle.answer.specs.declared.Answer.the-variants.{Taken, CutShort, NotCarried, LeftOver}
-use Rattle.bitstream.specs.Reads.{readAt}
+use Rattle.bitstream.specs.Fields.{readAt}
 use Rattle.bitstream.specs.Filling.{filled}
 use Rattle.bitstream.specs.declared.Got.{Got}
 use Rattle.bitstream.specs.declared.Got.the-variants.{Value, Short}
-use Rattle.formats.specs.Source.{bitSource}
-use Rattle.formats.specs.Reading.{Read, got, refused}
+use Rattle.formats.specs.Format.{bitSource, Read, got, refused}
 use Rattle.formats.specs.declared.Fault.{Fault}
 use Rattle.formats.specs.declared.Fault.the-variants as fault
 use Rattle.score_line.specs.Reading.{lineFrom, lineAt, lineRead, refusedLine, answerOf}
 use Rattle.score_line.specs.declared.Line.{Line}
 use Rattle.score_line.specs.declared.LineRead.{LineRead}
-use Rattle.score.specs.Score.{Lines, all, faulty, before, lineThen, linesFrom, taken, refusedScore, ended, counted, scoreOf, heard, startOf, firstOf, stepOf, nextOf, wholeLine, opened, unitOf}
+use Rattle.score.specs.Score.{Lines, all, faulty, before, lineThen, linesFrom, taken, refusedScore, ended, counted, scoreOf, wholeLine, opened, unitOf}
+use Rattle.score.specs.inside.Walk.{heard, startOf, firstOf, stepOf, nextOf}
 use Rattle.score.specs.declared.ScoreRead.{ScoreRead}
 use Rattle.score.specs.declared.Cursor.{Cursor}
 

@@ -1,25 +1,20 @@
 -- Whole scores and access units, read: document 01, "Score lines, bit by bit". Definitions only.
-use Prim.Native.Nat.{ℕ, zero, suc, _-_}
-use mathlib.Core.Path.{_≡_}
+use Prim.Native.Nat.{ℕ, zero, suc}
 use mathlib.Core.Bool.{Bool, cond}
 use mathlib.Core.List.{List, [], _∷_}
 use lib.Dec.{eqb}
 use Rattle.answer.specs.Numbers.{isTaken}
 use Rattle.answer.specs.declared.Answer.{Answer}
 use Rattle.answer.specs.declared.Answer.the-variants.{Taken, CutShort, NotCarried, LeftOver}
-use Rattle.bitstream.specs.Reads.{readAt}
+use Rattle.bitstream.specs.Fields.{readAt}
 use Rattle.bitstream.specs.Filling.{filled}
 use Rattle.bitstream.specs.declared.Got.{Got}
 use Rattle.bitstream.specs.declared.Got.the-variants.{Value, Short}
-use Rattle.formats.specs.Source.{bitSource}
-use Rattle.formats.specs.Reading.{Read, got, refused}
+use Rattle.formats.specs.Format.{bitSource, Read, got, refused}
 use Rattle.formats.specs.declared.Fault.{Fault}
 use Rattle.score_line.specs.Reading.{lineFrom, lineAt, refusedLine, answerOf}
 use Rattle.score_line.specs.declared.Line.{Line}
 use Rattle.score_line.specs.declared.LineRead.{LineRead}
-use Rattle.score.specs.declared.ScoreRead.{ScoreRead}
-use Rattle.score.specs.declared.Cursor.{Cursor}
-use Rattle.score.specs.declared.Step.{Step}
 
 -- ---- the lines of a score
 
@@ -68,38 +63,6 @@ counted bits Short = refusedScore CutShort 0
 
 unfoldable pub scoreOf : List Bool → Score
 scoreOf bits = counted bits (readAt bits 0 20)
-
--- what the call gives: all but the lines
-abbrev pub heard : Score → ScoreRead
-heard s = record { answer = s .answer; line = s .line }
-
--- ---- the second pass over an accepted score: a cursor and the next line
-
--- before the first line
-abbrev pub startOf : Got → Cursor
-startOf (Value n p) = record { at = p; left = n }
-startOf Short = record { at = 0; left = 0 }
-
-unfoldable pub firstOf : List Bool → Cursor
-firstOf bits = startOf (readAt bits 0 20)
-
--- what reading a line gives, and the cursor past it
-abbrev pub stepOf : ℕ → LineRead → Step
-stepOf left r = record { answer = r .answer; line = r .line; rest = record { at = r .next; left = left - 1 } }
-
-unfoldable pub nextOf : List Bool → Cursor → Step
-nextOf bits c = stepOf (c .left) (lineAt bits (c .at))
-
--- the lines that n steps pass
-unfoldable pub walked : List Bool → ℕ → Cursor → List Line
-walked bits zero c = []
-walked bits (suc n) c = nextOf bits c .line ∷ walked bits n (nextOf bits c .rest)
-
--- these lines lie ahead of a cursor
-pub record Ahead (bits : List Bool) (c : Cursor) (ls : List Line) : Type 0 where
-  pub number : ℕ
-  pub end : ℕ
-  pub are : linesFrom bits (c .left) number (c .at) ≡ all ls end
 
 -- ---- an access unit
 

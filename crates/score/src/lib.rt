@@ -7,7 +7,8 @@ ghost use mathlib.Core.Path.{_≡_};
 ghost use Prim.Native.Nat.{_-_, _<_};
 ghost use mathlib.Core.List.{[]};
 ghost use Rattle.bitstream.specs.Bits.{bitsOf};
-ghost use Rattle.score.specs.Score.{scoreOf, heard, ended, linesFrom, all, firstOf, nextOf, unitOf, wholeLine};
+ghost use Rattle.score.specs.Score.{scoreOf, ended, linesFrom, all, unitOf, wholeLine};
+ghost use Rattle.score.specs.inside.Walk.{heard, firstOf, nextOf};
 
 // What reading a whole score gives: the answer, and the number of the line that it is about.
 pub struct ScoreRead {

@@ -8,7 +8,8 @@ use lib.ListN.{length, take, drop, length-append}
 use lib.Seq.{take-at, drop-drop, drop-append-add}
 use Rattle.score_line.specs.declared.Line.{Line}
 use Rattle.line_writer.specs.Writing.{lineSlot}
-use Rattle.score_area.specs.Area.{areaWords, laid, SlotPut}
+use Rattle.score_area.specs.Area.{areaWords, laid}
+use Rattle.score_area.specs.inside.Area.{SlotPut}
 
 -- a slot right behind the words that were laid
 laid-more : (words slot old : List ℕ) (n : ℕ) → length words ≡ n → length slot ≡ 18 → take n (laid words old) ++ (slot ++ drop (n + 18) (laid words old)) ≡ laid (words ++ slot) old

@@ -16,13 +16,15 @@ use Rattle.answer.specs.declared.Answer.the-variants as answer
 use Rattle.score_line.specs.declared.Line.{Line}
 use Rattle.score_line.specs.declared.LineRead.{LineRead}
 use Rattle.line_writer.specs.Writing.{lineSlot}
-use Rattle.score.specs.Score.{Score, scoreOf, heard, firstOf, nextOf, walked}
+use Rattle.score.specs.Score.{Score, scoreOf}
+use Rattle.score.specs.inside.Walk.{heard, firstOf, nextOf, walked}
 use Rattle.score.specs.declared.ScoreRead.{ScoreRead}
 use Rattle.score.specs.declared.Cursor.{Cursor}
 use Rattle.score.specs.declared.Step.{Step}
 use Rattle.score.proofs.Walk.{answered, ahead-first, ahead-left, walk-all}
 use Rattle.score_area.specs.declared.Decoded.{Decoded}
-use Rattle.score_area.specs.Area.{areaWords, laid, decodedOf, areaAfter, Left, carried, SlotPut}
+use Rattle.score_area.specs.Area.{areaWords, laid, decodedOf, areaAfter, Left, carried}
+use Rattle.score_area.specs.inside.Area.{SlotPut}
 use Rattle.score_area.proofs.Filling.{passed, Filling, filling-start, filling-more, filling-end}
 
 -- ---- one slot, word by word

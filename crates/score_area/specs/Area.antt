@@ -1,10 +1,10 @@
 -- Lines in an area of words, 18 to a line, and what decoding leaves in it. Definitions only.
-use Prim.Native.Nat.{ℕ, _+_, _*_}
+use Prim.Native.Nat.{ℕ, _*_}
 use mathlib.Core.Path.{_≡_}
 use mathlib.Core.Bool.{cond}
 use mathlib.Core.List.{List, [], _∷_, _++_}
 use lib.Dec.{leb}
-use lib.ListN.{length, take, drop}
+use lib.ListN.{length, drop}
 use Rattle.answer.specs.Numbers.{isTaken}
 use Rattle.answer.specs.declared.Answer.the-variants.{Taken, NoRoom}
 use Rattle.score_line.specs.declared.Line.{Line}
@@ -41,8 +41,3 @@ pub record Left (s : Score) (old new : List ℕ) (r : Decoded) : Type 0 where
 -- an access unit as a score of the line that it carries; its refusals are about no line
 unfoldable pub carried : LineRead → Score
 carried r = record { answer = r .answer; line = 0; lines = r .line ∷ [] }
-
--- one slot put into the area
-pub record SlotPut (old : List ℕ) (at : ℕ) (slot new : List ℕ) : Type 0 where
-  pub long : length slot ≡ 18
-  pub stands : new ≡ take at old ++ (slot ++ drop (at + 18) old)

@@ -5,8 +5,10 @@ ghost use mathlib.Core.Path.{_≡_};
 ghost use Prim.Native.Nat.{_+_, _*_, _≤_};
 ghost use lib.ListN.{length};
 ghost use Rattle.bitstream.specs.Bits.{bitsOf};
-ghost use Rattle.score.specs.Score.{scoreOf, unitOf, walked};
-ghost use Rattle.score_area.specs.Area.{areaWords, laid, carried, SlotPut, Left};
+ghost use Rattle.score.specs.Score.{scoreOf, unitOf};
+ghost use Rattle.score.specs.inside.Walk.{walked};
+ghost use Rattle.score_area.specs.Area.{areaWords, laid, carried, Left};
+ghost use Rattle.score_area.specs.inside.Area.{SlotPut};
 
 // The words of a line in the area.
 const SLOT: usize = 18;

@@ -11,20 +11,19 @@ use mir.Val.{Fits}
 use mir.Syntax.{w16}
 use lib.Ieee.{Float}
 use Rattle.bitstream.specs.Bits.{bitsOf}
-use Rattle.bitstream.specs.Reads.{readAt}
+use Rattle.bitstream.specs.Fields.{readAt}
 use Rattle.bitstream.specs.declared.Got.{Got}
 use Rattle.bitstream.specs.declared.Got.the-variants as gives
 use Rattle.timebase.specs.Time.{timeBits, durationBits, tempoBits, finiteBits}
-use Rattle.timebase.specs.Range.{checked}
+use Rattle.timebase.specs.inside.Range.{checked}
 use Rattle.timebase.specs.declared.Checked.{Checked}
 use Rattle.timebase.specs.declared.Checked.the-variants as range-check
 use Rattle.timebase.proofs.Laws.{checked-in, checked-out}
-use Rattle.formats.specs.Source.{Source, sourceOf, bitSource, keypadSource}
-use Rattle.formats.specs.Reading.{Read, got, refused, andThen, numberFrom}
-use Rattle.formats.specs.Format.{small}
+use Rattle.formats.specs.Format.{Source, bitSource, keypadSource, Read, got, refused, andThen, numberFrom, small}
+use Rattle.formats.specs.inside.Source.{sourceOf}
 use Rattle.formats.specs.declared.Fault.{Fault}
 use Rattle.formats.specs.declared.Fault.the-variants.{CutShort, NotCarried, OutOfRange}
-use Rattle.score_line.specs.Reading.{numberIs, realIs, labelIs, smallFrom, floatFrom, timedFrom, whenFrom, labelFrom, instrFrom, labelledFrom, controlFrom, tempoFrom, eventFrom}
+use Rattle.score_line.specs.inside.Reading.{numberIs, realIs, labelIs, smallFrom, floatFrom, timedFrom, whenFrom, labelFrom, instrFrom, labelledFrom, controlFrom, tempoFrom, eventFrom}
 use Rattle.score_line.specs.declared.When.{When}
 use Rattle.score_line.specs.declared.When.the-variants.{Timed, Untimed}
 use Rattle.score_line.specs.declared.Label.{Label}

@@ -1,2 +1,3 @@
 pub mod LineFormat
 pub mod Reading
+pub mod inside

@@ -4,11 +4,12 @@ use bitstream::Got;
 use formats::Fault;
 use timebase::Checked;
 ghost use mathlib.Core.Path.{_≡_};
-ghost use Rattle.timebase.specs.Range.{checked};
-ghost use Rattle.formats.specs.Source.{sourceOf};
-ghost use Rattle.formats.specs.Reading.{numberFrom};
+ghost use Rattle.timebase.specs.inside.Range.{checked};
+ghost use Rattle.formats.specs.inside.Source.{sourceOf};
+ghost use Rattle.formats.specs.Format.{numberFrom};
 ghost use Rattle.score_line.specs.LineFormat.{inRange};
-ghost use Rattle.score_line.specs.Reading.{numberIs, realIs, whenIs, labelIs, eventIs, smallFrom, floatFrom, timedFrom, whenFrom, labelFrom, instrFrom, labelledFrom, controlFrom, tempoFrom, eventFrom, refusedLine};
+ghost use Rattle.score_line.specs.inside.Reading.{numberIs, realIs, whenIs, labelIs, eventIs, smallFrom, floatFrom, timedFrom, whenFrom, labelFrom, instrFrom, labelledFrom, controlFrom, tempoFrom, eventFrom};
+ghost use Rattle.score_line.specs.Reading.{refusedLine};
 
 pub enum When {
     Timed { use_if_late: bool, time: f32 },

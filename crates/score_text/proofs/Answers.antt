@@ -1,6 +1,5 @@
 -- The answers of a text: the numbers of a line are whole, so that no line is cut short. Assumes nothing.
-use Prim.Native.Nat.{ℕ, suc, _+_, _-_, _<_}
-use Prim.Native.Nat.{min as lesser}
+use Prim.Native.Nat.{ℕ, suc, _+_, _-_, _<_, min as lesser}
 use native.Mathlib.Nat.{add-zero}
 use native.Mathlib.Omega.{arith}
 use mathlib.Core.Path.{_≡_, refl, sym, ap, _∙_, subst}
@@ -12,8 +11,7 @@ use lib.Dec.{leb, eqb}
 use lib.ListN.{length, getD, drop, length-drop}
 use lib.Seq.{drop-drop, getD-drop}
 use lib.Ieee.{Float, binary32, ofBits, toBits, fits}
-use Rattle.formats.specs.Source.{Source, keypadSource}
-use Rattle.formats.specs.Reading.{Read, got, refused, andThen, numberFrom}
+use Rattle.formats.specs.Format.{Source, keypadSource, Read, got, refused, andThen, numberFrom}
 use Rattle.formats.specs.Format as F
 use Rattle.formats.specs.Description.{Description, choose, pair, times, format}
 use Rattle.formats.specs.declared.Fault.{Fault}
@@ -24,9 +22,9 @@ use Rattle.score_line.specs.declared.Range.the-variants as range
 use Rattle.score.specs.Score.{Lines, all, faulty, before, lineThen}
 use Rattle.score_line.specs.declared.Line.{Line}
 use Rattle.score_line.specs.Reading.{answerOf}
-use Rattle.score_text.specs.Said.{Said, bits, flag, labelWords, eventWords, wordsOf, lineSaid}
+use Rattle.score_text.specs.Said.{Said, bits, flag, labelWords, eventWords, wordsOf, lineSaid, judgedFrom, judgement}
 use Rattle.score_text.specs.Said as said
-use Rattle.score_text.specs.Reading.{Text, lines, bad, judgedFrom, judgement, judged, linesFrom, textOf}
+use Rattle.score_text.specs.inside.Reading.{Text, lines, bad, judged, linesFrom, textOf}
 use Rattle.score_text.specs.Claims.{TextAnswer, is-taken, not-carried, out-of-range, too-many-values, bad-text, TextAnswers}
 
 -- ---- numbers that lie ahead of a source

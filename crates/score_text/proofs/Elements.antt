@@ -11,10 +11,10 @@ use lib.Dec.{eqb}
 use lib.Ieee.{Float}
 use Rattle.laws.proofs.Choice.{cond-true, cond-false}
 use Rattle.numerals.specs.Numeral.{point, Numeral, Lawful, spelled, meaning, nameBytes}
-use Rattle.numerals.specs.Reading.{Read, got, refused, andThen, startsWith, rest, isDigit, startsDigit, numberFrom, nameFrom}
+use Rattle.numerals.specs.inside.Reading.{Read, got, refused, andThen, startsWith, rest, isDigit, startsDigit, numberFrom, nameFrom}
 use Rattle.numerals.proofs.Readings.{Found, not-got, then-back, test-back, either-way, starts, number-starts, number-complete, number-sound, name-complete, name-sound}
 use Rattle.score_text.specs.Form.{newline, space, colon, Behind, spaces, behindBytes, behindName, behindNumber, valueBytes, LawfulName, LawfulValues}
-use Rattle.score_text.specs.Reading.{pastSpaces, gapFrom, colonFrom, wordFrom, ending, nextName, nextNumber, valuesFrom}
+use Rattle.score_text.specs.inside.Reading.{pastSpaces, gapFrom, colonFrom, wordFrom, ending, nextName, nextNumber, valuesFrom}
 
 pub go-on : {A B : Type 0} {m : Read A} (k : A → List ℕ → Read B) {a : A} {r : List ℕ} {n : Read B} → m ≡ got a r → k a r ≡ n → andThen m k ≡ n
 go-on k e f = ap (λ z. andThen z k) e ∙ f

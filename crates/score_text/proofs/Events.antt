@@ -7,11 +7,11 @@ use mathlib.Core.Option.{Option, none, some}
 use lib.ListN.{length}
 use Rattle.laws.proofs.Choice.{cond-true, cond-false}
 use Rattle.numerals.specs.Numeral.{nameLetter, Numeral, Lawful, spelled, nameBytes}
-use Rattle.numerals.specs.Reading.{got, andThen, startsWith, isDigit, startsDigit}
+use Rattle.numerals.specs.inside.Reading.{got, andThen, startsWith, isDigit, startsDigit}
 use Rattle.numerals.proofs.Readings.{then-back, number-starts, name-complete}
 use Rattle.score_text.specs.Said as said
 use Rattle.score_text.specs.Form.{newline, controlWord, tempoWord, endWord, Behind, behindBytes, behindName, behindNumber, valueBytes, LawfulName, LawfulValues}
-use Rattle.score_text.specs.Reading.{gapFrom, wordFrom, ending, nextName, nextNumber, valuesFrom, instrFrom, controlFrom, tempoFrom, endFrom, namedFrom, eventFrom}
+use Rattle.score_text.specs.inside.Reading.{gapFrom, wordFrom, ending, nextName, nextNumber, valuesFrom, instrFrom, controlFrom, tempoFrom, endFrom, namedFrom, eventFrom}
 use Rattle.score_text.proofs.Elements.{gap-complete, word-sound, ending-sound, behind-apart, number-here, value, next-name-complete, next-name-sound, next-number-complete, next-number-sound, behind-parted, newline-parted, values-parted, values-complete, values-room, values-sound}
 
 -- ---- behind an instrument's name

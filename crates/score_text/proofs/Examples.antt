@@ -7,17 +7,15 @@ use mathlib.Core.Option.{some}
 use lib.Ieee.{round, toBits}
 use Rattle.answer.specs.declared.Answer.the-variants.{Taken, NotCarried, OutOfRange, TooManyValues, BadText}
 use Rattle.timebase.specs.Time.{timeBits, durationBits, tempoBits, finiteBits}
-use Rattle.formats.specs.Source.{keypadSource}
-use Rattle.formats.specs.Reading.{numberFrom}
-use Rattle.formats.specs.Format.{small}
+use Rattle.formats.specs.Format.{keypadSource, numberFrom, small}
 use Rattle.score_line.specs.LineFormat.{inRange, float, number, timed, when, label, kind, labelled, body, counted, values, afterTime, parts, line}
 use Rattle.score_line.specs.Reading.{answerOf}
 use Rattle.score.specs.Score.{Score, refusedScore}
-use Rattle.score_text.specs.Said.{wordsOf}
+use Rattle.score_text.specs.Said.{wordsOf, mostLines}
 use Rattle.numerals.specs.Numeral.{Numeral, spelled, nameBytes}
 use Rattle.numerals.proofs.Examples.{bytes}
 use Rattle.score_text.specs.Form.{Behind, instr, control, tempo, end, Written, textBytes}
-use Rattle.score_text.specs.Reading.{mostLines, textOf}
+use Rattle.score_text.specs.inside.Reading.{textOf}
 
 abbrev behind : {A : Type 0} → ℕ → A → Behind A
 behind more x = record { more = more; element = x }

@@ -7,12 +7,12 @@ use mathlib.Core.Option.{none, some}
 use lib.Ieee.{Float}
 use Rattle.laws.proofs.Choice.{cond-true, cond-false}
 use Rattle.numerals.specs.Numeral.{nameLetter, Numeral, Lawful, spelled, meaning, nameBytes}
-use Rattle.numerals.specs.Reading.{got, refused, startsWith, rest, isDigit, numberFrom, nameFrom}
+use Rattle.numerals.specs.inside.Reading.{got, refused, startsWith, rest, isDigit, numberFrom, nameFrom}
 use Rattle.numerals.proofs.Readings.{Found, not-got, then-back, either-way, starts, number-starts, number-complete, number-sound, name-complete, name-sound}
 use Rattle.score_text.specs.Said.{Said}
 use Rattle.score_text.specs.Said as said
 use Rattle.score_text.specs.Form.{newline, space, star, colon, controlWord, Behind, Label, Form, instr, control, tempo, end, Written, spaces, behindName, behindNumber, valueBytes, formBytes, starBytes, lineBytes, LawfulName, LawfulValues, LawfulForm, timeSaid, eventSaid, saidBy}
-use Rattle.score_text.specs.Reading.{gapFrom, colonFrom, nextName, instrFrom, controlFrom, tempoFrom, endFrom, namedFrom, eventFrom, saidAt, labelledFrom, timedFrom, bodyFrom, lineFrom}
+use Rattle.score_text.specs.inside.Reading.{gapFrom, colonFrom, nextName, instrFrom, controlFrom, tempoFrom, endFrom, namedFrom, eventFrom, saidAt, labelledFrom, timedFrom, bodyFrom, lineFrom}
 use Rattle.score_text.proofs.Elements.{go-on, gap-parted, Gap, gap-complete, gap-sound, colon-complete, colon-parted, colon-sound, behind-apart, name-here, number-here, value, next-name-complete, next-name-sound, behind-parted}
 use Rattle.score_text.proofs.FormBytes.{three, timed, end-apart, tempo-apart, control-apart, target-apart, instr-apart, labelled, label-apart}
 use Rattle.score_text.proofs.Events.{instr-complete, instr-sound, control-sound, tempo-sound, end-sound, event-instr, event-labelled, event-control, event-tempo, event-end}

@@ -8,12 +8,12 @@ use mathlib.Core.Option.{Option, none, some}
 use borrow.Author.Tests.{eq-eqb}
 use lib.Dec.{eqb}
 use Rattle.numerals.specs.Numeral.{Numeral, Lawful, spelled, nameBytes}
-use Rattle.numerals.specs.Reading.{got, startsWith, startsDigit}
+use Rattle.numerals.specs.inside.Reading.{got, startsWith, startsDigit}
 use Rattle.numerals.proofs.Readings.{Same, not-got, name-one, number-one}
 use Rattle.score_text.specs.Said.{Said}
 use Rattle.score_text.specs.Said as said
 use Rattle.score_text.specs.Form.{newline, space, colon, controlWord, tempoWord, Behind, Label, Form, instr, control, tempo, end, Written, spaces, behindBytes, behindName, behindNumber, valueBytes, formBytes, starBytes, lineBytes, textBytes, LawfulName, LawfulValues, LawfulForm, LawfulLines, eventSaid, saidBy}
-use Rattle.score_text.specs.Reading.{lineFrom}
+use Rattle.score_text.specs.inside.Reading.{lineFrom}
 use Rattle.score_text.specs.Claims.{OneSpelling}
 use Rattle.score_text.proofs.Elements.{no-space, Parted, gap-parted, behind-apart, name-here, number-here, behind-parted, newline-parted, values-apart, values-parted, colon-parted, behind-no-newline}
 use Rattle.score_text.proofs.FormBytes.{timed, end-apart, tempo-apart, control-apart, target-apart, instr-apart, labelled, label-apart}

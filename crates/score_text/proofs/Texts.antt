@@ -9,11 +9,11 @@ use borrow.Author.Tests.{le-leb, lt-leb, leb-true, leb-false}
 use lib.ListN.{length, length-append}
 use lib.Dec.{leb}
 use Rattle.laws.proofs.Choice.{cond-true, cond-false}
-use Rattle.numerals.specs.Reading.{Read, got, refused}
+use Rattle.numerals.specs.inside.Reading.{Read, got, refused}
 use Rattle.numerals.proofs.Readings.{not-got}
-use Rattle.score_text.specs.Said.{Said}
+use Rattle.score_text.specs.Said.{Said, mostLines}
 use Rattle.score_text.specs.Form.{newline, Written, starBytes, formBytes, lineBytes, textBytes, LawfulForm, LawfulLines, saidBy}
-use Rattle.score_text.specs.Reading.{lineFrom, mostLines, Text, lines, bad, before, thenLines, unlessNone, linesFrom, judged, textOf}
+use Rattle.score_text.specs.inside.Reading.{lineFrom, Text, lines, bad, before, thenLines, unlessNone, linesFrom, judged, textOf}
 use Rattle.score_text.specs.Claims.{Spells, NoLine, Breaks, TextRead, TextBroken, Either, spells, breaks, EveryText, NotBoth, OneBreak, Judged}
 use Rattle.score_text.proofs.Lines.{line-complete, line-sound}
 

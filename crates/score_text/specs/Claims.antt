@@ -7,7 +7,8 @@ use Rattle.score.specs.Score.{refusedScore}
 use Rattle.answer.specs.declared.Answer.{Answer}
 use Rattle.answer.specs.declared.Answer.the-variants.{Taken, NotCarried, OutOfRange, TooManyValues, BadText}
 use Rattle.score_text.specs.Form.{Written, lineBytes, textBytes, LawfulForm, LawfulLines, saidBy}
-use Rattle.score_text.specs.Reading.{mostLines, judgement, judgedFrom, textOf}
+use Rattle.score_text.specs.Said.{mostLines, judgement, judgedFrom}
+use Rattle.score_text.specs.inside.Reading.{textOf}
 
 -- these bytes are the lines of a text, at most 1,048,575
 pub record Spells (bytes : List ℕ) (ws : List Written) : Type 0 where

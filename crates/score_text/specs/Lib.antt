@@ -1,4 +1,4 @@
 pub mod Said
 pub mod Form
-pub mod Reading
 pub mod Claims
+pub mod inside

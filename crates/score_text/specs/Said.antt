@@ -1,15 +1,15 @@
 -- What a line of text says, as the fields of document 01's score line, so that the stick's rules read it. Definitions only.
-use Prim.Native.Nat.{ℕ}
+use Prim.Native.Nat.{ℕ, suc}
 use mathlib.Core.Bool.{Bool, cond}
 use mathlib.Core.List.{List, [], _∷_, _++_, map}
 use mathlib.Core.Option.{Option, none, some}
 use lib.ListN.{length}
 use lib.Ieee.{Float, binary32, toBits}
-use Rattle.formats.specs.Source.{keypadSource}
-use Rattle.formats.specs.Reading.{Read}
-use Rattle.score_line.specs.Reading.{lineFrom}
+use Rattle.formats.specs.Format.{keypadSource, Read}
+use Rattle.score_line.specs.Reading.{lineFrom, answerOf}
 use Rattle.score_line.specs.LineFormat as format
 use Rattle.score_line.specs.declared.Line.{Line}
+use Rattle.score.specs.Score.{Lines, all, faulty, lineThen, Score, taken, refusedScore}
 
 pub data Event : Type 0 where
   -- a label or none, the instrument, the duration and the values
@@ -51,3 +51,17 @@ wordsOf s = 1 ∷ (0 ∷ (bits (s .time) ∷ (flag (s .priority) ∷ eventWords 
 -- the line, or the first fault in reading order
 unfoldable pub lineSaid : Said → Read Line
 lineSaid s = lineFrom (keypadSource (wordsOf s)) 0
+
+-- the most lines of a score
+abbrev pub mostLines : ℕ
+mostLines = 1048575
+
+-- then 1, 2, 3, 5 by the stick's rules: the first fault, from the line of number i on
+unfoldable pub judgedFrom : ℕ → List Said → Lines
+unfolding lineSaid
+judgedFrom i [] = all [] 0
+judgedFrom i (s ∷ ss) = lineThen (lineSaid s) i (λ p. judgedFrom (suc i) ss)
+
+abbrev pub judgement : Lines → Score
+judgement (all ls p) = taken ls
+judgement (faulty f i) = refusedScore (answerOf f) i

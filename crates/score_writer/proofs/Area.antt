@@ -1,6 +1,5 @@
 -- Slots of an area: their lines, the first fault, the bits of their lines. Assumes nothing.
-use Prim.Native.Nat.{ℕ, zero, suc, _+_, _-_, _*_, _/_, _<_, _≤_}
-use Prim.Native.Nat.{min as lesser}
+use Prim.Native.Nat.{ℕ, zero, suc, _+_, _-_, _*_, _/_, _<_, _≤_, min as lesser}
 use mathlib.Core.Path.{_≡_, refl, sym, ap, ap₂, _∙_, subst}
 use mathlib.Core.Bool.{Bool, true, false, _&&_}
 use mathlib.Core.List.{List, [], _∷_, _++_, append-assoc, append-nil}
@@ -17,11 +16,11 @@ use Rattle.answer.specs.declared.Answer.the-variants as answer
 use Rattle.score_line.specs.Reading.{lineInWords, refusedLine}
 use Rattle.score_line.specs.declared.Line.{Line}
 use Rattle.score_line.specs.declared.LineRead.{LineRead}
-use Rattle.line_writer.specs.Fields.{lineBits}
+use Rattle.line_writer.specs.Writing.{lineBits}
 use Rattle.line_writer.proofs.Proved.{line-wide, length-line}
 use Rattle.score_writer.specs.Writing.{linesBits}
 use Rattle.score_writer.specs.Slots.{allZero, slotLine, slotRead, areaFault, areaLines}
-use Rattle.score_writer.specs.Written.{Short}
+use Rattle.score_writer.specs.inside.Laid.{Short}
 
 -- ---- zeros to the end
 

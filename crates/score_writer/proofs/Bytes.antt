@@ -12,14 +12,12 @@ use Rattle.bitstream.specs.Bits.{bitsOf, bit, field, valueOf}
 use Rattle.bitstream.specs.Filling.{filledUp, bytesFrom, bytesOf}
 use Rattle.bitstream.proofs.Laws.{length-bitsOf}
 use Rattle.bitstream.proofs.Filling.{bitsOf-bytesOf, bytesOf-bitsOf}
-use Rattle.formats.specs.Reading.{got}
-use Rattle.formats.specs.Fields.{fieldBits}
-use Rattle.formats.specs.Format.{small}
+use Rattle.formats.specs.Format.{got, fieldBits, small}
 use Rattle.score_line.specs.LineFormat.{timed, when, kind, body, values, float, padded, afterTime, parts, line, lawful}
 use Rattle.score_line.specs.Reading.{lineRead, lineOf}
 use Rattle.score_line.specs.declared.Line.{Line}
 use Rattle.score_line.specs.declared.LineRead.{LineRead}
-use Rattle.line_writer.specs.Fields.{lineBefore, lineBits}
+use Rattle.line_writer.specs.Writing.{lineBefore, lineBits}
 use Rattle.score.specs.Score.{Score, scoreOf, unitOf}
 use Rattle.score.proofs.Walk.{answered}
 use Rattle.score_writer.specs.Writing.{linesBits, scoreBits, scoreBytes, unitBits, unitBytes}

@@ -18,14 +18,14 @@ use Rattle.bitstream.specs.Bits.{bitsOf, field}
 use Rattle.bitstream.specs.Fields.{farthest, over}
 use Rattle.bitstream.specs.Filling.{filledUp, bytesOf}
 use Rattle.bitstream.proofs.Fields.{drop-over, bitsOf-inj}
-use Rattle.formats.specs.Reading.{got}
+use Rattle.formats.specs.Format.{got}
 use Rattle.score_line.specs.LineFormat.{lawful}
 use Rattle.score_line.specs.Reading.{lineAt, keypadLine, lineRead}
 use Rattle.score_line.specs.declared.Line.{Line}
 use Rattle.score_line.specs.declared.LineRead.{LineRead}
-use Rattle.line_writer.specs.Fields.{lineBits, lineWords}
-use Rattle.line_writer.specs.Writing.{lineFault, lineSlot, bitsFit, LineWritten}
-use Rattle.line_writer.specs.Claims.{taken, stored, meant, FaultNumber, no-fault, out-of-range, too-many-values}
+use Rattle.line_writer.specs.Writing.{lineBits, lineWords, lineFault, lineSlot, bitsFit, LineWritten}
+use Rattle.line_writer.specs.Claims.{taken, FaultNumber, no-fault, out-of-range, too-many-values}
+use Rattle.line_writer.specs.Stored.{stored, meant}
 use Rattle.line_writer.proofs.Writes.{fit-back}
 use Rattle.line_writer.proofs.Proved.{values-long, before-append, line-here, line-back-here, words-read-back, words-written-back}
 use Rattle.line_writer.proofs.AnyLine.{every-meant, fault-numbers}
@@ -35,7 +35,8 @@ use Rattle.score.specs.declared.ScoreRead.{ScoreRead}
 use Rattle.score.proofs.Walk.{answered}
 use Rattle.score_area.specs.Area.{areaWords, laid, decodedOf, areaAfter, carried, Left}
 use Rattle.score_area.specs.declared.Decoded.{Decoded}
-use Rattle.score_writer.specs.Writing.{linesBits, scoreBits, scoreBytes, unitBits, unitBytes, mostLines, allLawful}
+use Rattle.score_writer.specs.Writing.{linesBits, scoreBits, scoreBytes, unitBits, unitBytes, mostLines}
+use Rattle.score_writer.specs.Bytes.{allLawful}
 use Rattle.score_writer.specs.Slots.{slotRead, areaFault, areaLines}
 use Rattle.score_writer.specs.Written.{refusal, told, left, scoreWritten, scoreLeft, unitWritten, unitLeft, slotWritten, slotLeft, ScoreDone, UnitDone, SlotDone}
 use Rattle.score_writer.specs.Claims.{Bytes, Words, Took, LineReadBack, LineWrittenBack, KeypadReadBack, KeypadWrittenBack, SlotsBack, ScoreReadBack, BytesBack, ScoreWrittenBack, UnitReadBack, UnitWrittenBack, SlotReadBack, SlotWrittenBack, allStored, linesFault, linesWritten, linesLeft, WriterNumber, AsLines, LinesWritten}

@@ -13,17 +13,18 @@ use Rattle.answer.specs.Numbers.{isTaken}
 use Rattle.answer.specs.declared.Answer.{Answer}
 use Rattle.answer.specs.declared.Answer.the-variants.{Taken, OutOfRange, NoRoom}
 use Rattle.bitstream.specs.Bits.{bitsOf, field}
-use Rattle.bitstream.specs.Fields.{over, written}
+use Rattle.bitstream.specs.Fields.{over}
+use Rattle.bitstream.specs.inside.Fields.{written}
 use Rattle.bitstream.specs.Filling.{missing, filledUp, bytesOf}
 use Rattle.bitstream.proofs.Laws.{length-field, length-bitsOf}
 use Rattle.score_line.specs.declared.Line.{Line}
 use Rattle.score_line.specs.declared.LineRead.{LineRead}
-use Rattle.line_writer.specs.Fields.{lineBits}
-use Rattle.line_writer.specs.Writing.{lineFault, LineWritten}
+use Rattle.line_writer.specs.Writing.{lineBits, lineFault, LineWritten}
 use Rattle.score.specs.declared.ScoreRead.{ScoreRead}
 use Rattle.score_writer.specs.Writing.{linesBits, scoreBits, scoreBytes, unitBits, unitBytes, mostLines}
 use Rattle.score_writer.specs.Slots.{slotRead, areaFault, areaLines}
-use Rattle.score_writer.specs.Written.{refusal, told, left, scoreWritten, scoreLeft, unitWritten, unitLeft, slotWritten, slotLeft, ScoreDone, UnitDone, SlotDone, Laid, RoomAt, Short}
+use Rattle.score_writer.specs.Written.{refusal, told, left, scoreWritten, scoreLeft, unitWritten, unitLeft, slotWritten, slotLeft, ScoreDone, UnitDone, SlotDone}
+use Rattle.score_writer.specs.inside.Laid.{Laid, RoomAt, Short}
 use Rattle.score_writer.specs.declared.Written.{Written}
 use Rattle.score_writer.proofs.Area.{lines-count}
 use Rattle.score_writer.proofs.Lays.{line-laid, end-room, whole-laid, length-bytes, laid-bytes}

@@ -20,17 +20,16 @@ use Rattle.score_line.specs.LineFormat.{lawful}
 use Rattle.score_line.specs.Reading.{lineInWords, refusedLine, wholeRun, keypadLine}
 use Rattle.score_line.specs.declared.Line.{Line}
 use Rattle.score_line.specs.declared.LineRead.{LineRead}
-use Rattle.line_writer.specs.Fields.{lineFields, lineWords}
-use Rattle.line_writer.specs.Packed.{toEighteen}
-use Rattle.line_writer.specs.Writing.{lineFault, lineSlot}
-use Rattle.line_writer.specs.Claims.{taken, storedWhen, storedEvent, stored, meant, asRead}
+use Rattle.line_writer.specs.Writing.{lineFields, lineWords, toEighteen, lineFault, lineSlot}
+use Rattle.line_writer.specs.Claims.{taken, asRead}
+use Rattle.line_writer.specs.Stored.{storedWhen, storedEvent, stored, meant}
 use Rattle.formats.proofs.InWords.{length-words}
 use Rattle.line_writer.proofs.Proved.{values-long, line-few, words-here, words-back-here, words-read-back, words-written-back}
 use Rattle.line_writer.proofs.AnyLine.{every-line-read, every-meant}
 use Rattle.score.specs.declared.ScoreRead.{ScoreRead}
 use Rattle.score_area.specs.Area.{areaWords}
 use Rattle.score_area.proofs.Slots.{taken-is}
-use Rattle.score_writer.specs.Writing.{allLawful}
+use Rattle.score_writer.specs.Bytes.{allLawful}
 use Rattle.score_writer.specs.Slots.{allZero, slotLine, slotRead, areaFault, areaLines}
 use Rattle.score_writer.specs.Claims.{AsKeypad, SlotsAsKeypad, KeypadAsSlot, allStored, linesFault}
 

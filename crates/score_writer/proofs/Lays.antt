@@ -9,7 +9,8 @@ use borrow.Author.Tests.{le-leb}
 use lib.ListN.{length, getD, take, drop, replicate, length-append, length-replicate, take-append-drop}
 use lib.Seq.{take-at}
 use Rattle.bitstream.specs.Bits.{bitsOf, field, bit}
-use Rattle.bitstream.specs.Fields.{over, written, farthest}
+use Rattle.bitstream.specs.Fields.{over, farthest}
+use Rattle.bitstream.specs.inside.Fields.{written}
 use Rattle.bitstream.specs.Filling.{missing, filledUp, bytesFrom, bytesOf}
 use Rattle.bitstream.proofs.Laws.{length-bitsOf, length-field}
 use Rattle.bitstream.proofs.Fields.{over-over, length-over, written-over}
@@ -17,11 +18,10 @@ use Rattle.bitstream.proofs.Filling.{length-filledUp, bytesOf-bitsOf}
 use Rattle.bitstream.proofs.Window.{bitsOf-take, bytes-after}
 use Rattle.score_line.specs.declared.Line.{Line}
 use Rattle.score_line.specs.declared.LineRead.{LineRead}
-use Rattle.line_writer.specs.Fields.{lineBits}
-use Rattle.line_writer.specs.Writing.{bitsFit, lineOver, pastLine, LineWritten}
+use Rattle.line_writer.specs.Writing.{lineBits, bitsFit, lineOver, pastLine, LineWritten}
 use Rattle.score_writer.specs.Writing.{linesBits}
 use Rattle.score_writer.specs.Slots.{slotRead, areaLines}
-use Rattle.score_writer.specs.Written.{Laid, RoomAt}
+use Rattle.score_writer.specs.inside.Laid.{Laid, RoomAt}
 use Rattle.score_writer.proofs.Area.{bits-more, length-more, bits-grow}
 
 -- ---- one behind the other

@@ -16,14 +16,14 @@ use Rattle.bitstream.specs.Filling.{missing, filledUp}
 use Rattle.bitstream.proofs.Laws.{length-field}
 use Rattle.bitstream.proofs.Fields.{read-here, read-back}
 use Rattle.bitstream.proofs.Filling.{filled-back, filled-here, filled-up, length-filledUp}
-use Rattle.formats.specs.Source.{bitSource}
-use Rattle.formats.specs.Reading.{Read as Reading, got}
+use Rattle.formats.specs.Format.{bitSource, Read as Reading, got}
 use Rattle.score_line.specs.Reading.{lineFrom, lineAt, lineRead, refusedLine}
 use Rattle.score_line.specs.declared.Line.{Line}
-use Rattle.line_writer.specs.Fields.{lineBits}
+use Rattle.line_writer.specs.Writing.{lineBits}
 use Rattle.score_line.specs.LineFormat.{lawful}
 use Rattle.line_writer.proofs.Proved.{read-taken, line-long, before-append, line-here as bits-here, line-back-here}
-use Rattle.score_writer.specs.Writing.{linesBits, scoreBits, unitBits, mostLines, allLawful}
+use Rattle.score_writer.specs.Writing.{linesBits, scoreBits, unitBits, mostLines}
+use Rattle.score_writer.specs.Bytes.{allLawful}
 use Rattle.score.specs.Score.{all, before, lineThen, linesFrom, taken, scoreOf, unitOf, opened, wholeLine}
 use Rattle.score.proofs.Walk.{accepted, accepts, lines-back, unit-accepted}
 

@@ -1,11 +1,11 @@
 -- Lists of lines and the bytes of their scores and units: each is made of the other. Statements only; the proofs are in proofs/Bytes.antt.
-use Prim.Native.Nat.{ℕ, _^_, _<_, _≤_}
+use Prim.Native.Nat.{ℕ, _≤_}
 use mathlib.Core.Path.{_≡_}
-use mathlib.Core.Bool.{false}
+use mathlib.Core.Bool.{false, Bool, true, _&&_}
 use mathlib.Core.List.{List, [], _∷_}
 use lib.Dec.{T}
 use lib.Ieee.{binary32, ofBits}
-use lib.ListN.{length, getD}
+use lib.ListN.{length}
 use Rattle.answer.specs.declared.Answer.the-variants.{Taken}
 use Rattle.bitstream.specs.Bits.{bitsOf}
 use Rattle.score_line.specs.Reading.{lineOf}
@@ -14,11 +14,13 @@ use Rattle.score_line.specs.declared.When.the-variants.{Timed}
 use Rattle.score_line.specs.declared.Event.the-variants.{End}
 use Rattle.score_line.specs.LineFormat.{lawful}
 use Rattle.score.specs.Score.{taken, scoreOf, unitOf}
-use Rattle.score_writer.specs.Writing.{scoreBytes, unitBytes, mostLines, allLawful}
+use Rattle.score_writer.specs.Writing.{scoreBytes, unitBytes, mostLines}
+use Rattle.score_writer.specs.Claims.{Bytes}
 
--- every number is a byte
-abbrev pub Bytes : List ℕ → Type 0
-Bytes s = (i : ℕ) → getD s i 0 < 2 ^ 8
+-- every line lawful
+unfoldable pub allLawful : List Line → Bool
+allLawful [] = true
+allLawful (l ∷ ls) = lawful l && allLawful ls
 
 -- every list of at most 1,048,575 lawful lines, written and read, is itself
 abbrev pub ScoreBytesRead : Type 0

@@ -7,7 +7,6 @@ use mathlib.Core.List.{List, [], _∷_, _++_}
 use lib.Dec.{T, leb}
 use lib.ListN.{length, getD, take, drop, replicate}
 use Rattle.answer.specs.Numbers.{numberOf, isTaken}
-use Rattle.answer.specs.declared.Answer.{Answer}
 use Rattle.answer.specs.declared.Answer.the-variants.{Taken, OutOfRange}
 use Rattle.bitstream.specs.Bits.{bitsOf}
 use Rattle.bitstream.specs.Fields.{farthest}
@@ -15,9 +14,8 @@ use Rattle.score_line.specs.LineFormat.{lawful}
 use Rattle.score_line.specs.Reading.{lineAt, keypadLine}
 use Rattle.score_line.specs.declared.Line.{Line}
 use Rattle.score_line.specs.declared.LineRead.{LineRead}
-use Rattle.line_writer.specs.Fields.{lineBits, lineWords}
-use Rattle.line_writer.specs.Writing.{lineFault, lineSlot, bitsFit, LineWritten}
-use Rattle.line_writer.specs.Claims.{stored, meant}
+use Rattle.line_writer.specs.Writing.{lineBits, lineWords, lineFault, lineSlot, bitsFit, LineWritten}
+use Rattle.line_writer.specs.Stored.{stored, meant}
 use Rattle.score.specs.Score.{scoreOf, unitOf}
 use Rattle.score.specs.declared.ScoreRead.{ScoreRead}
 use Rattle.score_area.specs.Area.{areaWords, carried, Left}

@@ -3,3 +3,4 @@ pub mod Slots
 pub mod Written
 pub mod Bytes
 pub mod Claims
+pub mod inside

@@ -1,13 +1,12 @@
 -- Whole scores and access units, written: document 01, "Score lines, bit by bit". Definitions only.
 use Prim.Native.Nat.{ℕ}
-use mathlib.Core.Bool.{Bool, true, _&&_}
+use mathlib.Core.Bool.{Bool}
 use mathlib.Core.List.{List, [], _∷_, _++_}
 use lib.ListN.{length}
 use Rattle.bitstream.specs.Bits.{field}
 use Rattle.bitstream.specs.Filling.{filledUp, bytesOf}
 use Rattle.score_line.specs.declared.Line.{Line}
-use Rattle.line_writer.specs.Fields.{lineBits}
-use Rattle.score_line.specs.LineFormat.{lawful}
+use Rattle.line_writer.specs.Writing.{lineBits}
 
 -- lines without gap
 unfoldable pub linesBits : List Line → List Bool
@@ -31,8 +30,3 @@ unitBytes l = bytesOf (unitBits l)
 -- the most lines that 20 bits can count
 abbrev pub mostLines : ℕ
 mostLines = 1048575
-
--- every line lawful
-unfoldable pub allLawful : List Line → Bool
-allLawful [] = true
-allLawful (l ∷ ls) = lawful l && allLawful ls

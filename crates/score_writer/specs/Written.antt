@@ -1,14 +1,13 @@
 -- What writing a score or an access unit answers and leaves. Definitions only.
-use Prim.Native.Nat.{ℕ, _≤_, _+_}
+use Prim.Native.Nat.{ℕ}
 use mathlib.Core.Path.{_≡_}
-use mathlib.Core.Bool.{Bool, cond}
+use mathlib.Core.Bool.{cond}
 use mathlib.Core.List.{List, _++_}
 use lib.Dec.{leb}
 use lib.ListN.{length, drop}
 use Rattle.answer.specs.Numbers.{isTaken}
 use Rattle.answer.specs.declared.Answer.{Answer}
 use Rattle.answer.specs.declared.Answer.the-variants.{Taken, OutOfRange, NoRoom}
-use Rattle.bitstream.specs.Fields.{over, farthest}
 use Rattle.score_line.specs.declared.Line.{Line}
 use Rattle.score_line.specs.declared.LineRead.{LineRead}
 use Rattle.line_writer.specs.Writing.{lineFault}
@@ -66,18 +65,3 @@ pub record UnitDone (l : Line) (old new : List ℕ) (r : Written) : Type 0 where
 pub record SlotDone (area old new : List ℕ) (r : Written) : Type 0 where
   pub answers : r ≡ slotWritten (slotRead area 0) (length old)
   pub leaves : new ≡ slotLeft (slotRead area 0) old
-
--- ---- inside: bits laid at a position, with room for them
-
-pub record Laid (old : List Bool) (at : ℕ) (bits : List Bool) (new : List Bool) (p : ℕ) : Type 0 where
-  pub past : p ≡ at + length bits
-  pub stands : new ≡ over old at bits
-
-pub record RoomAt (bits at n : ℕ) : Type 0 where
-  pub near : at + n ≤ farthest
-  pub within : at + n ≤ bits
-
--- a length and its bound
-pub record Short (n most r : ℕ) : Type 0 where
-  pub is : r ≡ n
-  pub bound : r ≤ most

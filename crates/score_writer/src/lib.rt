@@ -10,10 +10,11 @@ ghost use lib.ListN.{length, drop, replicate};
 ghost use Rattle.bitstream.specs.Bits.{bitsOf};
 ghost use Rattle.bitstream.specs.Fields.{over};
 ghost use Rattle.bitstream.specs.Filling.{missing};
-ghost use Rattle.line_writer.specs.Fields.{lineBits};
+ghost use Rattle.line_writer.specs.Writing.{lineBits};
 ghost use Rattle.score_writer.specs.Writing.{linesBits, scoreBits, unitBits, mostLines};
 ghost use Rattle.score_writer.specs.Slots.{allZero, slotLine, slotRead, areaFault, areaLines};
-ghost use Rattle.score_writer.specs.Written.{Laid, RoomAt, Short, ScoreDone, UnitDone, SlotDone};
+ghost use Rattle.score_writer.specs.inside.Laid.{Laid, RoomAt, Short};
+ghost use Rattle.score_writer.specs.Written.{ScoreDone, UnitDone, SlotDone};
 
 // The words of a slot.
 const SLOT: usize = 18;

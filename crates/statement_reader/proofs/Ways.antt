@@ -6,7 +6,7 @@ use mathlib.Core.List.{List, [], _∷_}
 use mathlib.Core.Bool.{Bool, true, false}
 use lib.ListN.{length, drop}
 use Rattle.tokens.specs.declared.Token.{Token}
-use Rattle.syntax.specs.Program.{ins, endOp}
+use Rattle.syntax.specs.inside.Program.{ins, endOp}
 use Rattle.expressions.specs.declared.Got.{Got}
 use Rattle.expressions.specs.declared.Got.the-variants.{Next}
 use Rattle.expressions.specs.Roles.{signL}

@@ -1,7 +1,7 @@
 // The reader of statements: from a place among the tokens to the program of the statements there.
 use expressions::Got;
 use grammar::Start;
-ghost use Rattle.tokens.specs.Token.{toks};
+ghost use Rattle.tokens.specs.inside.Token.{toks};
 ghost use Rattle.expressions.specs.Areas.{areas, Ready, Runs};
 ghost use Rattle.grammar.specs.Reader.{setTo, bracketed, close, statements, branches, otherwise};
 

@@ -1,7 +1,7 @@
 -- Every operator's operation is a value to the passes over a program.
 use mathlib.Core.Path.{_≡_, refl}
 use Rattle.signs.specs.Operators.{Unary, Binary}
-use Rattle.syntax.specs.Program.{actOf, unaryOp, binaryOp}
+use Rattle.syntax.specs.inside.Program.{actOf, unaryOp, binaryOp}
 use Rattle.syntax.specs.declared.Act.the-variants.{Value}
 
 pub unary-value : (o : Unary) → actOf (unaryOp o) ≡ Value

@@ -11,9 +11,9 @@ use Rattle.laws.proofs.Choice.{both-true}
 use Rattle.syntax.specs.Tree.{Instrument}
 use Rattle.syntax.specs.Names.{Named, namesOf, symbols, has, apart, distinct, known, namesKept}
 use Rattle.syntax.specs.Rates.{Rate, iRate, kRate, aRate, rateOfKind, rateOf}
-use Rattle.syntax.specs.Placed as placed
-use Rattle.syntax.specs.Placed.{speed, placeFrom, place}
-use Rattle.syntax.specs.Translation.{DeclaredPlaces, PlacesApart}
+use Rattle.syntax.specs.inside.Placed as placed
+use Rattle.syntax.specs.inside.Placed.{speed, placeFrom, place}
+use Rattle.syntax.specs.inside.Translation.{DeclaredPlaces, PlacesApart}
 
 -- an instrument's names: at most 16, each once, and every name used is declared
 pub record Kept (x : Instrument) : Type 0 where

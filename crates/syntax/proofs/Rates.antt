@@ -10,9 +10,9 @@ use Rattle.laws.proofs.Choice.{both-true}
 use Rattle.syntax.specs.Tree.{Expr, number, name, unary, binary, choose, Statements, done, assign, output, branch, Instrument}
 use Rattle.syntax.specs.Names.{Named, namesOf, namesKept, eachKept, nameRules, distinct, titleOf}
 use Rattle.syntax.specs.Rates.{Rate, iRate, kRate, aRate, atMost, fastest, same, rateOf, rate, ratesKept, rateRules}
-use Rattle.syntax.specs.Placed as placed
-use Rattle.syntax.specs.Placed.{speed, place, putIn, put}
-use Rattle.syntax.specs.Translation.{RatesAgree}
+use Rattle.syntax.specs.inside.Placed as placed
+use Rattle.syntax.specs.inside.Placed.{speed, place, putIn, put}
+use Rattle.syntax.specs.inside.Translation.{RatesAgree}
 use Rattle.syntax.proofs.Places.{rate-is, kept}
 
 pub speed-most : (r q : Rate) → leb (speed r) (speed q) ≡ atMost r q

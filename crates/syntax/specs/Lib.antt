@@ -2,6 +2,4 @@ pub mod Tree
 pub mod Grammar
 pub mod Names
 pub mod Rates
-pub mod Placed
-pub mod Translation
-pub mod Program
+pub mod inside

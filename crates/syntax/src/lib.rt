@@ -1,6 +1,6 @@
 // The kinds of instruction in an orchestra's program; the trees and rules themselves stand in specs/.
 ghost use mathlib.Core.Path.{_≡_};
-ghost use Rattle.syntax.specs.Program.{actOf};
+ghost use Rattle.syntax.specs.inside.Program.{actOf};
 
 // What an operation is to the passes over a program.
 pub enum Act {

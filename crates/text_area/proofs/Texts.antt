@@ -9,10 +9,11 @@ use Rattle.answer.specs.Numbers.{isTaken}
 use Rattle.answer.specs.declared.Answer.the-variants.{Taken, NoRoom}
 use Rattle.score_line.specs.declared.Line.{Line}
 use Rattle.line_writer.specs.Writing.{lineSlot}
-use Rattle.score_area.specs.Area.{areaWords, laid, Left, SlotPut}
+use Rattle.score_area.specs.Area.{areaWords, laid, Left}
+use Rattle.score_area.specs.inside.Area.{SlotPut}
 use Rattle.score_area.proofs.Filling.{passed, Filling, filling-start, filling-more, filling-end}
 use Rattle.score_area.proofs.Slots.{taken-is, left-refused, left-short, left-taken}
-use Rattle.score_text.specs.Reading.{textOf}
+use Rattle.score_text.specs.inside.Reading.{textOf}
 use Rattle.text_event.specs.declared.TextLine.{TextLine}
 use Rattle.text_reader.specs.Texts.{textTold, lineAt, walked}
 use Rattle.text_reader.specs.declared.TextRead.{TextRead}

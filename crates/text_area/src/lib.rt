@@ -5,7 +5,7 @@ ghost use mathlib.Core.Path.{_≡_};
 ghost use Prim.Native.Nat.{_*_, _≤_};
 ghost use lib.ListN.{length};
 ghost use Rattle.score_area.specs.Area.{areaWords, laid, Left};
-ghost use Rattle.score_text.specs.Reading.{textOf};
+ghost use Rattle.score_text.specs.inside.Reading.{textOf};
 ghost use Rattle.text_reader.specs.Texts.{walked};
 
 // The words of a line in the area.

@@ -8,10 +8,10 @@ use borrow.Author.Tests.{eq-eqb, ne-eqb}
 use lib.ListN.{length, getD, drop}
 use lib.Ieee.{Float}
 use Rattle.laws.proofs.Choice.{cond-true, cond-false}
-use Rattle.numerals.specs.Reading.{Read, got, refused, startsWith, rest, numberFrom, nameFrom}
+use Rattle.numerals.specs.inside.Reading.{Read, got, refused, startsWith, rest, numberFrom, nameFrom}
 use Rattle.number_reader.specs.Results.{Starts}
 use Rattle.number_reader.proofs.Bytes.{here, past, rest-drop}
-use Rattle.score_text.specs.Reading.{pastSpaces, gapFrom, colonFrom, wordFrom, nextName, nextNumber}
+use Rattle.score_text.specs.inside.Reading.{pastSpaces, gapFrom, colonFrom, wordFrom, nextName, nextNumber}
 use Rattle.text_elements.specs.Passing.{passedIs}
 use Rattle.text_elements.specs.declared.Passed.{Passed}
 use Rattle.text_elements.specs.declared.Passed.the-variants as passed

@@ -3,7 +3,7 @@ use number_reader::NameRead;
 use number_reader::NumberRead;
 ghost use mathlib.Core.Path.{_≡_};
 ghost use lib.ListN.{drop};
-ghost use Rattle.score_text.specs.Reading.{pastSpaces, gapFrom, colonFrom, wordFrom, nextName, nextNumber};
+ghost use Rattle.score_text.specs.inside.Reading.{pastSpaces, gapFrom, colonFrom, wordFrom, nextName, nextNumber};
 ghost use Rattle.number_reader.specs.Results.{numberIs, nameIs};
 ghost use Rattle.text_elements.specs.Passing.{passedIs};
 

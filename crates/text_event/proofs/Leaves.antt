@@ -10,11 +10,11 @@ use lib.ListN.{length, drop, length-drop}
 use lib.Seq.{drop-drop}
 use lib.Ieee.{Float}
 use Rattle.numerals.specs.Numeral.{mostNumber, mostDecimals}
-use Rattle.numerals.specs.Reading.{Read, got, refused, andThen, startsWith, rest, isDigit, Run, digitsFrom, withoutPoint, decimalsFrom, unsignedFrom, numberFrom, symbolFrom, nameFrom}
+use Rattle.numerals.specs.inside.Reading.{Read, got, refused, andThen, startsWith, rest, isDigit, Run, digitsFrom, withoutPoint, decimalsFrom, unsignedFrom, numberFrom, symbolFrom, nameFrom}
 use Rattle.score_text.specs.Said.{Said}
 use Rattle.score_text.specs.Said as said
 use Rattle.score_text.specs.Form.{controlWord, tempoWord, endWord}
-use Rattle.score_text.specs.Reading.{pastSpaces, gapFrom, colonFrom, wordFrom, ending, nextName, nextNumber, valuesFrom, instrFrom, controlFrom, tempoFrom, endFrom, namedFrom, eventFrom, labelledFrom, timedFrom, bodyFrom, lineFrom}
+use Rattle.score_text.specs.inside.Reading.{pastSpaces, gapFrom, colonFrom, wordFrom, ending, nextName, nextNumber, valuesFrom, instrFrom, controlFrom, tempoFrom, endFrom, namedFrom, eventFrom, labelledFrom, timedFrom, bodyFrom, lineFrom}
 
 -- the bytes behind at least n of them
 pub record Behind (n : ℕ) (bs after : List ℕ) : Type 0 where

@@ -8,12 +8,12 @@ use lib.ListN.{length, drop, length-append, length-drop}
 use lib.Seq.{append-snoc}
 use lib.Ieee.{Float}
 use Rattle.laws.proofs.Choice.{cond-true, cond-false}
-use Rattle.numerals.specs.Reading.{Read, got, refused, andThen, startsWith, rest}
+use Rattle.numerals.specs.inside.Reading.{Read, got, refused, andThen, startsWith, rest}
 use Rattle.number_reader.specs.Results.{Starts, numberIs}
 use Rattle.number_reader.specs.declared.NumberRead.{NumberRead}
 use Rattle.number_reader.specs.declared.NumberRead.the-variants as number
 use Rattle.number_reader.proofs.Bytes.{rest-drop}
-use Rattle.score_text.specs.Reading.{nextNumber, valuesFrom}
+use Rattle.score_text.specs.inside.Reading.{nextNumber, valuesFrom}
 use Rattle.said_line.specs.Judged.{eight, keptOf, withValue}
 use Rattle.said_line.specs.declared.Kept.{Kept}
 use Rattle.said_line.proofs.Keeping.{kept-more}

@@ -8,7 +8,7 @@ use lib.ListN.{length, drop}
 use lib.Ieee.{Float}
 use Rattle.answer.specs.declared.Answer.the-variants.{BadText}
 use Rattle.laws.proofs.Choice.{cond-true, cond-false}
-use Rattle.numerals.specs.Reading.{Read, got, refused, andThen, startsWith, rest, nameFrom}
+use Rattle.numerals.specs.inside.Reading.{Read, got, refused, andThen, startsWith, rest, nameFrom}
 use Rattle.number_reader.specs.Results.{Starts, numberIs, nameIs}
 use Rattle.number_reader.specs.declared.NumberRead.{NumberRead}
 use Rattle.number_reader.specs.declared.NumberRead.the-variants as number
@@ -19,7 +19,7 @@ use Rattle.score_line.specs.declared.LineRead.{LineRead}
 use Rattle.score_text.specs.Said.{Said, lineSaid}
 use Rattle.score_text.specs.Said as said
 use Rattle.score_text.specs.Form.{controlWord, tempoWord, endWord}
-use Rattle.score_text.specs.Reading.{gapFrom, wordFrom, ending, nextName, nextNumber, valuesFrom, instrFrom, controlFrom, tempoFrom, endFrom, namedFrom, eventFrom, saidAt}
+use Rattle.score_text.specs.inside.Reading.{gapFrom, wordFrom, ending, nextName, nextNumber, valuesFrom, instrFrom, controlFrom, tempoFrom, endFrom, namedFrom, eventFrom, saidAt}
 use Rattle.said_line.specs.Judged.{judgedAt, instrWords}
 use Rattle.said_line.proofs.Many.{instr-judged}
 use Rattle.text_elements.specs.Passing.{passedIs}

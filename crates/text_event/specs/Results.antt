@@ -6,13 +6,13 @@ use mathlib.Core.Option.{Option}
 use lib.ListN.{length}
 use lib.Ieee.{Float}
 use Rattle.answer.specs.declared.Answer.the-variants.{BadText}
-use Rattle.numerals.specs.Reading.{Read, got, refused, andThen, startsWith, rest}
+use Rattle.numerals.specs.inside.Reading.{Read, got, refused, andThen, startsWith, rest}
 use Rattle.score_line.specs.Reading.{lineRead, refusedLine}
 use Rattle.score_line.specs.declared.LineRead.{LineRead}
 use Rattle.score_text.specs.Said.{Said, lineSaid}
 use Rattle.score_text.specs.Said as said
 use Rattle.score_text.specs.Form.{newline}
-use Rattle.score_text.specs.Reading.{ending, nextName, nextNumber, saidAt}
+use Rattle.score_text.specs.inside.Reading.{ending, nextName, nextNumber, saidAt}
 use Rattle.said_line.specs.Judged.{keptOf}
 use Rattle.text_event.specs.declared.Values.{Values}
 use Rattle.text_event.specs.declared.TextLine.{TextLine}

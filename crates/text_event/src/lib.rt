@@ -9,7 +9,7 @@ use text_elements::Passed;
 ghost use mathlib.Core.Path.{_≡_};
 ghost use lib.ListN.{length, drop};
 ghost use Rattle.score_line.specs.LineFormat.{labelParts};
-ghost use Rattle.score_text.specs.Reading.{valuesFrom, instrFrom, controlFrom, tempoFrom, endFrom, namedFrom, eventFrom};
+ghost use Rattle.score_text.specs.inside.Reading.{valuesFrom, instrFrom, controlFrom, tempoFrom, endFrom, namedFrom, eventFrom};
 ghost use Rattle.text_event.specs.Results.{noValues, valuesTold, atTime, noLine, endedAt, lineTold, settingFrom};
 
 const NEWLINE: u8 = 10;

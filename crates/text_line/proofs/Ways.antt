@@ -7,14 +7,14 @@ use mathlib.Core.Option.{some}
 use lib.ListN.{drop}
 use lib.Ieee.{Float}
 use Rattle.laws.proofs.Choice.{cond-true, cond-false}
-use Rattle.numerals.specs.Reading.{numberFrom, nameFrom}
+use Rattle.numerals.specs.inside.Reading.{numberFrom, nameFrom}
 use Rattle.number_reader.specs.Results.{Starts, numberIs, nameIs}
 use Rattle.number_reader.specs.declared.NumberRead.{NumberRead}
 use Rattle.number_reader.specs.declared.NumberRead.the-variants as number
 use Rattle.number_reader.specs.declared.NameRead.{NameRead}
 use Rattle.number_reader.specs.declared.NameRead.the-variants as name
 use Rattle.number_reader.proofs.Bytes.{rest-drop}
-use Rattle.score_text.specs.Reading.{gapFrom, colonFrom, nextName, instrFrom, eventFrom, labelledFrom, timedFrom, bodyFrom, lineFrom}
+use Rattle.score_text.specs.inside.Reading.{gapFrom, colonFrom, nextName, instrFrom, eventFrom, labelledFrom, timedFrom, bodyFrom, lineFrom}
 use Rattle.text_elements.specs.Passing.{passedIs}
 use Rattle.text_elements.specs.declared.Passed.{Passed}
 use Rattle.text_elements.specs.declared.Passed.the-variants as passed

@@ -3,9 +3,9 @@ use Prim.Native.Nat.{ℕ}
 use mathlib.Core.Bool.{Bool}
 use mathlib.Core.List.{List}
 use mathlib.Core.Option.{some}
-use Rattle.numerals.specs.Reading.{Read, andThen, numberFrom}
+use Rattle.numerals.specs.inside.Reading.{Read, andThen, numberFrom}
 use Rattle.score_text.specs.Said.{Said}
-use Rattle.score_text.specs.Reading.{colonFrom, nextName, instrFrom}
+use Rattle.score_text.specs.inside.Reading.{colonFrom, nextName, instrFrom}
 use Rattle.text_event.specs.Results.{atTime}
 
 -- behind a label

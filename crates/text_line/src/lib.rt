@@ -6,7 +6,7 @@ use text_elements::Passed;
 use text_event::TextLine;
 ghost use mathlib.Core.Path.{_≡_};
 ghost use lib.ListN.{drop};
-ghost use Rattle.score_text.specs.Reading.{timedFrom, bodyFrom, lineFrom};
+ghost use Rattle.score_text.specs.inside.Reading.{timedFrom, bodyFrom, lineFrom};
 ghost use Rattle.text_event.specs.Results.{lineTold};
 ghost use Rattle.text_line.specs.Labelled.{afterLabel};
 

@@ -9,19 +9,19 @@ use lib.ListN.{length, drop}
 use Rattle.answer.specs.Numbers.{isTaken}
 use Rattle.answer.specs.declared.Answer.{Answer}
 use Rattle.answer.specs.declared.Answer.the-variants.{Taken, BadText}
-use Rattle.numerals.specs.Reading.{Read, got, refused}
-use Rattle.formats.specs.Reading as fields
+use Rattle.numerals.specs.inside.Reading.{Read, got, refused}
 use Rattle.score_line.specs.Reading.{answerOf, lineRead}
 use Rattle.score_line.specs.declared.Line.{Line}
 use Rattle.score_line.specs.declared.LineRead.{LineRead}
 use Rattle.score.specs.Score.{Lines, all, faulty, before, lineThen, Score, taken, refusedScore}
 use Rattle.score.proofs.Ways.{fault-not-taken}
-use Rattle.score_text.specs.Said.{Said, lineSaid}
-use Rattle.score_text.specs.Reading.{lineFrom, mostLines, Text, lines, bad, thenLines, linesFrom, judgedFrom, judgement, judged, textOf}
-use Rattle.score_text.specs.Reading as text
+use Rattle.score_text.specs.Said.{Said, lineSaid, mostLines, judgedFrom, judgement}
+use Rattle.score_text.specs.inside.Reading.{lineFrom, Text, lines, bad, thenLines, linesFrom, judged, textOf}
+use Rattle.score_text.specs.inside.Reading as text
 use Rattle.text_event.specs.Results.{lineTold}
 use Rattle.text_reader.specs.Texts.{lineAt, walked, Ahead}
 use Rattle.text_reader.proofs.Whole.{standing}
+use Rattle.formats.specs.Format as fields
 
 -- ---- a text that is taken, and one that is not
 

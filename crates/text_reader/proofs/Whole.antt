@@ -12,23 +12,23 @@ use Rattle.laws.proofs.Choice.{cond-true, cond-false}
 use Rattle.answer.specs.Numbers.{isTaken}
 use Rattle.answer.specs.declared.Answer.{Answer}
 use Rattle.answer.specs.declared.Answer.the-variants.{Taken}
-use Rattle.numerals.specs.Reading.{Read, got, refused}
+use Rattle.numerals.specs.inside.Reading.{Read, got, refused}
 use Rattle.number_reader.proofs.Bytes.{here, past}
-use Rattle.formats.specs.Reading as fields
 use Rattle.score_line.specs.Reading.{answerOf, lineRead, refusedLine}
 use Rattle.score_line.specs.declared.Line.{Line}
 use Rattle.score_line.specs.declared.LineRead.{LineRead}
 use Rattle.score.specs.Score.{Lines, all, faulty, before, lineThen}
 use Rattle.score.specs.declared.ScoreRead.{ScoreRead}
 use Rattle.score.proofs.Ways.{fault-not-taken}
-use Rattle.score_text.specs.Said.{Said, lineSaid}
-use Rattle.score_text.specs.Reading.{lineFrom, mostLines, Text, lines, bad, thenLines, unlessNone, linesFrom, judgedFrom, judgement, judged, textOf}
-use Rattle.score_text.specs.Reading as text
+use Rattle.score_text.specs.Said.{Said, lineSaid, mostLines, judgedFrom, judgement}
+use Rattle.score_text.specs.inside.Reading.{lineFrom, Text, lines, bad, thenLines, unlessNone, linesFrom, judged, textOf}
+use Rattle.score_text.specs.inside.Reading as text
 use Rattle.text_event.specs.Results.{noLine, lineTold}
 use Rattle.text_event.specs.declared.TextLine.{TextLine}
 use Rattle.text_event.proofs.Leaves.{Leaves, line-leaves}
 use Rattle.text_reader.specs.Texts.{textTold, badAt, firstOf, countedTo, lineAt}
 use Rattle.text_reader.specs.declared.TextRead.{TextRead}
+use Rattle.formats.specs.Format as fields
 
 -- ---- one line
 

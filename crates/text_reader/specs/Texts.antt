@@ -10,8 +10,8 @@ use Rattle.answer.specs.declared.Answer.the-variants.{Taken, BadText}
 use Rattle.score_line.specs.declared.Line.{Line}
 use Rattle.score.specs.Score.{Score, all}
 use Rattle.score.specs.declared.ScoreRead.{ScoreRead}
-use Rattle.score_text.specs.Said.{Said}
-use Rattle.score_text.specs.Reading.{lineFrom, lines, linesFrom, judgedFrom}
+use Rattle.score_text.specs.Said.{Said, judgedFrom}
+use Rattle.score_text.specs.inside.Reading.{lineFrom, lines, linesFrom}
 use Rattle.text_event.specs.Results.{lineTold}
 use Rattle.text_event.specs.declared.TextLine.{TextLine}
 use Rattle.text_reader.specs.declared.TextRead.{TextRead}

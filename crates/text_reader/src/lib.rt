@@ -2,7 +2,7 @@
 use answer::Answer;
 use score::ScoreRead;
 ghost use mathlib.Core.Path.{_≡_};
-ghost use Rattle.score_text.specs.Reading.{textOf};
+ghost use Rattle.score_text.specs.inside.Reading.{textOf};
 ghost use Rattle.text_reader.specs.Texts.{textTold, badAt, firstOf, countedTo};
 
 // The most lines of a score.

@@ -17,15 +17,13 @@ use Rattle.laws.proofs.Choice.{cond-true, cond-false}
 use Rattle.answer.specs.Numbers.{numberOf, isTaken}
 use Rattle.answer.specs.declared.Answer.the-variants as answer
 use Rattle.formats.specs.Format as F
-use Rattle.formats.specs.Format.{named, found}
+use Rattle.formats.specs.Format.{named, found, Read, got, refused, andThen, whole, numberFrom, Source, keypadSource, all as allOf}
 use Rattle.formats.specs.Description.{format, flag}
-use Rattle.formats.specs.Reading.{Read, got, refused, andThen, whole, numberFrom}
 use Rattle.formats.specs.declared.Fault.{Fault}
 use Rattle.formats.specs.declared.Fault.the-variants.{OutOfRange, NotCarried, TooManyValues}
 use Rattle.bitstream.specs.Bits.{digit}
 use Rattle.bitstream.specs.Fields.{pick}
 use Rattle.bitstream.specs.declared.Got.the-variants.{Value, Short}
-use Rattle.formats.specs.Source.{Source, keypadSource}
 use Rattle.score_line.specs.LineFormat.{Kind, instr, control, tempo, end, zeroFloat, padded, typeOf, kinds, whenOf, whenParts, labelOf, labelParts, lineWith, partsOf, filled, Body, Values, inRange, float, number, timed, when, label, kind, labelled, body, counted, values, afterTime, parts, line, lawful}
 use Rattle.score_line.specs.declared.When.{When}
 use Rattle.score_line.specs.declared.Label.{Label}
@@ -39,11 +37,10 @@ use Rattle.score_line.specs.Reading.{lineFrom, refusedLine, lineRead, lineInWor
 use Rattle.score_line.specs.declared.LineRead.{LineRead}
 use Rattle.score_text.specs.Said.{Said, labelWords, bits, eventWords, wordsOf, lineSaid}
 use Rattle.score_text.specs.Said as said
-use Rattle.line_writer.specs.Fields.{lineWords}
-use Rattle.line_writer.specs.Writing.{lineFault}
-use Rattle.line_writer.specs.Claims.{taken, isSymbol, storedEvent, stored, meant}
+use Rattle.line_writer.specs.Writing.{lineWords, lineFault}
+use Rattle.line_writer.specs.Claims.{taken}
+use Rattle.line_writer.specs.Stored.{isSymbol, storedEvent, stored, meant}
 use Rattle.line_writer.proofs.AnyLine.{every-line-read, every-meant}
-use Rattle.formats.specs.Format.{all as allOf}
 use Rattle.written_line.specs.LineText.{eventSaid, saidOf, eventNumbers, numbersOf}
 use Rattle.text_writer.proofs.Back.{flag-digit, Counts, timed-words, SmallNames}
 

@@ -1,6 +1,5 @@
 -- What was written reads back. Assumes nothing.
-use Prim.Native.Nat.{ℕ}
-use Prim.Native.Nat.{min as lesser}
+use Prim.Native.Nat.{ℕ, min as lesser}
 use mathlib.Core.Path.{_≡_, refl, sym, ap, ap₂, _∙_, subst}
 use mathlib.Core.Bool.{Bool, true, false, _&&_}
 use mathlib.Core.List.{List, [], _∷_, map, append-nil}
@@ -12,12 +11,9 @@ use lib.ListN.{length, take}
 use lib.Ieee.{Float, binary32, fits}
 use lib.Ieee.Fits.{and-l, and-r}
 use Rattle.bitstream.specs.Bits.{digit}
-use Rattle.formats.specs.Fields.{fieldWords}
-use Rattle.formats.specs.Format.{all, timesFields}
+use Rattle.formats.specs.Format.{fieldWords, all, timesFields, got, keypadSource}
 use Rattle.formats.specs.Format as F
 use Rattle.formats.specs.Description.{format, flag}
-use Rattle.formats.specs.Reading.{got}
-use Rattle.formats.specs.Source.{keypadSource}
 use Rattle.score_line.specs.LineFormat.{eventParts, kindOf, valuesOf, filled, float, number, timed, when, label, kind, labelled, body, counted, values, afterTime, parts, line, lawful}
 use Rattle.score_line.specs.declared.When.{When}
 use Rattle.score_line.specs.declared.When.the-variants.{Timed, Untimed}
@@ -27,8 +23,9 @@ use Rattle.score_line.specs.declared.Event.{Event}
 use Rattle.score_line.specs.declared.Event.the-variants.{Instr, Control, End, Tempo}
 use Rattle.score_line.specs.declared.Line.{Line}
 use Rattle.score_line.specs.Reading.{lineFrom, lineInWords}
-use Rattle.line_writer.specs.Fields.{lineWords}
-use Rattle.line_writer.specs.Claims.{taken, isSymbol, storedWhen, storedEvent, stored}
+use Rattle.line_writer.specs.Writing.{lineWords}
+use Rattle.line_writer.specs.Claims.{taken}
+use Rattle.line_writer.specs.Stored.{isSymbol, storedWhen, storedEvent, stored}
 use Rattle.line_writer.proofs.Proved.{read-taken, words-here}
 use Rattle.numerals.specs.Numeral.{Numeral}
 use Rattle.score_text.specs.Said.{Said, bits, eventWords, wordsOf, lineSaid}

@@ -15,25 +15,25 @@ use Rattle.laws.proofs.Choice.{cond-true, cond-false}
 use Rattle.answer.specs.Numbers.{numberOf, isTaken}
 use Rattle.answer.specs.declared.Answer.the-variants as answer
 use Rattle.numerals.specs.Numeral.{Numeral, wholeOf, meaning}
-use Rattle.formats.specs.Format.{all as allOf}
-use Rattle.formats.specs.Reading.{Read, got, refused}
+use Rattle.formats.specs.Format.{all as allOf, Read, got, refused}
 use Rattle.formats.specs.declared.Fault.{Fault}
 use Rattle.formats.specs.declared.Fault.the-variants as fault
 use Rattle.score_line.specs.LineFormat.{lawful}
 use Rattle.score_line.specs.Reading.{answerOf}
 use Rattle.score_line.specs.declared.Line.{Line}
-use Rattle.line_writer.specs.Claims.{stored}
+use Rattle.line_writer.specs.Stored.{stored}
 use Rattle.score.specs.Score as score
 use Rattle.score.specs.Score.{Score, Lines, lineThen, taken}
-use Rattle.score_text.specs.Said.{Said, lineSaid}
+use Rattle.score_text.specs.Said.{Said, lineSaid, judgedFrom, judgement}
 use Rattle.score_text.specs.Form.{Behind, Form, instr, control, tempo, end, Written, textBytes, LawfulForm, LawfulLines, saidBy}
 use Rattle.score_text.specs.Form as form
-use Rattle.score_text.specs.Reading.{judgedFrom, judgement, textOf}
+use Rattle.score_text.specs.inside.Reading.{textOf}
 use Rattle.score_text.specs.Claims.{Spells, Either, spells, breaks}
 use Rattle.score_text.proofs.Texts.{text-read, text-broken, every-text}
 use Rattle.score_area.specs.Area.{areaWords}
 use Rattle.score_area.specs.declared.Decoded.{Decoded}
-use Rattle.score_writer.specs.Writing.{scoreBytes, mostLines, allLawful}
+use Rattle.score_writer.specs.Writing.{scoreBytes, mostLines}
+use Rattle.score_writer.specs.Bytes.{allLawful}
 use Rattle.score_writer.specs.Slots.{areaFault, areaLines}
 use Rattle.score_writer.specs.Written.{refusal, told, left, scoreWritten}
 use Rattle.score_writer.specs.Claims.{allStored}

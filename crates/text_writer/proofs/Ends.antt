@@ -13,7 +13,7 @@ use Rattle.laws.proofs.Choice.{cond-true, cond-false}
 use Rattle.answer.specs.Numbers.{isTaken}
 use Rattle.answer.specs.declared.Answer.the-variants.{Taken, OutOfRange, NoRoom, NoText}
 use Rattle.score_line.specs.declared.Line.{Line}
-use Rattle.line_writer.specs.Claims.{stored}
+use Rattle.line_writer.specs.Stored.{stored}
 use Rattle.score.specs.declared.ScoreRead.{ScoreRead}
 use Rattle.score_area.proofs.Slots.{taken-is}
 use Rattle.score_text.specs.Form as form
@@ -23,9 +23,10 @@ use Rattle.score_writer.specs.Writing.{mostLines}
 use Rattle.score_writer.specs.Written.{refusal}
 use Rattle.score_writer.specs.declared.Written.{Written}
 use Rattle.score_writer.proofs.InSlots.{fault-back, slot-of}
-use Rattle.written_line.specs.LineText.{Says, lineText}
+use Rattle.written_line.specs.LineText.{Says}
+use Rattle.written_line.specs.inside.LineText.{lineText}
 use Rattle.text_writer.specs.Writing.{Text, all, lacking, textFrom, toldText, leftText, textWritten, textLeft, TextDone}
-use Rattle.text_writer.specs.Passes.{measuredPast, Measurable, Layable}
+use Rattle.text_writer.specs.inside.Passes.{measuredPast, Measurable, Layable}
 use Rattle.text_writer.specs.Claims.{Told}
 use Rattle.text_writer.specs.Claims as claims
 use Rattle.text_writer.specs.declared.Measure.{Measure}

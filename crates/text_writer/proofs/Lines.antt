@@ -17,13 +17,14 @@ use Rattle.score_line.specs.declared.When.the-variants.{Timed, Untimed}
 use Rattle.score_line.specs.declared.Event.{Event}
 use Rattle.score_line.specs.declared.Event.the-variants.{Instr, Control, End, Tempo}
 use Rattle.score_line.specs.declared.Line.{Line}
-use Rattle.line_writer.specs.Claims.{isSymbol, storedWhen, storedLabel, storedEvent, stored}
+use Rattle.line_writer.specs.Stored.{isSymbol, storedWhen, storedLabel, storedEvent, stored}
 use Rattle.score_text.specs.Said.{Said}
 use Rattle.score_text.specs.Said as said
 use Rattle.score_text.specs.Form.{Behind, Label, Form, instr, control, tempo, end, Written, LawfulValues, LawfulForm, labelSaid, targetSaid, saidBy}
 use Rattle.score_text.specs.Form as form
-use Rattle.written_line.specs.NumberText.{numberText}
-use Rattle.written_line.specs.LineText.{ifThere, timeSaid, eventSaid, saidOf, Single, PlainLabel, PlainTarget, PlainValues, PlainForm, Says, eventNumbers, numbersOf, SomeNoText, here, later, Unsaid, no-time, use-if-late, no-number, single, labelForm, valuesText, eventText, saidText, lineText}
+use Rattle.written_line.specs.inside.NumberText.{numberText}
+use Rattle.written_line.specs.inside.LineText.{ifThere, single, labelForm, valuesText, eventText, saidText, lineText}
+use Rattle.written_line.specs.LineText.{timeSaid, eventSaid, saidOf, Single, PlainLabel, PlainTarget, PlainValues, PlainForm, Says, eventNumbers, numbersOf, SomeNoText, here, later, Unsaid, no-time, use-if-late, no-number}
 use Rattle.text_writer.specs.Claims.{Told, EveryLineTold}
 use Rattle.text_writer.specs.Claims as claims
 use Rattle.written_line.proofs.Numbers.{sign-back, NumberTold, plain, none-of, number-told, number-plain}

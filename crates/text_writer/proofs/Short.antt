@@ -18,13 +18,12 @@ use Rattle.score_line.specs.declared.When.the-variants.{Timed, Untimed}
 use Rattle.score_line.specs.declared.Event.{Event}
 use Rattle.score_line.specs.declared.Event.the-variants.{Instr, Control, End, Tempo}
 use Rattle.score_line.specs.declared.Line.{Line}
-use Rattle.line_writer.specs.Claims.{storedWhen, storedEvent, stored}
+use Rattle.line_writer.specs.Stored.{storedWhen, storedEvent, stored}
 use Rattle.score_text.specs.Said.{Said}
 use Rattle.score_text.specs.Said as said
 use Rattle.score_text.specs.Form.{Behind, Label, Form, instr, control, tempo, end, Written, space, spaces, behindBytes, labelBytes, targetBytes, valueBytes, formBytes, starBytes, lineBytes, LawfulForm, LawfulLabel, saidBy}
 use Rattle.score_text.specs.Form as form
-use Rattle.written_line.specs.NumberText.{Plain}
-use Rattle.written_line.specs.LineText.{timeSaid, eventSaid, saidOf, PlainLabel, PlainValues, PlainForm, Says}
+use Rattle.written_line.specs.LineText.{Plain, timeSaid, eventSaid, saidOf, PlainLabel, PlainValues, PlainForm, Says}
 use Rattle.written_line.proofs.Numbers.{numeral-back}
 use Rattle.text_writer.proofs.Back.{text-lawful}
 

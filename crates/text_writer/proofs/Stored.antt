@@ -19,7 +19,7 @@ use Rattle.score_line.specs.declared.Range.the-variants as range
 use Rattle.score_line.specs.declared.Event.{Event}
 use Rattle.score_line.specs.declared.Event.the-variants.{Instr, Control, End, Tempo}
 use Rattle.score_line.specs.declared.Line.{Line}
-use Rattle.line_writer.specs.Claims.{isSymbol, storedWhen, storedLabel, storedEvent, stored}
+use Rattle.line_writer.specs.Stored.{isSymbol, storedWhen, storedLabel, storedEvent, stored}
 
 -- a float in its range
 float-stored : (r : Range) (x : Float) → T (format (float r) .lawful x) → T (fits binary32 x)

@@ -8,17 +8,18 @@ use lib.Dec.{T}
 use lib.ListN.{length, take}
 use Rattle.answer.specs.Numbers.{numberOf}
 use Rattle.score_line.specs.declared.Line.{Line}
-use Rattle.line_writer.specs.Claims.{stored}
+use Rattle.line_writer.specs.Stored.{stored}
 use Rattle.score.specs.Score.{taken}
 use Rattle.score_text.specs.Form as form
-use Rattle.score_text.specs.Reading.{textOf}
+use Rattle.score_text.specs.inside.Reading.{textOf}
 use Rattle.score_area.specs.Area.{Left}
 use Rattle.score_area.specs.declared.Decoded.{Decoded}
 use Rattle.score_writer.specs.Slots.{areaLines}
 use Rattle.score_writer.specs.Written.{ScoreDone}
 use Rattle.score_writer.specs.Claims.{Words, SlotsBack, allStored}
 use Rattle.score_writer.specs.declared.Written.{Written}
-use Rattle.written_line.specs.LineText.{Says, Unsaid, lineText}
+use Rattle.written_line.specs.LineText.{Says, Unsaid}
+use Rattle.written_line.specs.inside.LineText.{lineText}
 use Rattle.text_writer.specs.Writing.{Text, all, lacking, textFrom, TextDone}
 
 -- ---- a line

@@ -1,3 +1,3 @@
 pub mod Writing
-pub mod Passes
 pub mod Claims
+pub mod inside

@@ -15,7 +15,7 @@ use Rattle.score_writer.specs.Slots.{areaFault, areaLines}
 use Rattle.score_writer.specs.Writing.{mostLines}
 use Rattle.score_writer.specs.Written.{refusal, told, left}
 use Rattle.score_writer.specs.declared.Written.{Written}
-use Rattle.written_line.specs.LineText.{lineText}
+use Rattle.written_line.specs.inside.LineText.{lineText}
 
 -- the lines of a text, or the number of the first line that has none
 pub data Text : Type 0 where

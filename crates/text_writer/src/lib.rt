@@ -6,7 +6,7 @@ ghost use mathlib.Core.Path.{_≡_};
 ghost use lib.ListN.{length};
 ghost use Rattle.score_writer.specs.Slots.{areaLines};
 ghost use Rattle.text_writer.specs.Writing.{textFrom, leftText, TextDone};
-ghost use Rattle.text_writer.specs.Passes.{measuredPast, Measurable, Layable, Fits, Put};
+ghost use Rattle.text_writer.specs.inside.Passes.{measuredPast, Measurable, Layable, Fits, Put};
 
 // The most lines of a score.
 const MOST_LINES: usize = 1_048_575;

@@ -12,7 +12,7 @@ use lib.Ieee.Bits.{ofBits-toBits, toBits-ofBits, ofBits-fits}
 use lib.Ieee.Scale.{finite}
 use Rattle.laws.proofs.Choice.{both-true}
 use Rattle.timebase.specs.Time.{finiteBits, timeBits, durationBits, tempoBits, ticksOf, ticksIn, cycleOf, cycleIn, latest, slowest, fastest, endless}
-use Rattle.timebase.specs.Range.{checked, EveryNumber}
+use Rattle.timebase.specs.inside.Range.{checked, EveryNumber}
 use Rattle.timebase.specs.declared.Checked.the-variants.{Value, Outside}
 use Rattle.timebase.proofs.Order.{le-trans as le-on, lt-is}
 use Rattle.timebase.proofs.Ranges.{zeroF, from-zero, between-finite}

@@ -3,7 +3,7 @@
 ghost use mathlib.Core.Path.{_≡_};
 ghost use Prim.Native.Nat.{_+_, _-_, _*_, _/_, _%_, _^_, _<_, _≤_, min};
 ghost use Rattle.timebase.specs.Time.{nearest, ticksIn, cycleIn, finiteBits, timeBits, durationBits, tempoBits};
-ghost use Rattle.timebase.specs.Range.{checked};
+ghost use Rattle.timebase.specs.inside.Range.{checked};
 
 // A float is its significand times 2^(exponent - 150): the bias of its exponent, and 23 digits behind the point. 6,144,000
 // is 375 * 2^14, and 23 - 14 is 9.

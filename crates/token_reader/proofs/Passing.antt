@@ -11,9 +11,9 @@ use lib.Dec.{eqb, leb}
 use borrow.Author.Tests.{eq-eqb, ne-eqb, not-true, not-false}
 use Rattle.answer.specs.declared.Answer.the-variants.{BadToken}
 use Rattle.tokens.specs.Spelling.{lawful}
-use Rattle.tokens.specs.Scanning.{Got, none, some, with, ended, more, tokensAfter}
+use Rattle.tokens.specs.inside.Scanning.{Got, none, some, with, ended, more, tokensAfter}
 use Rattle.tokens.specs.Measures.{kindOf, opened, since, bracketsKept, stretchesKept}
-use Rattle.tokens.specs.Passes.{standing, found, next, closedOf, finished, start, scanned}
+use Rattle.tokens.specs.inside.Passes.{standing, found, next, closedOf, finished, start, scanned}
 use Rattle.tokens.specs.declared.Token.{Token}
 use Rattle.tokens.specs.declared.Measure.{Measure}
 use Rattle.tokens.specs.declared.Found.{Found}

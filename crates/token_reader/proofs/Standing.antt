@@ -13,16 +13,16 @@ use lib.Ieee.Bits.{is-true, ofBits-fits}
 use lib.Ieee.Scale.{finite}
 use borrow.Author.Tests.{lt-ltb, ne-eqb, eqb-true}
 use Rattle.timebase.specs.Time.{finiteBits}
-use Rattle.timebase.specs.Range.{checked}
+use Rattle.timebase.specs.inside.Range.{checked}
 use Rattle.timebase.specs.declared.Checked.{Checked}
 use Rattle.timebase.specs.declared.Checked.the-variants.{Value, Outside}
 use Rattle.timebase.proofs.Laws.{checked-in, checked-out}
-use Rattle.tokens.specs.Token.{zeroF}
+use Rattle.tokens.specs.inside.Token.{zeroF}
 use Rattle.tokens.specs.Spelling.{lawful}
-use Rattle.tokens.specs.Scanning.{more, twoOf, fourOf, tokenFrom}
+use Rattle.tokens.specs.inside.Scanning.{more, twoOf, fourOf, tokenFrom}
 use Rattle.tokens.specs.Measures.{kindOf}
-use Rattle.tokens.specs.Passes.{standing}
-use Rattle.tokens.specs.Reading.{wordOf, realOf}
+use Rattle.tokens.specs.inside.Passes.{standing}
+use Rattle.tokens.specs.inside.Reading.{wordOf, realOf}
 
 -- ---- how many more bytes a token has
 

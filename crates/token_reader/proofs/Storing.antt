@@ -15,12 +15,12 @@ use borrow.Author.Tests.{eqb-true, eqb-false, leb-true}
 use Rattle.answer.specs.Numbers.{numberOf}
 use Rattle.answer.specs.declared.Answer.{Answer}
 use Rattle.answer.specs.declared.Answer.the-variants.{Taken, BadToken, TooLarge}
-use Rattle.tokens.specs.Token.{zeroF}
+use Rattle.tokens.specs.inside.Token.{zeroF}
 use Rattle.tokens.specs.Spelling.{lawful}
-use Rattle.tokens.specs.Scanning.{Got, none, some, more, tokensAfter, tokensOf, tokensIn}
+use Rattle.tokens.specs.inside.Scanning.{Got, none, some, more, tokensAfter, tokensOf, tokensIn}
 use Rattle.tokens.specs.Measures.{kindOf, bracketsKept, stretchesKept}
-use Rattle.tokens.specs.Passes.{standing, found, finished, start, scanned}
-use Rattle.tokens.specs.Reading.{wordOf, realOf, padded, stored, judged}
+use Rattle.tokens.specs.inside.Passes.{standing, found, finished, start, scanned}
+use Rattle.tokens.specs.inside.Reading.{wordOf, realOf, padded, stored, judged}
 use Rattle.tokens.specs.declared.Token.{Token}
 use Rattle.tokens.specs.declared.Token.the-variants.{Sign}
 use Rattle.tokens.specs.declared.Found.{Found}

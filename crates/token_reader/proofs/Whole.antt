@@ -9,10 +9,10 @@ use lib.Dec.{leb}
 use borrow.Author.Tests.{lt-ltb, le-ltb}
 use Rattle.answer.specs.Numbers.{isTaken}
 use Rattle.answer.specs.declared.Answer.the-variants.{Taken, TooLarge}
-use Rattle.tokens.specs.Scanning.{Got, none, some, tokensOf}
+use Rattle.tokens.specs.inside.Scanning.{Got, none, some, tokensOf}
 use Rattle.tokens.specs.Measures.{bracketsKept, stretchesKept}
-use Rattle.tokens.specs.Passes.{found, finished, start, scanned}
-use Rattle.tokens.specs.Reading.{stored, judged, readOf}
+use Rattle.tokens.specs.inside.Passes.{found, finished, start, scanned}
+use Rattle.tokens.specs.inside.Reading.{stored, judged, readOf}
 use Rattle.tokens.specs.declared.Tokens.{Tokens}
 use Rattle.tokens.specs.declared.Found.{Found}
 use Rattle.tokens.proofs.Laws.{impossible}

@@ -16,9 +16,9 @@ ghost use lib.ListN.{drop, length};
 ghost use Rattle.answer.specs.declared.Answer.the-variants.{Taken};
 ghost use Rattle.timebase.specs.Time.{finiteBits};
 ghost use Rattle.tokens.specs.Spelling.{lawful};
-ghost use Rattle.tokens.specs.Scanning.{twoOf, fourOf, more as moreOf, tokensOf};
-ghost use Rattle.tokens.specs.Passes.{standing, found, scanned};
-ghost use Rattle.tokens.specs.Reading.{wordOf, realOf, stored, judged, readOf};
+ghost use Rattle.tokens.specs.inside.Scanning.{twoOf, fourOf, more as moreOf, tokensOf};
+ghost use Rattle.tokens.specs.inside.Passes.{standing, found, scanned};
+ghost use Rattle.tokens.specs.inside.Reading.{wordOf, realOf, stored, judged, readOf};
 
 // The byte that ends the tokens.
 const END: u8 = 0xff;

@@ -8,7 +8,7 @@ use lib.Dec.{eqb, leb}
 use borrow.Author.Tests.{ne-eqb, le-leb, lt-leb}
 use Rattle.answer.specs.declared.Answer.the-variants.{Taken, BadToken, TooLarge}
 use Rattle.tokens.specs.Measures.{opened, since, bracketsKept, stretchesKept}
-use Rattle.tokens.specs.Passes.{found, measure, next, closedOf}
+use Rattle.tokens.specs.inside.Passes.{found, measure, next, closedOf}
 use Rattle.tokens.specs.declared.Measure.{Measure}
 use Rattle.tokens.specs.declared.Found.{Found}
 

@@ -12,11 +12,11 @@ use lib.Ieee.{Float, nan, inf, fin, binary32, ofBits, toBits, isNan, fits}
 use lib.Ieee.Bits.{ofBits-toBits, toBits-ofBits, toBits-lt}
 use lib.Ieee.Scale.{finite}
 use borrow.Author.Tests.{ltb-true, leb-true, eqb-true, ne-eqb}
-use Rattle.tokens.specs.Token.{zeroF, tokenOf, toks}
+use Rattle.tokens.specs.inside.Token.{zeroF, tokenOf, toks}
 use Rattle.tokens.specs.Spelling.{lawful, allLawful, two, four, spelt, bytesOf, Bytes, Spells, OneSpelling}
-use Rattle.tokens.specs.Scanning.{more, tokenFrom, Got, none, some, with, ended, tokensAfter, tokensOf, EveryScan}
+use Rattle.tokens.specs.inside.Scanning.{more, tokenFrom, Got, none, some, with, ended, tokensAfter, tokensOf, EveryScan}
 use Rattle.tokens.specs.Measures.{kindOf}
-use Rattle.tokens.specs.Reading.{wordOf, realOf, padded}
+use Rattle.tokens.specs.inside.Reading.{wordOf, realOf, padded}
 use Rattle.tokens.specs.declared.Token.{Token}
 use Rattle.tokens.specs.declared.Token.the-variants.{Number, Symbol, Whole, Sign}
 

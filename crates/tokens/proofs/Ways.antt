@@ -5,7 +5,7 @@ use mathlib.Core.List.{List}
 use lib.ListN.{getD}
 use lib.Ieee.{Float}
 use borrow.Author.Tests.{ne-eqb}
-use Rattle.tokens.specs.Token.{tokenAt, zeroF}
+use Rattle.tokens.specs.inside.Token.{tokenAt, zeroF}
 use Rattle.tokens.specs.declared.Token.the-variants.{Number, Symbol, Whole, Sign}
 
 module _ (ks ws : List ℕ) (xs : List Float) (i k : ℕ) (e : k ≡ getD ks i 0) where

@@ -6,9 +6,9 @@ ghost use Prim.Native.Nat.{_+_, _≤_};
 ghost use lib.Dec.{leb};
 ghost use lib.ListN.{getD};
 ghost use Rattle.answer.specs.declared.Answer.the-variants.{BadToken};
-ghost use Rattle.tokens.specs.Token.{tokenAt, zeroF};
+ghost use Rattle.tokens.specs.inside.Token.{tokenAt, zeroF};
 ghost use Rattle.tokens.specs.Measures.{opened as openedOf, since as sinceOf};
-ghost use Rattle.tokens.specs.Passes.{found, next as nextOf, closedOf};
+ghost use Rattle.tokens.specs.inside.Passes.{found, next as nextOf, closedOf};
 
 // The first bytes of tokens that are no signs.
 pub const SYMBOL: u8 = 0xf0;

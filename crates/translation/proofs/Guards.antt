@@ -8,9 +8,9 @@ use lib.ListN.{length, getD, set, take, length-set}
 use lib.Seq.{take-set-le, getD-set-other}
 use lib.Dec.{T}
 use lib.Ieee.{Float, binary32, fits, eq, ne, ofBits}
-use Rattle.syntax.specs.Program.{zeroF}
+use Rattle.syntax.specs.inside.Program.{zeroF}
 use Rattle.float32.specs.Builtins.{truth, flagOf, notOf, bothOf}
-use Rattle.meaning.specs.Placed.{Sounding, sounding}
+use Rattle.meaning.specs.inside.Placed.{Sounding, sounding}
 use Rattle.operations.specs.Words.{notePlaces, framePlaces}
 use Rattle.synth.specs.Run.{at, State, state}
 use Rattle.translation.specs.Translation.{guardAt}

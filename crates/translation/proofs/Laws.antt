@@ -8,8 +8,8 @@ use lib.Seq.{take-all, take-at, take-nil}
 use lib.Ieee.{Float, binary32}
 use lib.Ieee.Bits.{ofBits-fits}
 use Rattle.syntax.specs.Tree.{Statements}
-use Rattle.syntax.specs.Program.{zeroF}
-use Rattle.meaning.specs.Placed.{Sounding, sounding, pass, birth, kPass, aPasses, fresh}
+use Rattle.syntax.specs.inside.Program.{zeroF}
+use Rattle.meaning.specs.inside.Placed.{Sounding, sounding, pass, birth, kPass, aPasses, fresh}
 use Rattle.operations.specs.Words.{notePlaces, framePlaces}
 use Rattle.synth.specs.Run.{state, run}
 use Rattle.synth.specs.Passes.{laid, frameOf, freshOf, once, Sums, sums, played}

@@ -14,7 +14,7 @@ use lib.Ieee.Bits.{ofBits-toBits}
 use lib.Ieee.Nearest.{div-same}
 use borrow.Author.Tests.{le-ltb, leb-true, leb-false}
 use Rattle.synth.specs.Run.{minusZero}
-use Rattle.syntax.specs.Program.{zeroF}
+use Rattle.syntax.specs.inside.Program.{zeroF}
 
 no-power : (x y : ℕ) → x ≡ 2 * y → 0 < y → x ≡ 1 → ⊥
 no-power x y e p h = omega arith

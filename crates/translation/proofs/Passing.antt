@@ -11,10 +11,10 @@ use lib.Ieee.{Float, binary32, add, fits}
 use lib.Ieee.Fits.{add-fits}
 use borrow.Author.Tests.{eqb-true, ne-eqb}
 use Rattle.syntax.specs.Tree.{Expr, Statements, done, assign, output, branch}
-use Rattle.syntax.specs.Program.{zeroF}
-use Rattle.syntax.specs.Placed.{rateOf, placeOf}
+use Rattle.syntax.specs.inside.Program.{zeroF}
+use Rattle.syntax.specs.inside.Placed.{rateOf, placeOf}
 use Rattle.float32.specs.Builtins.{truth}
-use Rattle.meaning.specs.Placed.{value, Sounding, sounding, assigned, outputs, pass}
+use Rattle.meaning.specs.inside.Placed.{value, Sounding, sounding, assigned, outputs, pass}
 use Rattle.operations.specs.Words.{notePlaces, mostIfs, framePlaces}
 use Rattle.synth.specs.Run.{State, state, step, run}
 use Rattle.translation.specs.Translation.{guardAt, after, placed, parts, selected, stored, sent, guarded, turned, behind, past, lowered}

@@ -10,10 +10,10 @@ use lib.Dec.{T}
 use lib.Ieee.{Float, binary32, add, fits}
 use borrow.Author.Tests.{ne-eqb}
 use Rattle.syntax.specs.Tree.{Expr}
-use Rattle.syntax.specs.Program.{zeroF}
+use Rattle.syntax.specs.inside.Program.{zeroF}
 use Rattle.float32.specs.Builtins.{truth, notOf, bothOf, selectOf}
 use Rattle.signs.specs.Operators.{Unary, Binary}
-use Rattle.meaning.specs.Placed.{value, sounding}
+use Rattle.meaning.specs.inside.Placed.{value, sounding}
 use Rattle.operations.specs.Operations as O
 use Rattle.operations.specs.Words.{notePlaces, mostIfs, framePlaces, roomPlaces}
 use Rattle.synth.specs.Run.{at, minusZero, State, state, does, step, run}

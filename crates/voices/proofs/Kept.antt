@@ -9,10 +9,10 @@ use lib.ListN.{length, take, set, replicate, length-set, length-take, length-app
 use lib.Ieee.{Float, binary32, add, fits}
 use lib.Ieee.Fits.{add-fits}
 use Rattle.syntax.specs.Tree.{Statements, done, assign, output, branch}
-use Rattle.syntax.specs.Program.{zeroF}
-use Rattle.syntax.specs.Placed.{rateOf, placeOf}
+use Rattle.syntax.specs.inside.Program.{zeroF}
+use Rattle.syntax.specs.inside.Placed.{rateOf, placeOf}
 use Rattle.float32.specs.Builtins.{truth}
-use Rattle.meaning.specs.Placed.{value, aRate, Sounding, sounding, assigned, outputs, pass, fresh, birth, kPass, aPasses}
+use Rattle.meaning.specs.inside.Placed.{value, aRate, Sounding, sounding, assigned, outputs, pass, fresh, birth, kPass, aPasses}
 use Rattle.translation.specs.Statements.{AllFit}
 use Rattle.kept_voices.specs.Voices.{named}
 

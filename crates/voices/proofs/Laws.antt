@@ -5,13 +5,14 @@ use Prim.Native.Nat.{ℕ}
 use lib.ListN.{length, take}
 use lib.Ieee.{Float}
 use Rattle.syntax.specs.Tree.{Instrument}
-use Rattle.meaning.specs.Placed.{birth, kPass, cycle}
+use Rattle.meaning.specs.inside.Placed.{birth, kPass, cycle}
 use Rattle.synth.specs.Passes.{stretch, freshOf, once, played}
 use Rattle.translation.specs.Statements.{AllFit}
 use Rattle.kept_orchestra.specs.declared.Instrument as row
 use Rattle.kept_orchestra.specs.Kept.{instrumentIn}
 use Rattle.kept_voices.specs.Voices.{Held, named, voices, birthOf, ranValues, ranMixOf}
-use Rattle.voices.specs.Tree.{treeVoices, instrumentOf, importsOf, bodyOf}
+use Rattle.voices.specs.Tree.{treeVoices, importsOf, bodyOf}
+use Rattle.meaning.specs.Meaning.{instrumentOf}
 use Rattle.voices.specs.Represents.{Represents}
 use Rattle.voices.specs.Claims.{PlaysTree}
 use Rattle.voices.proofs.Kept.{birth-size, k-size, a-size, a-fits, named-size}

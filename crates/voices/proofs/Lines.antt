@@ -13,7 +13,8 @@ use Rattle.syntax.specs.Tree.{importsKind}
 use Rattle.syntax.specs.Names.{Named, namesOf}
 use Rattle.kept_orchestra.specs.declared.Fields.the-variants.{Count, NoSuch}
 use Rattle.kept_voices.specs.Voices.{named}
-use Rattle.voices.specs.Tree.{noSymbol, importOf, importsOf, instrumentOf}
+use Rattle.meaning.specs.Meaning.{noSymbol, instrumentOf}
+use Rattle.voices.specs.Tree.{importOf, importsOf}
 use Rattle.voices.specs.Claims.{FieldsTree, imported, ControlNames}
 
 pub fields-tree : FieldsTree

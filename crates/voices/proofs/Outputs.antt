@@ -7,11 +7,11 @@ use lib.Dec.{eqb}
 use lib.ListN.{length, set}
 use lib.Ieee.{Float, binary32, add}
 use Rattle.syntax.specs.Tree.{Instrument, Statements, done, assign, output, branch}
-use Rattle.syntax.specs.Program.{zeroF}
-use Rattle.syntax.specs.Placed.{rateOf, placeOf}
+use Rattle.syntax.specs.inside.Program.{zeroF}
+use Rattle.syntax.specs.inside.Placed.{rateOf, placeOf}
 use Rattle.float32.specs.Builtins.{truth}
-use Rattle.meaning.specs.Placed.{value, aRate, Sounding, sounding, assigned, outputs, pass, kPass, Played, aPasses, cycle}
-use Rattle.meaning.specs.Outputs.{afterPass, outputsOf, outputsIn, afterPasses}
+use Rattle.meaning.specs.inside.Placed.{value, aRate, Sounding, sounding, assigned, outputs, pass, kPass, Played, aPasses, cycle}
+use Rattle.meaning.specs.inside.Outputs.{afterPass, outputsOf, outputsIn, afterPasses}
 use Rattle.players.specs.Lists.{fold}
 use Rattle.players.specs.Results.{withOutputs, Adding, SamplesSum}
 use Rattle.players.proofs.Lists.{fold-append}

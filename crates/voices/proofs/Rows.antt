@@ -7,13 +7,14 @@ use lib.Dec.{eqb}
 use lib.Ieee.{Float}
 use Rattle.syntax.specs.Tree.{Instrument, done}
 use Rattle.syntax.specs.Names.{has, titleOf, named, namedBy}
-use Rattle.syntax.specs.Placed.{put}
+use Rattle.syntax.specs.inside.Placed.{put}
 use Rattle.bounds.proofs.Sounding.{sounds}
 use Rattle.translation.specs.Translation.{lowered}
 use Rattle.translation.specs.Statements.{Playable}
 use Rattle.kept_orchestra.specs.declared.Instrument as row
 use Rattle.kept_orchestra.specs.Kept.{foundIn, instrumentIn, blank}
-use Rattle.voices.specs.Tree.{silent, instrumentOf, importsOf}
+use Rattle.meaning.specs.Meaning.{silent, instrumentOf}
+use Rattle.voices.specs.Tree.{importsOf}
 use Rattle.voices.specs.Represents.{Row, Rows, Represents}
 
 module _ (code : List ℕ) (vals : List Float) where

@@ -10,8 +10,8 @@ use Rattle.score_line.specs.declared.Line.{Line}
 use Rattle.score_line.specs.declared.Event.{Event}
 use Rattle.syntax.specs.Tree.{Instrument, importsKind}
 use Rattle.syntax.specs.Names.{Named, namesOf}
-use Rattle.meaning.specs.Placed.{kPass}
-use Rattle.meaning.specs.Outputs.{outputsIn as ofPasses, afterPasses}
+use Rattle.meaning.specs.inside.Placed.{kPass}
+use Rattle.meaning.specs.inside.Outputs.{outputsIn as ofPasses, afterPasses}
 use Rattle.players.specs.Cycle.{Voices, Note}
 use Rattle.players.specs.Holds.{Settings}
 use Rattle.players.specs.Results.{OutputsAdd}
@@ -19,7 +19,8 @@ use Rattle.players.specs.Plain.{plainAt, answerAt, blockAt}
 use Rattle.kept_orchestra.specs.declared.Instrument as row
 use Rattle.kept_orchestra.specs.Kept.{fieldsIn}
 use Rattle.kept_voices.specs.Voices.{Held, voices}
-use Rattle.voices.specs.Tree.{noSymbol, instrumentOf, bodyOf, setOf, treeVoices, fieldsOf}
+use Rattle.meaning.specs.Meaning.{noSymbol, instrumentOf}
+use Rattle.voices.specs.Tree.{bodyOf, setOf, treeVoices, fieldsOf}
 use Rattle.voices.specs.Represents.{Represents}
 
 -- the plain player does the same with either voices, in every cycle, for every list of lines and all settings

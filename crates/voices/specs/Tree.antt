@@ -1,33 +1,21 @@
 -- The voices of an orchestra's tree: what a line's note does in steps 3, 4 and 5 of document 01's cycle.
 use mathlib.Core.Bool.{cond}
-use mathlib.Core.List.{List, [], _∷_, _++_, map}
+use mathlib.Core.List.{List, _++_, map}
 use Prim.Native.Nat.{ℕ}
 use lib.ListN.{length, take, replicate}
 use lib.Dec.{eqb}
 use lib.Ieee.{Float}
-use Rattle.syntax.specs.Tree.{Statements, done, Instrument, importsKind}
+use Rattle.syntax.specs.Tree.{Statements, Instrument, importsKind}
 use Rattle.syntax.specs.Names.{Named, has, titleOf, namesOf}
-use Rattle.syntax.specs.Placed.{placed}
-use Rattle.meaning.specs.Placed.{places, birth, cycle}
+use Rattle.syntax.specs.inside.Placed.{placed}
+use Rattle.meaning.specs.inside.Placed.{places, birth, cycle}
 use Rattle.score_line.specs.declared.Event.{Event}
 use Rattle.score_line.specs.declared.Event.the-variants.{Instr, Control, End, Tempo}
 use Rattle.kept_orchestra.specs.declared.Fields.{Fields}
 use Rattle.kept_orchestra.specs.declared.Fields.the-variants.{Count, NoSuch}
 use Rattle.players.specs.Cycle.{Voices, Ran}
 use Rattle.kept_voices.specs.Voices.{Held, named}
-
--- no instrument: no fields, no declarations, no statements
-unfoldable pub silent : Instrument
-silent = record { name = 0; fields = []; declarations = []; body = done }
-
--- the first instrument with a name
-unfoldable pub instrumentOf : List Instrument → ℕ → Instrument
-instrumentOf [] name = silent
-instrumentOf (i ∷ is) name = cond (eqb (i .name) name) i (instrumentOf is name)
-
--- no name has this number: a symbol has 16 bits
-abbrev pub noSymbol : ℕ
-noSymbol = 65536
+use Rattle.meaning.specs.Meaning.{instrumentOf, noSymbol}
 
 -- the symbol by which a control line sets a name: an imports ksig's own
 abbrev pub importOf : Named → ℕ

@@ -13,19 +13,15 @@ use Rattle.score_line.specs.declared.Line.{Line}
 use Rattle.bitstream.specs.Bits as bitstream-bits
 use Rattle.bitstream.specs.Fields as bitstream-fields
 use Rattle.bitstream.specs.Filling as bitstream-filling
-use Rattle.bitstream.specs.Reads as bitstream-reads
-use Rattle.formats.specs.Source as formats-source
-use Rattle.formats.specs.Reading as formats-reading
 use Rattle.formats.specs.Format as formats-format
 use Rattle.score_line.specs.LineFormat as score-line-format
 use Rattle.score_line.specs.Reading as score-line-reading
 use Rattle.score.specs.Score as score-score
-use Rattle.timebase.specs.Range as timebase-range
+use Rattle.timebase.specs.inside.Range as timebase-range
 use Rattle.timebase.specs.Time as timebase-time
 use Rattle.score.specs.Score.{Score, scoreOf}
-use Rattle.players.specs.Lists.{All}
+use Rattle.players.specs.Lists.{All, here as some-here}
 use Rattle.players.specs.Plain.{plainStart, answerAt, blockAt}
-use Rattle.players.specs.Results.{here as some-here}
 use Rattle.players.specs.Calls.{stick, bring, cycle, Answer, one, numbered, linesOf, takenOf, isZero, none, Moment, lastWith, momentOf, traceFrom, allTaken, afterAll}
 use Rattle.players.specs.Condition3.{inTime, InTime, AsPlain, PlainAlike}
 use Rattle.players.specs.History.{historyFrom}
@@ -39,6 +35,8 @@ use Rattle.claims.proofs.Answers.{verdict-by-place}
 use Rattle.witness.specs.Growing.{ceiling, chosen, bytes, tree, line}
 use Rattle.witness.specs.Calls.{score, lent, calls, started, loaded, cycled, moments, Heard}
 use Rattle.witness.proofs.Sounding.{growing-sounds}
+use Rattle.bitstream.specs.inside.Fields as bitstream-fields-inside
+use Rattle.score.specs.inside.Walk as score-score-inside
 
 given : Given bytes tree ceiling chosen
 given = record { accepted = growing-sounds .accepted; low = omega arith; high = omega arith; there = some-here refl }
@@ -49,7 +47,7 @@ read-as = scoreOf (bitsOf score)
 
 -- the score read, computed
 score-read : (read-as .answer ≡ Taken) × (read-as .lines ≡ line ∷ [])
-unfolding bitstream-bits.bit bitstream-bits.field bitstream-bits.bitsOf bitstream-bits.valueOf bitstream-fields.roomFor bitstream-fields.written bitstream-filling.filled bitstream-filling.filledUp bitstream-filling.bytesFrom bitstream-filling.bytesOf bitstream-reads.readAt formats-reading.numberFrom formats-format.small score-line-format.inRange score-line-format.float score-line-format.number score-line-format.timed score-line-format.when score-line-format.label score-line-format.kind score-line-format.labelled score-line-format.body score-line-format.counted score-line-format.values score-line-format.afterTime score-line-format.parts score-line-format.padded score-line-format.line score-line-reading.lineOf score-line-reading.answerOf score-line-reading.refusedLine score-line-reading.lineRead score-line-reading.lineAt score-line-reading.lineInWords score-line-reading.wholeRun score-line-reading.keypadLine formats-source.bitSource formats-source.keypadSource score-score.linesFrom score-score.ended score-score.counted score-score.scoreOf score-score.firstOf score-score.nextOf score-score.walked score-score.wholeLine score-score.opened score-score.unitOf timebase-range.checked timebase-time.finiteBits timebase-time.timeBits timebase-time.durationBits timebase-time.tempoBits timebase-time.ticksIn timebase-time.cycleOf timebase-time.cycleIn ofBits le
+unfolding bitstream-bits.bit bitstream-bits.field bitstream-bits.bitsOf bitstream-bits.valueOf bitstream-fields.roomFor bitstream-fields-inside.written bitstream-filling.filled bitstream-filling.filledUp bitstream-filling.bytesFrom bitstream-filling.bytesOf bitstream-fields.readAt formats-format.numberFrom formats-format.small score-line-format.inRange score-line-format.float score-line-format.number score-line-format.timed score-line-format.when score-line-format.label score-line-format.kind score-line-format.labelled score-line-format.body score-line-format.counted score-line-format.values score-line-format.afterTime score-line-format.parts score-line-format.padded score-line-format.line score-line-reading.lineOf score-line-reading.answerOf score-line-reading.refusedLine score-line-reading.lineRead score-line-reading.lineAt score-line-reading.lineInWords score-line-reading.wholeRun score-line-reading.keypadLine formats-format.bitSource formats-format.keypadSource score-score.linesFrom score-score.ended score-score.counted score-score.scoreOf score-score-inside.firstOf score-score-inside.nextOf score-score-inside.walked score-score.wholeLine score-score.opened score-score.unitOf timebase-range.checked timebase-time.finiteBits timebase-time.timeBits timebase-time.durationBits timebase-time.tempoBits timebase-time.ticksIn timebase-time.cycleOf timebase-time.cycleIn ofBits le
 score-read = (refl, refl)
 
 enough : 0 ≤ 0

@@ -12,26 +12,25 @@ use Rattle.tokens.specs.declared.Token.the-variants.{Symbol, Sign}
 use Rattle.tokens.specs.Spelling.{allLawful, spelt, bytesOf}
 use Rattle.tokens.specs.Measures.{opened, since, bracketsKept, stretchesKept}
 use Rattle.syntax.specs.Names.{named, namedBy, has, apart, knownIn, known, eachKept}
-use Rattle.syntax.specs.Placed.{placeFrom, putIn, put}
+use Rattle.syntax.specs.inside.Placed.{placeFrom, putIn, put}
 use Rattle.syntax.specs.Rates.{rateOf, rate, ratesKept, rateRules}
-use Rattle.syntax.specs.Grammar.{named as a·name}
-use Rattle.syntax.specs.Grammar.{none, out, one as one·name, more, some as some·fields, none as no·decls, is, Orchestra, last}
+use Rattle.syntax.specs.Grammar.{named as a·name, none, out, one as one·name, more, some as some·fields, none as no·decls, is, Orchestra, last}
 use Rattle.orchestra.specs.Verdict.{Sized, Accepted}
-use Rattle.meaning.specs.Placed.{value, assigned, outputs, pass, fresh as freshValues, birth, kPass, aPasses, cycle as noteCycle}
+use Rattle.meaning.specs.inside.Placed.{value, assigned, outputs, pass, fresh as freshValues, birth, kPass, aPasses, cycle as noteCycle}
 use Rattle.keys.specs.Keys.{shared, loudnessOf}
 use Rattle.messages.specs.Message as message
 use Rattle.messages.specs.Writing as midi
-use Rattle.messages.specs.Reading as reading
+use Rattle.messages.specs.inside.Reading as reading
 use Rattle.messages.specs.declared.Message.{Message}
 use Rattle.messages.proofs.Meaning.{every-call}
-use Rattle.players.specs.Lists.{keep, fold, each}
+use Rattle.players.specs.Lists.{keep, fold, each, here as some-here}
 use Rattle.players.specs.Cycle.{isDue, insert, ordered, anyEnd, lastTempo, samples, limited, joinedBy, goesOn, isHeld, letGoOldest, started, controlled, pressed as born, afterMessage, afterMessages, runFrom, runAll}
 use Rattle.players.specs.Holds.{behind, withMessages, sixty, dueAt, laterThan, dueOf, endsBy, answerOf, startedOf, soundsOf, bandOf, blockOf, played, cycled, settingsOf}
 use Rattle.players.specs.Plain.{plainStart}
-use Rattle.players.specs.Results.{here as some-here}
 use Rattle.float32.specs.Limit.{held, sampleOf}
 use Rattle.timebase.specs.Time.{cycleOf, cycleIn}
-use Rattle.voices.specs.Tree.{silent, instrumentOf, importsOf, treeVoices}
+use Rattle.meaning.specs.Meaning.{silent, instrumentOf}
+use Rattle.voices.specs.Tree.{importsOf, treeVoices}
 use Rattle.players.specs.Calls.{Call, keyboard, cycle, wholeMessages, Answer, one, isZero, takenOf, traceFrom, afterAll}
 use Rattle.players.specs.History.{History, nowhere, withCycle, historyFrom}
 use Rattle.claims.specs.Verdict.{keysTaken, plays, once, Verdict}

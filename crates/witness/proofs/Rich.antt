@@ -9,30 +9,26 @@ use lib.Ieee.{binary32, ofBits, toBits, fits, size, add, mul, round, lt, le, eq,
 use Rattle.bitstream.specs.Bits as bitstream-bits
 use Rattle.bitstream.specs.Fields as bitstream-fields
 use Rattle.bitstream.specs.Filling as bitstream-filling
-use Rattle.bitstream.specs.Reads as bitstream-reads
-use Rattle.formats.specs.Source as formats-source
-use Rattle.formats.specs.Reading as formats-reading
 use Rattle.formats.specs.Format as formats-format
 use Rattle.score_line.specs.LineFormat as score-line-format
 use Rattle.score_line.specs.Reading as score-line-reading
 use Rattle.score.specs.Score as score-score
 use Rattle.numerals.specs.Numeral as numerals
-use Rattle.numerals.specs.Reading as read-numbers
+use Rattle.numerals.specs.inside.Reading as read-numbers
 use Rattle.score_text.specs.Said as said
-use Rattle.score_text.specs.Reading as text-reading
-use Rattle.timebase.specs.Range as timebase-range
+use Rattle.score_text.specs.inside.Reading as text-reading
+use Rattle.timebase.specs.inside.Range as timebase-range
 use Rattle.timebase.specs.Time as timebase-time
 use Rattle.tokens.specs.declared.Token.{Token}
 use Rattle.tokens.specs.declared.Token.the-variants.{Symbol, Sign}
 use Rattle.tokens.specs.Spelling.{allLawful, spelt, bytesOf}
 use Rattle.tokens.specs.Measures.{opened, since, bracketsKept, stretchesKept}
 use Rattle.syntax.specs.Names.{named, namedBy, has, apart, knownIn, known, eachKept}
-use Rattle.syntax.specs.Placed.{placeFrom, putIn, put}
+use Rattle.syntax.specs.inside.Placed.{placeFrom, putIn, put}
 use Rattle.syntax.specs.Rates.{rateOf, rate, ratesKept, rateRules}
-use Rattle.syntax.specs.Grammar.{named as a·name, sides, plus}
-use Rattle.syntax.specs.Grammar.{none, set, out, either, one, none as no·fields, some as some·fields, ivar, asig, imports, none as no·decls, some as some·decls, is, Orchestra, last, next}
+use Rattle.syntax.specs.Grammar.{named as a·name, sides, plus, none, set, out, either, one, none as no·fields, some as some·fields, ivar, asig, imports, none as no·decls, some as some·decls, is, Orchestra, last, next}
 use Rattle.orchestra.specs.Verdict.{Sized, Accepted}
-use Rattle.meaning.specs.Placed.{value, assigned, outputs, pass, fresh, birth, kPass, aPasses, cycle}
+use Rattle.meaning.specs.inside.Placed.{value, assigned, outputs, pass, fresh, birth, kPass, aPasses, cycle}
 use Rattle.score_line.specs.declared.Line.{Line}
 use Rattle.players.specs.Lists.{keep, fold, each, All}
 use Rattle.players.proofs.Lists.{all-append}
@@ -44,12 +40,16 @@ use Rattle.float32.specs.Limit.{held, sampleOf}
 use Rattle.float32.specs.Builtins.{truth}
 use Rattle.timebase.specs.Time.{ticksIn, cycleOf, cycleIn}
 use Rattle.kept_voices.specs.Voices as code
-use Rattle.voices.specs.Tree.{silent, instrumentOf, importsOf, noSymbol, treeVoices}
-use Rattle.written_voices.specs.Voices.{writtenVoices, Fits, PlaysAsWritten}
+use Rattle.meaning.specs.Meaning.{silent, instrumentOf, noSymbol}
+use Rattle.voices.specs.Tree.{importsOf, treeVoices}
+use Rattle.written_voices.specs.Voices.{writtenVoices, Fits}
+use Rattle.written_voices.specs.inside.Translation.{PlaysAsWritten}
 use Rattle.written_voices.proofs.Written.{every-piece}
 use Rattle.claims.specs.Claims.{settings}
 use Rattle.witness.specs.Growing.{ceiling, chosen}
 use Rattle.witness.specs.Rich.{bytes, tree, rest, onStick, asText, inUnit, onKeypad, before, control, end, lines, IsRead, Later, Gives, Rich}
+use Rattle.bitstream.specs.inside.Fields as bitstream-fields-inside
+use Rattle.score.specs.inside.Walk as score-score-inside
 
 abbrev tokens : List Token
 tokens =
@@ -80,11 +80,11 @@ accepted = record { tokens = tokens; sized = sized; derived = derived; named = r
 
 -- what the doors read
 all-read : IsRead stick onStick before × IsRead unit inUnit (control ∷ []) × IsRead keypad onKeypad (end ∷ [])
-unfolding bitstream-bits.bit bitstream-bits.field bitstream-bits.bitsOf bitstream-bits.valueOf bitstream-fields.roomFor bitstream-fields.written bitstream-filling.filled bitstream-filling.filledUp bitstream-filling.bytesFrom bitstream-filling.bytesOf bitstream-reads.readAt formats-reading.numberFrom formats-format.small score-line-format.inRange score-line-format.float score-line-format.number score-line-format.timed score-line-format.when score-line-format.label score-line-format.kind score-line-format.labelled score-line-format.body score-line-format.counted score-line-format.values score-line-format.afterTime score-line-format.parts score-line-format.padded score-line-format.line score-line-reading.lineOf score-line-reading.answerOf score-line-reading.refusedLine score-line-reading.lineRead score-line-reading.lineAt score-line-reading.lineInWords score-line-reading.wholeRun score-line-reading.keypadLine formats-source.bitSource formats-source.keypadSource score-score.linesFrom score-score.ended score-score.counted score-score.scoreOf score-score.firstOf score-score.nextOf score-score.walked score-score.wholeLine score-score.opened score-score.unitOf timebase-range.checked timebase-time.finiteBits timebase-time.timeBits timebase-time.durationBits timebase-time.tempoBits timebase-time.ticksIn timebase-time.cycleOf timebase-time.cycleIn ofBits le
+unfolding bitstream-bits.bit bitstream-bits.field bitstream-bits.bitsOf bitstream-bits.valueOf bitstream-fields.roomFor bitstream-fields-inside.written bitstream-filling.filled bitstream-filling.filledUp bitstream-filling.bytesFrom bitstream-filling.bytesOf bitstream-fields.readAt formats-format.numberFrom formats-format.small score-line-format.inRange score-line-format.float score-line-format.number score-line-format.timed score-line-format.when score-line-format.label score-line-format.kind score-line-format.labelled score-line-format.body score-line-format.counted score-line-format.values score-line-format.afterTime score-line-format.parts score-line-format.padded score-line-format.line score-line-reading.lineOf score-line-reading.answerOf score-line-reading.refusedLine score-line-reading.lineRead score-line-reading.lineAt score-line-reading.lineInWords score-line-reading.wholeRun score-line-reading.keypadLine formats-format.bitSource formats-format.keypadSource score-score.linesFrom score-score.ended score-score.counted score-score.scoreOf score-score-inside.firstOf score-score-inside.nextOf score-score-inside.walked score-score.wholeLine score-score.opened score-score.unitOf timebase-range.checked timebase-time.finiteBits timebase-time.timeBits timebase-time.durationBits timebase-time.tempoBits timebase-time.ticksIn timebase-time.cycleOf timebase-time.cycleIn ofBits le
 all-read = ((refl, refl), (refl, refl), (refl, refl))
 
 as-text : IsRead text asText before
-unfolding numerals.floatOf read-numbers.startsWith read-numbers.rest read-numbers.isDigit read-numbers.digitsFrom read-numbers.withoutPoint read-numbers.decimalsFrom read-numbers.unsignedFrom read-numbers.numberFrom read-numbers.symbolFrom read-numbers.nameFrom text-reading.pastSpaces text-reading.gapFrom text-reading.colonFrom text-reading.nextName text-reading.nextNumber text-reading.valuesFrom text-reading.instrFrom text-reading.namedFrom text-reading.eventFrom text-reading.labelledFrom text-reading.timedFrom text-reading.bodyFrom text-reading.lineFrom text-reading.linesFrom text-reading.judgedFrom text-reading.textOf said.wordsOf said.lineSaid formats-reading.numberFrom formats-format.small score-line-format.inRange score-line-format.float score-line-format.number score-line-format.timed score-line-format.when score-line-format.label score-line-format.kind score-line-format.labelled score-line-format.body score-line-format.counted score-line-format.values score-line-format.afterTime score-line-format.parts score-line-format.padded score-line-format.line score-line-reading.lineOf score-line-reading.answerOf formats-source.keypadSource timebase-range.checked timebase-time.finiteBits timebase-time.timeBits timebase-time.durationBits ofBits toBits round le
+unfolding numerals.floatOf read-numbers.startsWith read-numbers.rest read-numbers.isDigit read-numbers.digitsFrom read-numbers.withoutPoint read-numbers.decimalsFrom read-numbers.unsignedFrom read-numbers.numberFrom read-numbers.symbolFrom read-numbers.nameFrom text-reading.pastSpaces text-reading.gapFrom text-reading.colonFrom text-reading.nextName text-reading.nextNumber text-reading.valuesFrom text-reading.instrFrom text-reading.namedFrom text-reading.eventFrom text-reading.labelledFrom text-reading.timedFrom text-reading.bodyFrom text-reading.lineFrom text-reading.linesFrom said.judgedFrom text-reading.textOf said.wordsOf said.lineSaid formats-format.numberFrom formats-format.small score-line-format.inRange score-line-format.float score-line-format.number score-line-format.timed score-line-format.when score-line-format.label score-line-format.kind score-line-format.labelled score-line-format.body score-line-format.counted score-line-format.values score-line-format.afterTime score-line-format.parts score-line-format.padded score-line-format.line score-line-reading.lineOf score-line-reading.answerOf formats-format.keypadSource timebase-range.checked timebase-time.finiteBits timebase-time.timeBits timebase-time.durationBits ofBits toBits round le
 as-text = (refl, refl)
 
 in-time : {S : Type 0} (v : Voices S) → Later v control × Later v end

@@ -9,12 +9,11 @@ use Rattle.tokens.specs.declared.Token.the-variants.{Number, Symbol, Sign}
 use Rattle.tokens.specs.Spelling.{allLawful, spelt, bytesOf}
 use Rattle.tokens.specs.Measures.{opened, since, bracketsKept, stretchesKept}
 use Rattle.syntax.specs.Names.{named, namedBy, has, apart, knownIn, known, eachKept}
-use Rattle.syntax.specs.Placed.{placeFrom, putIn, put}
+use Rattle.syntax.specs.inside.Placed.{placeFrom, putIn, put}
 use Rattle.syntax.specs.Rates.{rateOf, rate, ratesKept, rateRules}
-use Rattle.syntax.specs.Grammar.{real, named as a·name, sides, plus}
-use Rattle.syntax.specs.Grammar.{none, set, out, one, none as no·fields, ksig, none as no·decls, some as some·decls, is, Orchestra, last}
+use Rattle.syntax.specs.Grammar.{real, named as a·name, sides, plus, none, set, out, one, none as no·fields, ksig, none as no·decls, some as some·decls, is, Orchestra, last}
 use Rattle.orchestra.specs.Verdict.{Sized, Accepted}
-use Rattle.meaning.specs.Placed.{value, assigned, outputs, pass, fresh, birth, kPass, aPasses, cycle}
+use Rattle.meaning.specs.inside.Placed.{value, assigned, outputs, pass, fresh, birth, kPass, aPasses, cycle}
 use Rattle.score_line.specs.declared.Line.{Line}
 use Rattle.players.specs.Lists.{keep, fold, each, All}
 use Rattle.players.specs.Cycle.{isDue, insert, ordered, anyEnd, lastTempo, limited, joinedBy, goesOn, born, started, controlledBy, controlled, afterMessages, runFrom, runAll}
@@ -22,8 +21,10 @@ use Rattle.players.specs.Holds.{sixty, dueAt, laterThan, endsBy, answerOf, star
 use Rattle.players.specs.Plain.{plainStart, plainAt, answerAt, blockAt}
 use Rattle.float32.specs.Limit.{held, sampleOf}
 use Rattle.timebase.specs.Time.{ticksIn, cycleOf, cycleIn}
-use Rattle.voices.specs.Tree.{silent, instrumentOf, importsOf, treeVoices}
-use Rattle.written_voices.specs.Voices.{writtenVoices, Fits, PlaysAsWritten}
+use Rattle.meaning.specs.Meaning.{silent, instrumentOf}
+use Rattle.voices.specs.Tree.{importsOf, treeVoices}
+use Rattle.written_voices.specs.Voices.{writtenVoices, Fits}
+use Rattle.written_voices.specs.inside.Translation.{PlaysAsWritten}
 use Rattle.written_voices.proofs.Written.{every-piece}
 use Rattle.claims.specs.Claims.{settings}
 use Rattle.witness.specs.Growing.{bytes, tree, line, ceiling, chosen, low, Sounds}

@@ -8,18 +8,18 @@ use lib.IntN.{ℤ}
 use lib.ListN.{replicate}
 use lib.Ieee.{ofBits, add, mul, round, lt, le, eq, ne}
 use Rattle.syntax.specs.Names.{named, namedBy}
-use Rattle.syntax.specs.Placed.{placeFrom, putIn, put}
-use Rattle.meaning.specs.Placed.{value, assigned, outputs, pass, fresh as freshValues, birth, kPass, aPasses, cycle as noteCycle}
-use Rattle.players.specs.Lists.{keep, fold, each, All}
+use Rattle.syntax.specs.inside.Placed.{placeFrom, putIn, put}
+use Rattle.meaning.specs.inside.Placed.{value, assigned, outputs, pass, fresh as freshValues, birth, kPass, aPasses, cycle as noteCycle}
+use Rattle.players.specs.Lists.{keep, fold, each, All, here as some-here}
 use Rattle.players.specs.Cycle.{isDue, insert, ordered, anyEnd, lastTempo, limited, joinedBy, goesOn, born, started, controlledBy, controlled, afterMessages, runFrom, runAll}
 use Rattle.players.specs.Holds.{Counts, behind, withMessages, sixty, dueAt, laterThan, endsBy, answerOf, startedOf, soundsOf, bandOf, blockOf, played, cycled}
 use Rattle.players.specs.Plain.{plainStart, plainAt, answerAt, blockAt}
-use Rattle.players.specs.Results.{here as some-here}
 use Rattle.float32.specs.Limit.{held, sampleOf}
 use Rattle.float32.specs.Builtins.{truth}
 use Rattle.timebase.specs.Time.{ticksIn, cycleOf, cycleIn}
 use Rattle.kept_voices.specs.Voices as code
-use Rattle.voices.specs.Tree.{silent, instrumentOf, importsOf, treeVoices}
+use Rattle.meaning.specs.Meaning.{silent, instrumentOf}
+use Rattle.voices.specs.Tree.{importsOf, treeVoices}
 use Rattle.written_voices.specs.Voices.{writtenVoices}
 use Rattle.score_line.specs.declared.Line.{Line}
 use Rattle.players.specs.Calls.{stick, unit, keypad, bring, cycle, Answer, one, numbered, linesOf, takenOf, isZero, Last, latest, none, Moment, traceFrom, allTaken, afterAll}

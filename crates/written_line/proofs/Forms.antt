@@ -17,9 +17,10 @@ use Rattle.score_line.specs.declared.Event.the-variants.{Instr, Control, End, T
 use Rattle.score_line.specs.declared.Line.{Line}
 use Rattle.score_text.specs.Said as said
 use Rattle.score_text.specs.Form.{Form, instr, control, tempo, end, Written, newline, space, star, controlWord, tempoWord, endWord, spaces, behindBytes, labelBytes, targetBytes, valueBytes, formBytes, starBytes, lineBytes}
-use Rattle.written_line.specs.NumberText.{numberText}
-use Rattle.written_line.specs.LineText.{ifThere, timeSaid, eventSaid, single, labelForm, valuesText, eventText, saidText, lineText}
-use Rattle.written_line.specs.Drafts.{beside, Holds, Joined, numberBytes, nextBytes, valuesBytes, labelBytesOf, formText}
+use Rattle.written_line.specs.inside.NumberText.{numberText}
+use Rattle.written_line.specs.inside.LineText.{ifThere, single, labelForm, valuesText, eventText, saidText, lineText}
+use Rattle.written_line.specs.LineText.{timeSaid, eventSaid}
+use Rattle.written_line.specs.inside.Drafts.{beside, Holds, Joined, numberBytes, nextBytes, valuesBytes, labelBytesOf, formText}
 use Rattle.written_line.specs.declared.Draft.{Draft}
 use Rattle.written_line.proofs.Pieces.{joined-then, joined-as}
 

@@ -22,7 +22,8 @@ use Rattle.numerals.proofs.DecimalDigits.{lowest-length, value-split, value-bel
 use Rattle.numerals.proofs.Quotient.{ten-pos, ten-mono}
 use Rattle.numerals.proofs.Spelling.{one-text, not-both, whole-back, shortest-writes}
 use Rattle.numerals.proofs.Units.{sign-of-round}
-use Rattle.written_line.specs.NumberText.{Plain, reads, orElse, smallest, withDecimals, numberText}
+use Rattle.written_line.specs.LineText.{Plain}
+use Rattle.written_line.specs.inside.NumberText.{reads, orElse, smallest, withDecimals, numberText}
 
 -- ---- the smallest that passes
 

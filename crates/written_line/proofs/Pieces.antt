@@ -1,6 +1,5 @@
 -- The pieces of a line's text, joined. Assumes nothing.
-use Prim.Native.Nat.{ℕ, _+_, _≤_, _<_}
-use Prim.Native.Nat.{min as lesser}
+use Prim.Native.Nat.{ℕ, _+_, _≤_, _<_, min as lesser}
 use mathlib.Core.Path.{_≡_, refl, sym, ap, ap₂, _∙_, subst}
 use mathlib.Core.Bool.{Bool, false}
 use mathlib.Core.List.{List, [], _∷_, _++_, append-assoc, append-nil}
@@ -25,7 +24,7 @@ use Rattle.number_writer.proofs.Pushing.{push-append}
 use Rattle.score_line.specs.declared.Label.{Label}
 use Rattle.score_line.specs.declared.Label.the-variants.{Unlabelled, Labelled}
 use Rattle.score_text.specs.Form.{space, colon, spaces, labelBytes}
-use Rattle.written_line.specs.Drafts.{beside, Holds, Joined, numberBytes, nextBytes, valuesBytes, labelBytesOf}
+use Rattle.written_line.specs.inside.Drafts.{beside, Holds, Joined, numberBytes, nextBytes, valuesBytes, labelBytesOf}
 use Rattle.written_line.specs.declared.Draft.{Draft}
 use Rattle.written_line.proofs.Numbers.{number-is, number-none}
 

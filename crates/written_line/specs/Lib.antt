@@ -1,3 +1,2 @@
-pub mod NumberText
 pub mod LineText
-pub mod Drafts
+pub mod inside

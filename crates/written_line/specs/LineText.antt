@@ -2,13 +2,13 @@
 -- it has no time, has use-if-late set, or one of its numbers has none. Definitions only.
 use Prim.Native.Nat.{ℕ}
 use mathlib.Core.Path.{_≡_}
-use mathlib.Core.Bool.{Bool, true, false}
-use mathlib.Core.List.{List, [], _∷_, map}
+use mathlib.Core.Bool.{true, false}
+use mathlib.Core.List.{List, [], _∷_}
 use mathlib.Core.Option.{Option, none, some, Option·map}
-use lib.ListN.{take}
+use lib.ListN.{take, length}
 use lib.Ieee.{Float}
-use Rattle.numerals.specs.Numeral.{Numeral}
-use Rattle.numerals.specs.Shortest.{NoText}
+use Rattle.numerals.specs.Numeral.{Numeral, Lawful, NoLeadingZeros, wholeOf, meaning}
+use Rattle.numerals.specs.Shortest.{NoText, Shortest}
 use Rattle.score_line.specs.declared.When.{When}
 use Rattle.score_line.specs.declared.When.the-variants.{Timed, Untimed}
 use Rattle.score_line.specs.declared.Event.{Event}
@@ -18,12 +18,14 @@ use Rattle.score_line.specs.LineFormat.{labelParts}
 use Rattle.score_text.specs.Said.{Said}
 use Rattle.score_text.specs.Said as said
 use Rattle.score_text.specs.Form.{Behind, Label, Form, instr, control, tempo, end, Written, saidBy}
-use Rattle.written_line.specs.NumberText.{Plain, numberText}
 
--- and then: what follows, where there is something
-abbrev pub ifThere : {A B : Type 0} → Option A → (A → Option B) → Option B
-ifThere none k = none
-ifThere (some a) k = k a
+-- ---- which numeral is written
+
+-- of all that mean the same float it has the fewest decimals, and of these it is the smallest in size; no needless leading zeros
+pub record Plain (t : Numeral) : Type 0 where
+  pub lawful : Lawful t
+  pub shortest : Shortest (meaning t) (wholeOf t) (length (t .decimals))
+  pub unpadded : NoLeadingZeros (t .digits)
 
 -- ---- what a line says
 
@@ -98,30 +100,3 @@ pub data Unsaid (l : Line) : Type 0 where
   no-time : l .when ≡ Untimed → Unsaid l
   use-if-late : (t : Float) → l .when ≡ Timed true t → Unsaid l
   no-number : (s : Said) → saidOf l ≡ some s → SomeNoText (numbersOf s) → Unsaid l
-
--- ---- the same as a function, which the writer's contract cites (`EveryLineTold` says that it is the same)
-
-abbrev pub single : {A : Type 0} → A → Behind A
-single a = record { more = 0; element = a }
-
-abbrev pub labelForm : ℕ → Label
-labelForm name = record { name = name; before = 0; after = 1 }
-
-unfoldable pub valuesText : List Float → Option (List Numeral)
-valuesText [] = some []
-valuesText (x ∷ xs) = ifThere (numberText x) (λ t. Option·map (λ ts. t ∷ ts) (valuesText xs))
-
-unfoldable pub eventText : said.Event → Numeral → Option Form
-unfolding valuesText
-eventText (said.instr l name d vs) t = ifThere (numberText d) (λ x. Option·map (λ xs. instr (Option·map labelForm l) t (single name) (single x) (map single xs)) (valuesText vs))
-eventText (said.control l name x) t = Option·map (λ y. control t (Option·map single l) 0 (single name) (single y)) (numberText x)
-eventText (said.tempo x) t = Option·map (λ y. tempo t 0 (single y)) (numberText x)
-eventText said.end t = some (end t 0)
-
-unfoldable pub saidText : Said → Option Written
-unfolding eventText
-saidText s = Option·map (λ f. record { priority = s .priority; form = f }) (ifThere (numberText (s .time)) (eventText (s .event)))
-
-unfoldable pub lineText : Line → Option Written
-unfolding saidText
-lineText l = ifThere (saidOf l) saidText

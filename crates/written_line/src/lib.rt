@@ -15,8 +15,9 @@ ghost use Rattle.number_writer.specs.Push.{emptyText};
 ghost use Rattle.score_line.specs.LineFormat.{labelParts};
 ghost use Rattle.score_text.specs.Said as said;
 ghost use Rattle.score_text.specs.Form.{starBytes, lineBytes};
-ghost use Rattle.written_line.specs.LineText.{eventSaid, lineText};
-ghost use Rattle.written_line.specs.Drafts.{Holds, Joined, numberBytes, nextBytes, valuesBytes, labelBytesOf, formText};
+ghost use Rattle.written_line.specs.LineText.{eventSaid};
+ghost use Rattle.written_line.specs.inside.LineText.{lineText};
+ghost use Rattle.written_line.specs.inside.Drafts.{Holds, Joined, numberBytes, nextBytes, valuesBytes, labelBytesOf, formText};
 
 const STAR: u8 = 42;
 

@@ -12,14 +12,15 @@ use Rattle.laws.proofs.Choice.{both-true}
 use Rattle.syntax.specs.Tree.{Instrument, importsKind}
 use Rattle.syntax.specs.Names.{Named, namesOf, symbols, has, apart, distinct, namesKept, eachKept, titleOf, nameRules, known, named, namedBy}
 use Rattle.float32.specs.Builtins.{zeroF}
-use Rattle.voices.specs.Tree.{instrumentOf, silent, treeVoices}
+use Rattle.meaning.specs.Meaning.{instrumentOf, silent, Memory, set, importsIn, control, birth, cycle}
+use Rattle.voices.specs.Tree.{treeVoices}
 use Rattle.voices.specs.Claims.{imported}
 use Rattle.voices.proofs.Lines.{control-names}
-use Rattle.meaning.specs.Meaning.{Memory, set, importsIn, control, birth, cycle}
-use Rattle.meaning.specs.Translation.{Stands}
+use Rattle.meaning.specs.inside.Translation.{Stands}
 use Rattle.meaning.proofs.Translation.{birth-agrees, cycle-agrees}
 use Rattle.syntax.proofs.Places.{kept, index, place-is}
-use Rattle.written_voices.specs.Voices.{writtenVoices, Fits, HeldAs, EveryPiece, EveryPast}
+use Rattle.written_voices.specs.Voices.{writtenVoices, Fits}
+use Rattle.written_voices.specs.inside.Translation.{HeldAs, EveryPiece, EveryPast}
 use Rattle.written_voices.proofs.Related.{Related, blocks-related, answers-related, missed-related, position-related, past-related, past-block-related}
 
 -- ---- each name once

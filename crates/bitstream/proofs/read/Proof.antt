@@ -3,7 +3,7 @@ use native.Mathlib.Omega.{arith}
 use Prim.Native.Nat.{_*_}
 use lib.ListN.{length}
 use denote.Ref.{now}
-use Rattle.bitstream.specs.Fields.{Room}
+use Rattle.bitstream.specs.inside.Fields.{Room}
 use Rattle.bitstream.proofs.Fields.{room-found, read-none, read-some}
 use Rattle.bitstream.proofs.read.Statement.{statement}
 use Rattle.bitstream.proofs.read.Tie as tie

@@ -3,7 +3,8 @@ use Prim.Native.Nat.{_-_}
 use native.Mathlib.Omega.{arith}
 use borrow.Author.Needs.{needs}
 use lib.ListN.{take}
-use Rattle.bursts.specs.Bursts.{burstOf, unitsIn}
+use Rattle.bursts.specs.inside.Reading.{burstOf}
+use Rattle.bursts.specs.Bursts.{unitsIn}
 use Rattle.burst_entrance.proofs.Sending.{Sending, send-start, send-inside, send-length, send-place, send-next, send-queue, send-area}
 use Rattle.burst_entrance.proofs.units_in.Statement.{statement}
 use Rattle.burst_entrance.proofs.units_in.Tie as tie

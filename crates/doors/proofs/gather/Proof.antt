@@ -1,7 +1,8 @@
 use Prim.Native.Nat.{_≤_, _-_}
 use native.Mathlib.Omega.{arith}
 use Rattle.bitstream.specs.Bits.{bitsOf}
-use Rattle.score.specs.Score.{scoreOf, Ahead}
+use Rattle.score.specs.Score.{scoreOf}
+use Rattle.score.specs.inside.Walk.{Ahead}
 use Rattle.doors.proofs.Gathering.{score-told, Gathered, score-start, score-steps, gather-next, gather-end}
 use Rattle.doors.proofs.gather.Statement.{statement}
 use Rattle.doors.proofs.gather.Tie as tie

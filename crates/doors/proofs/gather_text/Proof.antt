@@ -1,6 +1,6 @@
 use Prim.Native.Nat.{_≤_, _-_}
 use native.Mathlib.Omega.{arith}
-use Rattle.score_text.specs.Reading.{textOf}
+use Rattle.score_text.specs.inside.Reading.{textOf}
 use Rattle.text_reader.specs.Texts.{Ahead}
 use Rattle.doors.proofs.Gathering.{text-told, Gathered, text-start, text-steps, gather-next, gather-end}
 use Rattle.doors.proofs.gather_text.Statement.{statement}

@@ -17,7 +17,7 @@ use Rattle.expressions.proofs.pass.Reads as pass-reads
 use Rattle.expressions.proofs.tail_at.Reads as tail-at-reads
 use Rattle.expression_reader.proofs.+expr+last+more.{statement}
 use Rattle.expression_reader.proofs.+expr+last+more.Tie.{close}
-use Rattle.tokens.specs.Token.{toks}
+use Rattle.tokens.specs.inside.Token.{toks}
 use Rattle.expressions.specs.Areas.{gone}
 use Rattle.expressions.proofs.Toks.{length-toks}
 use Rattle.expressions.proofs.Runs.{past-place, past-sign, past-emit, past-passed}

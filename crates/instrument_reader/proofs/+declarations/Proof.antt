@@ -14,7 +14,7 @@ use Rattle.instrument_reader.proofs.+declarations.Tie.{close}
 use borrow.Author.Needs.{needs}
 use native.Mathlib.Omega.{arith}
 use mathlib.Core.Path.{refl}
-use Rattle.tokens.specs.Token.{toks}
+use Rattle.tokens.specs.inside.Token.{toks}
 use Rattle.syntax.specs.Tree.{importsKind}
 use Rattle.expressions.specs.Reader.{seq, sign}
 use Rattle.expressions.specs.Areas.{left, gone}

@@ -11,7 +11,7 @@ use Rattle.instrument_reader.proofs.+instruments.{statement}
 use Rattle.instrument_reader.proofs.+instruments.Tie.{close}
 use borrow.Author.Needs.{needs}
 use mathlib.Core.Path.{refl}
-use Rattle.tokens.specs.Token.{toks}
+use Rattle.tokens.specs.inside.Token.{toks}
 use Rattle.expressions.specs.Areas.{left}
 use Rattle.expressions.proofs.Toks.{length-toks}
 use Rattle.expressions.proofs.Runs.{past-ready}

@@ -13,7 +13,7 @@ use Rattle.instrument_reader.proofs.+names.Tie.{close}
 use borrow.Author.Needs.{needs}
 use native.Mathlib.Omega.{arith}
 use mathlib.Core.Path.{sym, _∙_}
-use Rattle.tokens.specs.Token.{toks}
+use Rattle.tokens.specs.inside.Token.{toks}
 use Rattle.expressions.specs.Areas.{left}
 use Rattle.expressions.proofs.Toks.{length-toks}
 use Rattle.expressions.proofs.Moves.{sign-in}

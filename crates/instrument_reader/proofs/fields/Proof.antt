@@ -1,6 +1,6 @@
 use borrow.Author.Needs.{needs}
 use mathlib.Core.Path.{refl}
-use Rattle.tokens.specs.Token.{toks}
+use Rattle.tokens.specs.inside.Token.{toks}
 use Rattle.expressions.specs.Areas.{left, gone}
 use Rattle.statement_reader.proofs.Ways.{ready-at}
 use Rattle.instrument_reader.proofs.Ways.{fields-none, fields-some}

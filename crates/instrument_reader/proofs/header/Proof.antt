@@ -1,7 +1,7 @@
 use borrow.Author.Needs.{needs}
 use native.Mathlib.Omega.{arith}
-use Rattle.tokens.specs.Token.{toks}
-use Rattle.syntax.specs.Program.{instrOp}
+use Rattle.tokens.specs.inside.Token.{toks}
+use Rattle.syntax.specs.inside.Program.{instrOp}
 use Rattle.expressions.specs.Reader.{seq, sign}
 use Rattle.expressions.proofs.Runs.{runs-seq, runs-sign, ready-sign, ready-less}
 use Rattle.statement_reader.proofs.Past.{ready-took}

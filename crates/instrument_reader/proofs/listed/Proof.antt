@@ -1,5 +1,5 @@
 use borrow.Author.Needs.{needs}
-use Rattle.tokens.specs.Token.{toks}
+use Rattle.tokens.specs.inside.Token.{toks}
 use Rattle.expressions.specs.Reader.{sign}
 use Rattle.expressions.proofs.Runs.{runs-seq, runs-sign}
 use Rattle.instrument_reader.proofs.listed.Statement.{statement}

@@ -1,8 +1,8 @@
 use borrow.Author.Needs.{needs}
 use native.Mathlib.Omega.{arith}
 use mathlib.Core.Path.{refl}
-use Rattle.tokens.specs.Token.{toks}
-use Rattle.syntax.specs.Program.{insArg}
+use Rattle.tokens.specs.inside.Token.{toks}
+use Rattle.syntax.specs.inside.Program.{insArg}
 use Rattle.expressions.specs.Areas.{gone}
 use Rattle.expressions.proofs.Toks.{length-toks}
 use Rattle.expressions.proofs.Runs.{runs-emit, ready-place}

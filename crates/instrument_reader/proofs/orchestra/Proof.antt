@@ -1,5 +1,5 @@
 use borrow.Author.Needs.{needs}
-use Rattle.tokens.specs.Token.{toks}
+use Rattle.tokens.specs.inside.Token.{toks}
 use Rattle.expressions.proofs.Toks.{length-toks}
 use Rattle.instrument_reader.proofs.Laws.{starts, reads}
 use Rattle.instrument_reader.proofs.orchestra.Statement.{statement}

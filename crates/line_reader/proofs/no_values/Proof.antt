@@ -1,6 +1,7 @@
 use mathlib.Core.Path.{refl}
 use lib.Ieee.{ofBits}
-use Rattle.score_line.specs.Reading.{lineRead, withValues}
+use Rattle.score_line.specs.Reading.{lineRead}
+use Rattle.score_line.specs.inside.Reading.{withValues}
 use Rattle.score_line.specs.LineFormat.{padded}
 use Rattle.line_reader.proofs.no_values.Statement.{statement}
 use Rattle.line_reader.proofs.no_values.Tie as tie

@@ -1,7 +1,7 @@
 use borrow.Author.Needs.{needs}
 use Prim.Native.Nat.{_-_}
 use lib.Ieee.{ofBits}
-use Rattle.formats.specs.Source.{sourceOf}
+use Rattle.formats.specs.inside.Source.{sourceOf}
 use Rattle.line_reader.proofs.Lines.{Filling, starts, again, stops, ends}
 use Rattle.line_reader.proofs.values_line.Statement.{statement}
 use Rattle.line_reader.proofs.values_line.Tie as tie

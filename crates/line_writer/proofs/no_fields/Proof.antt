@@ -1,6 +1,8 @@
 use mathlib.Core.Path.{refl}
-use Rattle.formats.specs.Fields.{fieldWords, fieldWidths}
-use Rattle.line_writer.specs.Packed.{packed, toEighteen}
+use Rattle.formats.specs.Format.{fieldWords}
+use Rattle.formats.specs.inside.Lengths.{fieldWidths}
+use Rattle.line_writer.specs.inside.Packed.{packed}
+use Rattle.line_writer.specs.Writing.{toEighteen}
 use Rattle.line_writer.proofs.no_fields.Statement.{statement}
 use Rattle.line_writer.proofs.no_fields.Tie as tie
 

@@ -1,6 +1,6 @@
 use borrow.Author.Needs.{needs}
 use borrow.Author.Tests.{eq-eqb, ne-eqb, lt-ltb, le-ltb}
-use Rattle.messages.specs.Reading.{stepped}
+use Rattle.messages.specs.inside.Reading.{stepped}
 use Rattle.messages.proofs.advance.Statement.{statement}
 use Rattle.messages.proofs.advance.Tie as tie
 

@@ -1,6 +1,6 @@
 use borrow.Author.Needs.{needs}
 use borrow.Author.Tests.{eq-eqb, ne-eqb}
-use Rattle.messages.specs.Reading.{given}
+use Rattle.messages.specs.inside.Reading.{given}
 use Rattle.messages.proofs.given.Statement.{statement}
 use Rattle.messages.proofs.given.Tie as tie
 

@@ -2,7 +2,7 @@ use Prim.Native.Nat.{_-_}
 use native.Mathlib.Omega.{arith}
 use lib.ListN.{length}
 use borrow.Author.Needs.{needs}
-use Rattle.orchestra.specs.Arrays.{starting}
+use Rattle.orchestra.specs.inside.Arrays.{starting}
 use Rattle.orchestra.proofs.Marking.{Inv, begins, again, ends}
 use Rattle.orchestra.proofs.starts_of.Statement.{statement}
 use Rattle.orchestra.proofs.starts_of.Tie as tie

@@ -24,8 +24,8 @@ use Rattle.statement_reader.proofs.+branches+otherwise+statements.Tie.{
 use borrow.Author.Needs.{needs}
 use native.Mathlib.Omega.{arith}
 use mathlib.Core.Path.{refl, sym, _∙_}
-use Rattle.tokens.specs.Token.{toks}
-use Rattle.syntax.specs.Program.{ins, elseOp, endOp}
+use Rattle.tokens.specs.inside.Token.{toks}
+use Rattle.syntax.specs.inside.Program.{ins, elseOp, endOp}
 use Rattle.expressions.specs.Reader.{seq}
 use Rattle.expressions.specs.Areas.{left, gone}
 use Rattle.expressions.proofs.Toks.{length-toks}

@@ -1,6 +1,6 @@
 use borrow.Author.Needs.{needs}
 use native.Mathlib.Omega.{arith}
-use Rattle.text_writer.specs.Passes.{Measurable}
+use Rattle.text_writer.specs.inside.Passes.{Measurable}
 use Rattle.text_writer.proofs.Ends.{text-measurable, text-layable, text-taken, text-short-room, text-lacking, text-many, text-refused}
 use Rattle.text_writer.proofs.write_text.Statement.{statement}
 use Rattle.text_writer.proofs.write_text.Tie as tie

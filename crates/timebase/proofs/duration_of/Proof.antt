@@ -4,7 +4,7 @@ use mathlib.Core.Bool.{Bool, true, false, _||_}
 use borrow.Author.Tests.{ne-eqb}
 use lib.Ieee.{ofBits, neg, le}
 use Rattle.timebase.specs.Time.{durationBits, timeBits}
-use Rattle.timebase.specs.Range.{checked}
+use Rattle.timebase.specs.inside.Range.{checked}
 use Rattle.timebase.proofs.duration_of.Statement.{statement}
 use Rattle.timebase.proofs.duration_of.Tie as tie
 

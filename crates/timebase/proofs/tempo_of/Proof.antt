@@ -1,6 +1,6 @@
 use lib.Ieee.{ofBits}
 use Rattle.timebase.specs.Time.{tempoBits}
-use Rattle.timebase.specs.Range.{checked}
+use Rattle.timebase.specs.inside.Range.{checked}
 use Rattle.timebase.proofs.Ranges.{no-nan, tempo-outside}
 use Rattle.timebase.proofs.tempo_of.Statement.{statement}
 use Rattle.timebase.proofs.tempo_of.Tie as tie

@@ -1,6 +1,6 @@
 use native.Mathlib.Omega.{arith}
 use lib.Ieee.{ofBits}
-use Rattle.timebase.specs.Range.{checked}
+use Rattle.timebase.specs.inside.Range.{checked}
 use Rattle.timebase.proofs.Ranges.{no-nan, time-outside, time-is}
 use Rattle.timebase.proofs.time_of.Statement.{statement}
 use Rattle.timebase.proofs.time_of.Tie as tie

@@ -1,6 +1,6 @@
 use native.Mathlib.Omega.{arith}
 use borrow.Author.Tests.{lt-ltb, le-ltb}
-use Rattle.timebase.specs.Range.{checked}
+use Rattle.timebase.specs.inside.Range.{checked}
 use Rattle.timebase.proofs.Ranges.{no-nan, finite-test}
 use Rattle.timebase.proofs.value_of.Statement.{statement}
 use Rattle.timebase.proofs.value_of.Tie as tie

@@ -1,5 +1,5 @@
 use lib.Ieee.{nan}
-use Rattle.tokens.specs.Token.{zeroF}
+use Rattle.tokens.specs.inside.Token.{zeroF}
 use mathlib.Core.Path.{sym}
 use lib.ListN.{List·getD-eq-default}
 use Rattle.tokens.proofs.Past.{getD-any}

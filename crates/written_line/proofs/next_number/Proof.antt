@@ -1,5 +1,5 @@
 use borrow.Author.Needs.{needs}
-use Rattle.written_line.specs.Drafts.{nextBytes}
+use Rattle.written_line.specs.inside.Drafts.{nextBytes}
 use Rattle.written_line.proofs.Pieces.{joined-then}
 use Rattle.written_line.proofs.next_number.Statement.{statement}
 use Rattle.written_line.proofs.next_number.Tie as tie

@@ -8,7 +8,7 @@ use Rattle.expression_reader.proofs.last.Reads as last
 use Rattle.expression_reader.proofs.last.Kinds as last-kinds
 use Rattle.expression_reader.proofs.more.Reads as more
 use Rattle.expression_reader.proofs.more.Kinds as more-kinds
-use Rattle.tokens.specs.Token.{toks}
+use Rattle.tokens.specs.inside.Token.{toks}
 use Rattle.expressions.specs.Areas.{left}
 
 abbrev pub μ-expr : Measures 6 expr-kinds.ps ℕ

@@ -1,0 +1,4 @@
+pub mod Arrays
+pub mod Compiled
+pub mod Reading
+pub mod Stages

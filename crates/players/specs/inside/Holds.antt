@@ -1,0 +1,15 @@
+-- What plays, in the code's numbers. Definitions only.
+use Prim.Native.Nat.{min}
+use Rattle.players.specs.Holds.{Plays}
+
+module _ {S : Type 0} where
+  -- the count of missed notes as far as 64 bits go
+  unfoldable pub capped : Plays S → Plays S
+  capped p =
+      record {
+        notes = p .notes;
+        position = p .position;
+        tempo = p .tempo;
+        counts = record { missed = min (p .counts .missed) 18446744073709551615 };
+        ended = p .ended;
+      }

@@ -1,0 +1,10 @@
+-- One slot of an area. Definitions only.
+use Prim.Native.Nat.{ℕ, _+_}
+use mathlib.Core.Path.{_≡_}
+use mathlib.Core.List.{List, _++_}
+use lib.ListN.{length, take, drop}
+
+-- one slot put into the area
+pub record SlotPut (old : List ℕ) (at : ℕ) (slot new : List ℕ) : Type 0 where
+  pub long : length slot ≡ 18
+  pub stands : new ≡ take at old ++ (slot ++ drop (at + 18) old)
