@@ -15,7 +15,7 @@ use Rattle.score_line.specs.declared.Line.{Line}
 use Rattle.notes.specs.declared.Note.{Note}
 use Rattle.bursts.specs.Bursts.{Burst}
 use Rattle.players.specs.Cycle.{Voices}
-use Rattle.players.specs.Holds.{settingsOf, sixty, dueOf, bandOf, blockOf}
+use Rattle.players.specs.Holds.{settingsOf, dueOf, bandOf, blockOf}
 use Rattle.players.proofs.Lists.{cond-true, cond-false}
 use Rattle.doors.specs.Doors.{emptyLine}
 use Rattle.burst_entrance.specs.Singly.{sentIn}
@@ -38,17 +38,17 @@ use Rattle.calls.specs.declared.Left.{Left}
 -- ---- a fresh start
 
 -- its places hold an empty line, an empty note and an empty message
-pub start-law : (ended : Bool) (l : Line) → l ≡ emptyLine → (n : Note) → n ≡ emptyNote → (m : Messages) → m ≡ noMessages
+pub start-law : (tempo : Float) (ended : Bool) (l : Line) → l ≡ emptyLine → (n : Note) → n ≡ emptyNote → (m : Messages) → m ≡ noMessages
     → _≡_ {A = State} (record {
       queue = record { lines = replicate 64 l; count = 0; ran = false; last = 0 };
       messages = m;
-      playing = record { notes = record { notes = replicate 16 n; count = 0 }; position = 0; tempo = sixty; missed = 0; ended = ended };
-    }) (startState ended)
-start-law ended l e n f m g =
+      playing = record { notes = record { notes = replicate 16 n; count = 0 }; position = 0; tempo = tempo; missed = 0; ended = ended };
+    }) (startState tempo ended)
+start-law tempo ended l e n f m g =
     λ i. record {
       queue = record { lines = replicate 64 (e i); count = 0; ran = false; last = 0 };
       messages = g i;
-      playing = record { notes = record { notes = replicate 16 (f i); count = 0 }; position = 0; tempo = sixty; missed = 0; ended = ended };
+      playing = record { notes = record { notes = replicate 16 (f i); count = 0 }; position = 0; tempo = tempo; missed = 0; ended = ended };
     }
 
 -- ---- lines and note messages

@@ -3,7 +3,7 @@ use mathlib.Core.Bool.{Bool, false, cond}
 use mathlib.Core.List.{List}
 use Prim.Native.Nat.{ℕ}
 use lib.IntN.{ℤ}
-use lib.Ieee.{binary32, ofBits}
+use lib.Ieee.{Float, binary32, ofBits}
 use lib.ListN.{length, replicate}
 use lib.Dec.{eqb}
 use Rattle.answer.specs.Numbers.{isTaken}
@@ -11,7 +11,7 @@ use Rattle.answer.specs.declared.Answer.the-variants.{Taken, Ended, BlockLength
 use Rattle.score.specs.Score.{Score}
 use Rattle.bursts.specs.Bursts.{Burst}
 use Rattle.players.specs.Cycle.{Voices, samples}
-use Rattle.players.specs.Holds.{Settings, sixty, dueOf, blockOf}
+use Rattle.players.specs.Holds.{Settings, dueOf, blockOf}
 use Rattle.waiting.specs.declared.Queue.{Queue}
 use Rattle.notes.specs.Notes.{newNote}
 use Rattle.notes.specs.declared.Note.{Note}
@@ -36,13 +36,13 @@ emptyNote =
     newNote (replicate 16 (ofBits binary32 0)) (record { given = false; symbol = 0 }) 0 (record { never = false; at = 0 }) false
     (record { keyed = false; channel = 0; key = 0; released = false })
 
--- no line and no note message waits, no note sounds, position 0, the starting tempo, none missed; ended only where the start is refused
-abbrev pub startState : Bool → State
-startState ended =
+-- no line and no note message waits, no note sounds, position 0, this tempo, none missed; ended only where the start is refused
+abbrev pub startState : Float → Bool → State
+startState tempo ended =
     record {
       queue = record { lines = replicate 64 emptyLine; count = 0; ran = false; last = 0 };
       messages = noMessages;
-      playing = record { notes = record { notes = replicate 16 emptyNote; count = 0 }; position = 0; tempo = sixty; missed = 0; ended = ended };
+      playing = record { notes = record { notes = replicate 16 emptyNote; count = 0 }; position = 0; tempo = tempo; missed = 0; ended = ended };
     }
 
 -- ---- the calls

@@ -44,11 +44,9 @@ pub struct Left {
 // How many samples a block has.
 const SAMPLES: usize = 320;
 
-const STARTING_TEMPO: f32 = 60.0;
-
-// The state at a fresh start; ended only where the start is refused.
-pub fn start(ended: bool) -> State
-    ensures { λ r. ⌜ r ≡ startState ended ⌝ }
+// The state at a fresh start with a tempo; ended only where the start is refused.
+pub fn start(tempo: f32, ended: bool) -> State
+    ensures { λ r. ⌜ r ≡ startState tempo ended ⌝ }
 {
     let line = doors::empty_line();
     let silence = [0.0f32; 16];
@@ -84,7 +82,7 @@ pub fn start(ended: bool) -> State
                 count: 0,
             },
             position: 0,
-            tempo: STARTING_TEMPO,
+            tempo: tempo,
             missed: 0,
             ended: ended,
         },

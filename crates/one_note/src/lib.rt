@@ -175,7 +175,7 @@ pub fn is_held(n: Note, channel: u8, key: u8) -> bool
 // A note's cycle: its k pass, then an a pass for each sample of the mix.
 pub fn run_note(
     code: &[u64],
-    room: &mut [f32; 4096],
+    room: &mut [f32; operations::ROOM],
     x: Instrument,
     n: Note,
     mix: &mut [f32],

@@ -5,7 +5,7 @@ use Prim.Native.Nat.{ℕ}
 use lib.ListN.{take}
 use Rattle.waiting.specs.declared.Queue.{Queue}
 use Rattle.players.specs.Cycle.{Voices}
-use Rattle.players.specs.Holds.{Settings, settingsOf, Holds}
+use Rattle.players.specs.Holds.{Settings, settingsOf, Holds, sixty}
 use Rattle.keyboard.specs.declared.Messages.{Messages}
 use Rattle.kept_voices.specs.Voices.{Held, voices}
 use Rattle.kept_orchestra.specs.declared.Instrument.{Instrument}
@@ -49,6 +49,6 @@ endedOf p = withState p (record { queue = p .state .queue; messages = p .state .
 
 -- ---- a fresh start
 
--- the state of every start, beside what this one fixes
+-- the state of every start, at the starting tempo, beside what this one fixes
 unfoldable pub startOf : Program → ℕ → ℕ → Bool → Panel
-startOf program ceiling chosen ended = record { state = startState ended; ceiling = ceiling; chosen = chosen; program = program }
+startOf program ceiling chosen ended = record { state = startState sixty ended; ceiling = ceiling; chosen = chosen; program = program }

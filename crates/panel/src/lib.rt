@@ -219,7 +219,7 @@ fn start(program: Program, ceiling: u16, chosen: u16, ended: bool) -> Panel
     ensures { λ r. ⌜ r ≡ startOf program ceiling chosen ended ⌝ }
 {
     Panel {
-        state: calls::start(ended),
+        state: calls::start(Panel::STARTING_TEMPO, ended),
         ceiling: ceiling,
         chosen: chosen,
         program: program,
@@ -255,6 +255,8 @@ fn has_chosen(program: Program, chosen: u16) -> bool
 }
 
 impl Panel {
+    pub const STARTING_TEMPO: f32 = 60.0;
+
     // A fresh panel of an orchestra's bytes, with the instrument that is chosen for the keyboard. A refusal, of the ceiling, of the orchestra
     // or of the choice, gives a panel that has ended.
     pub fn fresh(orchestra: &[u8], ceiling: u32, chosen: u16) -> Fresh

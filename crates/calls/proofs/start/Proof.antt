@@ -1,5 +1,4 @@
 use borrow.Author.Needs.{needs}
-use Rattle.players.specs.Holds.{sixty}
 use Rattle.calls.specs.OnState.{emptyNote}
 use Rattle.calls.proofs.Ways.{start-law}
 use Rattle.calls.proofs.start.Statement.{statement}
@@ -8,4 +7,4 @@ use Rattle.calls.proofs.start.Tie as tie
 pub start-spec : {M : Type 1} → statement M
 start-spec =
     tie.close (tie.spec (λ c κs. search needs) (λ c κs. search needs) (λ c κs. search needs)
-    (λ c. unfold emptyNote sixty in start-law _ _ (c .before .before .empty-line .ensures) _ (c .before .new-note .ensures) _ (c .no-messages .ensures)))
+    (λ c. unfold emptyNote in start-law _ _ _ (c .before .before .empty-line .ensures) _ (c .before .new-note .ensures) _ (c .no-messages .ensures)))
