@@ -1,7 +1,7 @@
 -- What the tests of `abs` tell of a float. Assumes nothing.
 use Prim.Native.Nat.{ℕ, zero, suc, _+_, _*_, _<_, _≤_}
 use mathlib.Core.Path.{_≡_, refl, sym, _∙_}
-use mathlib.Core.Bool.{Bool, true, false, _&&_, true≢false}
+use mathlib.Core.Bool.{Bool, true, false, _&&_, cond, true≢false}
 use native.Mathlib.Omega.{arith}
 use borrow.Author.Tests.{ltb-true, ltb-false, eqb-true, eq-eqb}
 use lib.IntN.{ℤ}
@@ -19,7 +19,7 @@ unfolding fits
 fits-abs s zero e t = t
 fits-abs s (suc m) e t = t
 
-pub abs-below : (x : Float) → lt x zeroF ≡ true → neg x ≡ absOf x
+abs-below : (x : Float) → lt x zeroF ≡ true → neg x ≡ absOf x
 unfolding lt neg absOf ofBits
 abs-below nan e = cc
 abs-below (inf true) e = refl
@@ -27,7 +27,7 @@ abs-below (inf false) e = cc
 abs-below (fin true m d) e = refl
 abs-below (fin false m d) e = absurd (let h : m * up d * 1 < 0 * down d = ltb-true _ _ e in omega arith)
 
-pub abs-zero : (x : Float) → T (fits binary32 x) → eq x zeroF ≡ true → zeroF ≡ absOf x
+abs-zero : (x : Float) → T (fits binary32 x) → eq x zeroF ≡ true → zeroF ≡ absOf x
 unfolding eq absOf fits ofBits
 abs-zero nan t e = cc
 abs-zero (inf s) t e = cc
@@ -35,7 +35,7 @@ abs-zero (fin s m d) t e =
     let h : m * up d * 1 ≡ 0 * down d = eqb-true _ _ (and-true-l _ _ e) in
     whole-unique binary32 zeroF (fin false m d) false 0 tt (fits-abs s m d t) (refl, refl) (refl, h)
 
-pub abs-above : (x : Float) → lt x zeroF ≡ false → eq x zeroF ≡ false → x ≡ absOf x
+abs-above : (x : Float) → lt x zeroF ≡ false → eq x zeroF ≡ false → x ≡ absOf x
 unfolding lt eq absOf ofBits
 abs-above nan e f = refl
 abs-above (inf true) e f = cc
@@ -46,3 +46,11 @@ abs-above (fin true m d) e f =
     let z : m * up d * 1 ≡ 0 = omega arith in
     let w : m * up d * 1 ≡ 0 * down d = omega arith in
     absurd (true≢false (sym (simp (eq-eqb _ _ w, eq-eqb _ _ z)) ∙ f))
+
+pub abs-is : (x : Float) → T (fits binary32 x) → cond (eq x zeroF) zeroF (cond (lt x zeroF) (neg x) x) ≡ absOf x
+abs-is x t = go (eq x zeroF) (lt x zeroF) refl refl
+  where
+    go : (z b : Bool) → eq x zeroF ≡ z → lt x zeroF ≡ b → cond z zeroF (cond b (neg x) x) ≡ absOf x
+    go true b e f = abs-zero x t e
+    go false true e f = abs-below x f
+    go false false e f = abs-above x f e

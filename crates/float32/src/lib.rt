@@ -1,21 +1,24 @@
 // The built-in functions and operators of the orchestra's code on 32-bit floats (document 01, "What the
 // code does"), and the limited sample (step 6 of a cycle). Every function is total.
 ghost use mathlib.Core.Path.{_≡_};
+ghost use mathlib.Core.Bool.{cond};
 ghost use Prim.Native.Nat.{min as lesser};
 ghost use lib.Ieee as Ieee;
 ghost use Rattle.float32.specs.Builtins.{absOf, sgnOf, intOf, fracOf, minOf, maxOf, flagOf, truth, eitherOf, bothOf, notOf, selectOf};
 ghost use Rattle.float32.specs.Limit.{sampleOf};
 
+// One of two by a test: a choice of values and no branch, so that lanes are worked together.
+fn chosen(test: bool, x: f32, y: f32) -> f32
+    ensures { λ r. ⌜ r ≡ cond test x y ⌝ }
+{
+    if test { x } else { y }
+}
+
 pub fn abs(x: f32) -> f32
     ensures { λ r. ⌜ r ≡ absOf x ⌝ }
 {
-    if x < 0.0 {
-        return -x;
-    }
-    if x == 0.0 {
-        return 0.0;
-    }
-    x
+    let magnitude = chosen(x < 0.0, -x, x);
+    chosen(x == 0.0, 0.0, magnitude)
 }
 
 pub fn sgn(x: f32) -> f32
@@ -30,17 +33,19 @@ pub fn sgn(x: f32) -> f32
     0.0
 }
 
-// From 2^23 on a float has no fraction; below, the whole part fits an integer.
+// 2^23: from here on a float has no fraction.
+const WHOLE_FROM: f32 = 8388608.0;
+
+// Below 2^23 the sum with it is rounded to a whole number, up or down, and a comparison tells which.
 pub fn int(x: f32) -> f32
     ensures { λ r. ⌜ r ≡ intOf x ⌝ }
 {
-    if x < 8388608.0 {
-        if -8388608.0 < x {
-            let n = std::num::truncating_f32_to_i64(x);
-            return n as f32;
-        }
-    }
-    x
+    let below = x < 0.0;
+    let magnitude = chosen(below, -x, x);
+    let nearest = (magnitude + WHOLE_FROM) - WHOLE_FROM;
+    let n = nearest - flag(magnitude < nearest);
+    let whole = chosen(below, 0.0 - n, n);
+    chosen(magnitude < WHOLE_FROM, whole, x)
 }
 
 pub fn frac(x: f32) -> f32
