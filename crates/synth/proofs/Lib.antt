@@ -1,3 +1,4 @@
+pub mod Running
 pub mod Ways
 pub mod Loops
 pub mod Numbers

@@ -11,7 +11,7 @@ use Rattle.syntax.specs.Tree.{Statements}
 use Rattle.syntax.specs.inside.Program.{zeroF}
 use Rattle.meaning.specs.inside.Placed.{Sounding, sounding, pass, birth, kPass, aPasses, fresh}
 use Rattle.operations.specs.Words.{notePlaces, framePlaces}
-use Rattle.synth.specs.Run.{state, run}
+use Rattle.synth.specs.Run.{run}
 use Rattle.synth.specs.Passes.{laid, frameOf, freshOf, once, Sums, sums, played}
 use Rattle.translation.specs.Translation.{lowered}
 use Rattle.translation.specs.Statements.{Playable, AllFit, OnceMeans, BirthMeans, KMeans, PlayedMeans}
@@ -39,10 +39,10 @@ unframed f vs a b = rw (b, drop-of-length-le vs {i = length f} (omega arith)) (a
 pub once-means : OnceMeans
 unfolding OnceMeans once holds
 once-means vals r n t vs p l =
-    let s = state (frameOf vs) zeroF in
-    let d = passes vals t r n 0 s p (omega arith) (frame-size vs l) (ofBits-fits binary32 0) in
-    unframed (run vals (lowered r n 0 t) s .frame) vs (d .size) l
-    ∙ ap (λ (x : Sounding). x .values) (d .is)
+    let f = frameOf vs in
+    let d = passes vals t r n 0 f p (omega arith) (frame-size vs l) in
+    unframed (run vals (lowered r n 0 t) f .frame) vs (d .size) l
+    ∙ ap (λ (x : Sounding). x .values) (d .is zeroF (ofBits-fits binary32 0))
     ∙ ap (λ (u : List Float). pass r t (sounding u zeroF) .values) (framed vs l)
 
 -- ---- birth
@@ -88,13 +88,14 @@ module _ (vals : List Float) (n : ℕ) (t : Statements) (p : Playable vals n 0 t
   unfolding sums aPasses AllFit holds
   meant f [] l a = record { size = l; values = refl; sums = refl }
   meant f (x ∷ xs) l a =
-      let s = run vals (lowered 2 n 0 t) (state f x) in
-      let d = passes vals t 2 n 0 (state f x) p (omega arith) l (a .0) in
+      let s = run vals (lowered 2 n 0 t) f in
+      let d = passes vals t 2 n 0 f p (omega arith) l in
+      let e = d .is x (a .0) in
       let k = meant (s .frame) xs (d .size) (a .1) in
       record {
         size = k .size;
-        values = k .values ∙ ap (λ (y : Sounding). aPasses t (y .values) xs .values) (d .is);
-        sums = λ i. d .is i .sample ∷ (k .sums ∙ ap (λ (y : Sounding). aPasses t (y .values) xs .mix) (d .is)) i;
+        values = k .values ∙ ap (λ (y : Sounding). aPasses t (y .values) xs .values) e;
+        sums = λ i. e i .sample ∷ (k .sums ∙ ap (λ (y : Sounding). aPasses t (y .values) xs .mix) e) i;
       }
 
 pub played-means : PlayedMeans
