@@ -1,6 +1,4 @@
 pub mod Between
-pub mod Plans
-pub mod Stepping
 pub mod Readying
 pub mod Seating
 pub mod Rooms

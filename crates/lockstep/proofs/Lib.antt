@@ -1,0 +1,5 @@
+pub mod Parts
+pub mod Groupwise
+pub mod Samplewise
+pub mod Exchange
+pub mod Ready
