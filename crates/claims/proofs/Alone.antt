@@ -14,6 +14,7 @@ use Rattle.players.specs.Calls.{Door, unit, mustBeTimed, hasTime, reads, Call, 
 use Rattle.players.proofs.Lists.{cond-true, cond-false}
 use Rattle.entrances.specs.Entrances.{lineIn, pushedAll, broughtIn}
 use Rattle.entrances.specs.declared.Pushed.{Pushed}
+use Rattle.calls.specs.OnState as onState
 use Rattle.panel.specs.State.{tableOf, withQueue}
 use Rattle.panel.specs.Calls.{broughtOf, bringOf}
 use Rattle.panel.specs.declared.Panel.{Panel}
@@ -50,7 +51,7 @@ record Enters (p : Panel) (l : Line) (a : After Panel) : Type 0 where
 
 bring-enters : (p : Panel) (d : Door) (handed : List ℕ) (l : Line) → hasTime (l .when) ≡ true → reads d handed .answer ≡ answer.Taken → reads d handed .lines ≡ l ∷ []
     → Enters p l (afterOf p (bring d handed))
-unfolding afterOf bringOf broughtOf
+unfolding afterOf bringOf broughtOf onState.broughtOf withQueue
 bring-enters p d handed l h t q =
     let e = by-door p d handed l h t q in
     record { told = ap (λ (x : Pushed). record { number = numberOf (x .answer); line = x .line }) e; left = ap (λ (x : Pushed). withQueue p (x .queue)) e }

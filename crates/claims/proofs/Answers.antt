@@ -22,15 +22,16 @@ use Rattle.players.specs.History.{nowhere, at, History}
 use Rattle.players.proofs.Lists.{cond-true, cond-false}
 use Rattle.entrances.specs.Entrances.{pushedAll, broughtIn}
 use Rattle.entrances.specs.declared.Pushed.{Pushed}
+use Rattle.calls.specs.OnState as onState
 use Rattle.panel.specs.State.{tableOf, holdsOf, withQueue}
 use Rattle.bursts.specs.Bursts.{units}
-use Rattle.panel.specs.Calls.{broughtOf, bringOf, singly}
+use Rattle.panel.specs.Calls.{broughtOf, bringOf}
 use Rattle.panel.specs.declared.Panel.{Panel}
 use Rattle.loader_claims.specs.Claims.{StandsFor}
 use Rattle.claims.specs.Verdict.{Verdict, AtDoor, AtCycle, over, badText, cut, notCarried, outOfRange, tooManyValues, leftOver, faulty, taken, otherLength, overBefore, findsEnd, plays, AtKeyboard, keysOver, keysCut, keysNotCarried, keysFull, keysTaken, withLines, InTurn, none, next, AtBurst, burstCut, burstTooLong, burstNoRoom, burstTaken, once}
 use Rattle.claims.specs.Claims.{unitAnswer, afterOf, reachedOf, BurstCall, BurstAsUnits, panelAfter, Given}
 use Rattle.claims.proofs.Doors.{differ, Brings, takes, refuses, brings}
-use Rattle.claims.proofs.Bursts.{unit-line, singly-answers, burst-as-units}
+use Rattle.claims.proofs.Bursts.{unit-line, singly, singly-answers, burst-as-units}
 use Rattle.messages.specs.Message.{none as noStatus}
 use Rattle.messages.specs.Writing as midi
 use Rattle.messages.specs.Writing.{Says}
@@ -52,7 +53,7 @@ by-door p d b =
     (one (numberOf (reads d b .answer)) (reads d b .line)))
 
 answers-are : (p : Panel) (d : Door) (b : List ℕ) → afterOf p (bring d b) .answers ≡ by-door p d b
-unfolding afterOf by-door bringOf broughtOf broughtIn
+unfolding afterOf by-door bringOf broughtOf onState.broughtOf broughtIn
 answers-are p d b = go (p .state .playing .ended) (isTaken (reads d b .answer))
   where
     r : Pushed

@@ -6,7 +6,7 @@ use Prim.Native.Nat.{ℕ, suc, _≤_, _<_}
 use lib.Dec.{eqb, leb}
 use lib.ListN.{length, take, drop}
 use lib.Seq.{take-append-seam}
-use borrow.Author.Tests.{le-leb, lt-leb, leb-true}
+use borrow.Author.Tests.{le-leb, lt-leb, leb-true, leb-false}
 use Rattle.answer.specs.Numbers.{numberOf, isTaken}
 use Rattle.answer.specs.declared.Answer as kind
 use Rattle.answer.specs.declared.Answer.the-variants as answer
@@ -18,17 +18,20 @@ use Rattle.score_line.specs.declared.LineRead.{LineRead}
 use Rattle.score.specs.Score.{unitOf}
 use Rattle.bitstream.specs.Bits.{bitsOf}
 use Rattle.players.specs.Lists.{each, over}
-use Rattle.players.specs.Calls.{unit, single, reads, bring, burst, Answer, one, After, takenOf, afterAll, answersAll}
+use Rattle.players.specs.Calls.{unit, mustBeTimed, single, reads, bring, burst, Answer, one, After, takenOf, afterAll, answersAll}
 use Rattle.waiting.specs.Admission.{waitingIn}
 use Rattle.waiting.specs.declared.Queue.{Queue}
 use Rattle.waiting.specs.declared.Admitted.{Admitted}
 use Rattle.kept_orchestra.specs.declared.Instrument.{Instrument}
 use Rattle.entrances.specs.Entrances.{lineIn, pushedAll, broughtIn}
 use Rattle.entrances.specs.declared.Pushed.{Pushed}
-use Rattle.panel.specs.State.{tableOf, withQueue}
-use Rattle.panel.specs.Calls.{broughtOf, bringOf, singly, receivedOf, receiveOf, answeredIn, areaAfter}
+use Rattle.burst_entrance.specs.Singly.{singlyIn, sentIn, areaIn}
+use Rattle.burst_entrance.specs.declared.Sent.{Sent}
+use Rattle.calls.specs.OnState as onState
+use Rattle.calls.specs.OnState.{sentOf}
+use Rattle.panel.specs.State.{tableOf, withState, withQueue}
+use Rattle.panel.specs.Calls.{broughtOf, bringOf, receiveOf, areaAfter}
 use Rattle.panel.specs.declared.Panel.{Panel}
-use Rattle.panel.specs.declared.Received.{Received}
 use Rattle.claims.specs.Claims.{unitAnswer, afterOf, panel, refusedBurst, asUnits, BurstAsUnits}
 use Rattle.claims.proofs.Doors.{differ, Behind, Brings, takes, refuses, brings}
 
@@ -48,10 +51,34 @@ alone-line false table q r = go (isTaken (r .answer))
     go false = refl
 
 pub unit-line : (p : Panel) (u : List ℕ) → bringOf p unit u .line ≡ 0
-unfolding bringOf broughtOf
+unfolding bringOf broughtOf onState.broughtOf
 unit-line p u = alone-line (p .state .playing .ended) (tableOf (p .program)) (p .state .queue) (unitOf (bitsOf u))
 
--- ---- units that come singly, by the public unit call
+-- ---- units that come singly, by the public unit call: the panel after them, and the number of each one's answer
+
+pub record Singly : Type 0 where
+  pub panel : Panel
+  pub numbers : List ℕ
+
+unfoldable pub singly : Panel → List (List ℕ) → Singly
+singly p [] = record { panel = p; numbers = [] }
+singly p (u ∷ us) =
+    let r = bringOf p unit u in
+    let rest = singly (r .panel) us in
+    record { panel = rest .panel; numbers = numberOf (r .answer) ∷ rest .numbers }
+
+-- they change nothing but the waiting lines
+abbrev in-turn : Panel → List (List ℕ) → Singly
+in-turn p us =
+    let r = singlyIn (p .state .playing .ended) (tableOf (p .program)) (p .state .queue) us in
+    record { panel = withQueue p (r .queue); numbers = r .numbers }
+
+singly-is : (us : List (List ℕ)) (p : Panel) → in-turn p us ≡ singly p us
+unfolding singly singlyIn bringOf broughtOf onState.broughtOf withQueue
+singly-is [] p = refl
+singly-is (u ∷ us) p =
+    let r = broughtIn (p .state .playing .ended) (mustBeTimed unit) (tableOf (p .program)) (p .state .queue) (reads unit u) in
+    ap (λ (x : Singly). record { panel = x .panel; numbers = numberOf (r .answer) ∷ x .numbers }) (singly-is us (withQueue p (r .queue)))
 
 pub singly-player : (us : List (List ℕ)) (p : Panel) → singly p us .panel ≡ afterAll panel p (each (bring unit) us)
 unfolding singly each afterAll afterOf
@@ -78,16 +105,16 @@ length-singly (u ∷ us) p = ap suc (length-singly us (bringOf p unit u .panel))
 
 pub left : Panel → List ℕ → Burst → After Panel
 left p area b =
-    let r = receivedOf p (length area) b in
-    let a = answeredIn p area b in
-    record { player = r .panel; answers = one (numberOf (r .answer)) 0 ++ each unitAnswer (take (r .units) a); block = []; area = a }
+    let r = sentOf (tableOf (p .program)) (p .state) (length area) b in
+    let a = areaIn (p .state .playing .ended) (tableOf (p .program)) (p .state .queue) area b in
+    record { player = withState p (r .state); answers = one (numberOf (r .answer)) 0 ++ each unitAnswer (take (r .units) a); block = []; area = a }
 
 pub left-is : (p : Panel) (bytes area : List ℕ) (b : Burst) → burstOf bytes ≡ b → afterOf p (burst bytes area) ≡ left p area b
 unfolding afterOf receiveOf areaAfter left
 left-is p bytes area b e = ap (left p area) e
 
 pub left-fault : (p : Panel) (area : List ℕ) (a : kind.Answer) → left p area (fault a) ≡ refusedBurst p area (numberOf a)
-unfolding left receivedOf answeredIn each
+unfolding left sentOf sentIn areaIn each
 left-fault p area a = refl
 
 -- units with a place for each answer
@@ -98,24 +125,26 @@ taken-burst p area us =
 module _ (p : Panel) (area : List ℕ) (us : List (List ℕ)) where
   by-room : Bool → After Panel
   by-room b =
-      let r = cond {A = Received} b (record { panel = singly p us .panel; answer = answer.Taken; units = length us }) (record { panel = p; answer = answer.NoRoom; units = 0 }) in
-      let a = cond b (over (singly p us .numbers) area) area in
-      record { player = r .panel; answers = one (numberOf (r .answer)) 0 ++ each unitAnswer (take (r .units) a); block = []; area = a }
+      let x = in-turn p us in
+      let r = cond {A = Sent} b (record { queue = x .panel .state .queue; answer = answer.Taken; units = length us }) (record { queue = p .state .queue; answer = answer.NoRoom; units = 0 }) in
+      let a = cond b (over (x .numbers) area) area in
+      record { player = withQueue p (r .queue); answers = one (numberOf (r .answer)) 0 ++ each unitAnswer (take (r .units) a); block = []; area = a }
 
   left-units : (b : Bool) → leb (length us) (length area) ≡ b → left p area (units us) ≡ by-room b
-  unfolding left receivedOf answeredIn by-room
+  unfolding left sentOf sentIn areaIn by-room withQueue
   left-units b e = ap by-room e
 
   pub left-short : length area < length us → left p area (units us) ≡ refusedBurst p area 8
-  unfolding by-room each
+  unfolding by-room each withQueue
   left-short h = left-units false (lt-leb (length us) (length area) h)
 
   pub left-taken : length us ≤ length area → left p area (units us) ≡ taken-burst p area us
-  unfolding by-room
+  unfolding by-room withQueue
   left-taken h =
       let ns = singly p us .numbers in
       let first : take (length us) (over ns area) ≡ ns = ap (λ (n : ℕ). take n (over ns area)) (sym (length-singly us p)) ∙ take-append-seam ns (drop (length ns) area) in
       left-units true (le-leb (length us) (length area) h)
+      ∙ ap (λ (x : Singly). record { player = x .panel; answers = one 0 0 ++ each unitAnswer (take (length us) (over (x .numbers) area)); block = []; area = over (x .numbers) area }) (singly-is us p)
       ∙ ap (λ (l : List ℕ). record { player = singly p us .panel; answers = one 0 0 ++ each unitAnswer l; block = []; area = over ns area }) first
 
   units-singly : taken-burst p area us ≡ asUnits p area us
@@ -143,7 +172,6 @@ pub data Receives (p : Panel) (bytes area : List ℕ) (a : After Panel) : Type 0
   unreceived : (n : ℕ) → eqb n 0 ≡ false → a ≡ refusedBurst p area n → Receives p bytes area a
 
 pub receives : (p : Panel) (bytes area : List ℕ) → Receives p bytes area (afterOf p (burst bytes area))
-unfolding left by-room each
 receives p bytes area = go (every-kind bytes) refl
   where
     by-places : (us : List (List ℕ)) → burstOf bytes ≡ units us → (b : Bool) → leb (length us) (length area) ≡ b → Receives p bytes area (afterOf p (burst bytes area))
@@ -151,7 +179,7 @@ receives p bytes area = go (every-kind bytes) refl
       where
         left-enough : (vs : List (List ℕ)) → leb (length vs) (length area) ≡ true → left p area (units vs) ≡ taken-burst p area vs
         left-enough vs h = left-taken p area vs (leb-true (length vs) (length area) h)
-    by-places us q false e = unreceived 8 refl (left-is p bytes area (units us) q ∙ left-units p area us false e)
+    by-places us q false e = unreceived 8 refl (left-is p bytes area (units us) q ∙ left-short p area us (leb-false (length us) (length area) e))
 
     go : {b : Burst} → Kind b → burstOf bytes ≡ b → Receives p bytes area (afterOf p (burst bytes area))
     go (is-units us) q = by-places us q (leb (length us) (length area)) refl

@@ -29,10 +29,11 @@ use Rattle.sounding.proofs.Steps.{length-each}
 use Rattle.cycle.specs.Steps.{playsOf, laidOver, advanced}
 use Rattle.cycle.specs.OneCycle as oneCycle
 use Rattle.cycle.specs.declared.Playing.{Playing}
-use Rattle.panel.specs.State.{voicesOf, holdsOf, settingsIn, endedOf}
-use Rattle.panel.specs.Calls.{playedOf, cycleOf, blockAfter}
+use Rattle.calls.specs.OnState.{cycledOf, blockLeft}
+use Rattle.calls.specs.declared.Left.{Left}
+use Rattle.panel.specs.State.{voicesOf, holdsOf, settingsIn, withState, endedOf}
+use Rattle.panel.specs.Calls.{cycleOf, blockAfter}
 use Rattle.panel.specs.declared.Panel.{Panel}
-use Rattle.panel.specs.declared.Cycled.{Cycled}
 use Rattle.claims.specs.Claims.{afterOf, reachedOf, findsEnd, Refused, RefusalsChangeNothing}
 use Rattle.claims.proofs.Doors.{differ, Brings, takes, refuses, brings}
 use Rattle.claims.proofs.Bursts.{Receives, received, unreceived, receives}
@@ -56,6 +57,10 @@ plays-back old p =
     λ i. record { notes = notes-back (p .notes) (old .notes .notes) i; position = p .position; tempo = p .tempo; counts = p .counts; ended = p .ended }
 
 -- ---- the two ways of a cycle that is lent 320 samples
+
+-- steps 2 to 8
+unfoldable pub playedOf : Panel → Panel
+playedOf p = withState p (oneCycle.playedOf (voicesOf (p .program)) (settingsIn p) (p .state))
 
 pub holds-ended : (p : Panel) → holdsOf (endedOf p) ≡ record { waits = holdsOf p .waits; messages = holdsOf p .messages; plays = marked (holdsOf p .plays) }
 unfolding endedOf oneCycle.stopped marked
@@ -107,19 +112,21 @@ pub data Cycles (p : Panel) (b : List ℤ) (a : After Panel) : Type 0 where
       → Cycles p b a
 
 pub cycles : (p : Panel) (b : List ℤ) → Cycles p b (afterOf p (cycle-call b))
-unfolding afterOf cycleOf blockAfter
+unfolding afterOf cycleOf cycledOf blockAfter blockLeft playedOf endedOf
 cycles p b = go (eqb (length b) samples) (p .state .playing .ended) (endsBy (dueOf (holdsOf p)) (holdsOf p .plays)) refl refl refl
   where
     sound : List ℤ
     sound = blockOf (voicesOf (p .program)) (settingsIn p) (dueOf (holdsOf p)) (holdsOf p .plays)
 
-    out : Bool → Bool → Bool → Cycled
+    out : Bool → Bool → Bool → Left
     out w e d =
-        cond w (cond e (record { panel = p; answer = answer.Ended }) (cond d (record { panel = endedOf p; answer = answer.Ended }) (record { panel = playedOf p; answer = answer.Taken })))
-        (record { panel = p; answer = answer.BlockLength })
+        cond w
+        (cond e (record { state = p .state; answer = answer.Ended })
+        (cond d (record { state = endedOf p .state; answer = answer.Ended }) (record { state = playedOf p .state; answer = answer.Taken })))
+        (record { state = p .state; answer = answer.BlockLength })
 
     go : (w e d : Bool) → eqb (length b) samples ≡ w → p .state .playing .ended ≡ e → endsBy (dueOf (holdsOf p)) (holdsOf p .plays) ≡ d
-        → Cycles p b (record { player = out w e d .panel; answers = one (numberOf (out w e d .answer)) 0; block = cond (isTaken (out w e d .answer)) sound b; area = [] })
+        → Cycles p b (record { player = withState p (out w e d .state); answers = one (numberOf (out w e d .answer)) 0; block = cond (isTaken (out w e d .answer)) sound b; area = [] })
     go true true d hw he hd = over-before hw he refl
     go true false true hw he hd = ends hw he hd refl
     go true false false hw he hd = plays hw he hd refl

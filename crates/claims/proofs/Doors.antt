@@ -21,6 +21,7 @@ use Rattle.kept_orchestra.specs.declared.Instrument.{Instrument}
 use Rattle.players.specs.Calls.{Door, mustBeTimed, hasTime, reads, bring, one, After, isZero}
 use Rattle.entrances.specs.Entrances.{lineIn, pushedAll, broughtIn}
 use Rattle.entrances.specs.declared.Pushed.{Pushed}
+use Rattle.calls.specs.OnState as onState
 use Rattle.panel.specs.State.{tableOf, withQueue}
 use Rattle.panel.specs.Calls.{broughtOf, bringOf}
 use Rattle.panel.specs.declared.Panel.{Panel}
@@ -101,7 +102,7 @@ pub data Brings (p : Panel) (ls : List Line) (a : After Panel) : Type 0 where
   refuses : (n l : ℕ) → eqb n 0 ≡ false → a ≡ record { player = p; answers = one n l; block = []; area = [] } → Brings p ls a
 
 pub brings : (p : Panel) (d : Door) (handed : List ℕ) → Brings p (reads d handed .lines) (afterOf p (bring d handed))
-unfolding afterOf bringOf broughtOf broughtIn withQueue
+unfolding afterOf bringOf broughtOf onState.broughtOf broughtIn withQueue
 brings p d handed = go (p .state .playing .ended) refl
   where
     left : Pushed → After Panel

@@ -35,12 +35,14 @@ use Rattle.loader.specs.Loading.{loadOf}
 use Rattle.loader_claims.specs.Claims.{StandsFor}
 use Rattle.loader_claims.proofs.Loaded.{loaded, taken-only}
 use Rattle.keyboard.specs.Keyboard.{noMessages}
-use Rattle.panel.specs.State.{startOf, holdsOf, withQueue}
-use Rattle.panel.specs.Calls.{hasChosen, freshOf, noPanel, broughtOf, bringOf, Singly, singly, playKeysOf, cycleOf, blockAfter}
+use Rattle.calls.specs.OnState as onState
+use Rattle.calls.specs.OnState.{pressedOf, cycledOf, blockLeft}
+use Rattle.calls.specs.declared.Left.{Left}
+use Rattle.panel.specs.State.{startOf, holdsOf, withState}
+use Rattle.panel.specs.Calls.{hasChosen, freshOf, noPanel, broughtOf, bringOf, playKeysOf, cycleOf, blockAfter}
 use Rattle.panel.specs.declared.Panel.{Panel}
 use Rattle.panel.specs.declared.Fresh.{Fresh}
 use Rattle.panel.specs.declared.Brought.{Brought}
-use Rattle.panel.specs.declared.Cycled.{Cycled}
 use Rattle.players.specs.Holds.{settingsOf}
 use Rattle.players.specs.Plain.{plainStart}
 use Rattle.players.specs.Calls.{unit, Call, bring, burst, keyboard, cycle, one, After, Last, none as none-yet, traceFrom}
@@ -48,7 +50,7 @@ use Rattle.players.specs.History.{nowhere}
 use Rattle.claims.specs.Fresh.{Check, First, fails, holds, all, Tokens, Tree, checks}
 use Rattle.claims.specs.Claims.{unitAnswer, afterOf, panel, reachedOf, Begun, refusedBurst, endedBurst, endedAfter, AsEnded, FreshVerdict}
 use Rattle.claims.proofs.Doors.{differ, differ′}
-use Rattle.claims.proofs.Bursts.{left, left-is, left-fault, left-short, left-taken}
+use Rattle.claims.proofs.Bursts.{Singly, singly, left, left-is, left-fault, left-short, left-taken}
 use Rattle.claims.proofs.Chosen.{chosen-there, there-chosen}
 
 -- only `Taken` is taken
@@ -144,7 +146,7 @@ module _ (bs : List ℕ) (ceiling chosen : ℕ) (law : (1 ≤ ceiling) × (ceili
 
 -- a unit on a panel that has ended
 unit-over : (p : Panel) (u : List ℕ) → p .state .playing .ended ≡ true → bringOf p unit u ≡ record { panel = p; answer = Ended; line = 0 }
-unfolding bringOf broughtOf broughtIn withQueue
+unfolding bringOf broughtOf onState.broughtOf broughtIn
 unit-over p u e = rw e refl
 
 -- a burst on a panel that has ended: each unit answers 9
@@ -171,18 +173,18 @@ burst-ended p bytes area e = left-is p bytes area (burstOf bytes) refl ∙ by-bu
 
 -- a panel that has ended
 ended-after : (p : Panel) (c : Call) → p .state .playing .ended ≡ true → afterOf p c ≡ endedAfter p c
-unfolding afterOf bringOf broughtOf broughtIn withQueue playKeysOf cycleOf blockAfter
+unfolding afterOf bringOf broughtOf onState.broughtOf broughtIn playKeysOf pressedOf cycleOf cycledOf blockAfter blockLeft
 ended-after p (bring d b) e = rw e refl
 ended-after p (burst bytes area) e = burst-ended p bytes area e
 ended-after p (keyboard b) e = rw e refl
 ended-after p (cycle b) e = go (eqb (length b) samples) (p .state .playing .ended) _ _ e
   where
-    shape : Bool → Bool → Cycled → Cycled
-    shape w d x = cond w (cond d (record { panel = p; answer = Ended }) x) (record { panel = p; answer = BlockLength })
+    shape : Bool → Bool → Left → Left
+    shape w d x = cond w (cond d (record { state = p .state; answer = Ended }) x) (record { state = p .state; answer = BlockLength })
 
-    go : (w d : Bool) (x : Cycled) (y : List ℤ) → d ≡ true
+    go : (w d : Bool) (x : Left) (y : List ℤ) → d ≡ true
         → _≡_ {A = After Panel}
-        (record { player = shape w d x .panel; answers = one (numberOf (shape w d x .answer)) 0; block = cond (isTaken (shape w d x .answer)) y b; area = [] })
+        (record { player = withState p (shape w d x .state); answers = one (numberOf (shape w d x .answer)) 0; block = cond (isTaken (shape w d x .answer)) y b; area = [] })
         (record { player = p; answers = one (cond w 9 10) 0; block = b; area = [] })
     go true true x y q = refl
     go false true x y q = refl

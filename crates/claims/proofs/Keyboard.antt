@@ -21,10 +21,12 @@ use Rattle.players.proofs.Loops.{length-over}
 use Rattle.keyboard.specs.Keyboard.{mostMessages, messagesIn, behind, pressedIn}
 use Rattle.keyboard.specs.declared.Messages.{Messages}
 use Rattle.keyboard.specs.declared.Pressed.{Pressed}
-use Rattle.panel.specs.State.{withMessages}
+use Rattle.calls.specs.OnState as onState
+use Rattle.calls.specs.OnState.{pressedOf}
+use Rattle.calls.specs.declared.Left.{Left}
+use Rattle.panel.specs.State.{withState, withMessages}
 use Rattle.panel.specs.Calls.{playKeysOf}
 use Rattle.panel.specs.declared.Panel.{Panel}
-use Rattle.panel.specs.declared.Played.{Played}
 use Rattle.claims.specs.Claims.{afterOf, TakesKeys, TakenKeys}
 use Rattle.claims.proofs.Doors.{differ}
 
@@ -50,17 +52,17 @@ pub data Presses (p : Panel) (bytes : List ℕ) (a : After Panel) : Type 0 where
       → a ≡ record { player = withMessages p (behind (p .state .messages) ms); answers = one 0 0; block = []; area = [] } → Presses p bytes a
 
 pub presses : (p : Panel) (bytes : List ℕ) → Presses p bytes (afterOf p (keyboard bytes))
-unfolding afterOf playKeysOf pressedIn withMessages
+unfolding afterOf playKeysOf pressedOf pressedIn withMessages
 presses p bytes = by-end (p .state .playing .ended) refl
   where
     w : Messages
     w = p .state .messages
 
-    out : Bool → Pressed → Played
-    out e r = cond e (record { panel = p; answer = answer.Ended }) (record { panel = withMessages p (r .messages); answer = r .answer })
+    out : Bool → Pressed → Left
+    out e r = cond e (record { state = p .state; answer = answer.Ended }) (record { state = onState.withMessages (p .state) (r .messages); answer = r .answer })
 
     left : Bool → Pressed → After Panel
-    left e r = record { player = out e r .panel; answers = one (numberOf (out e r .answer)) 0; block = []; area = [] }
+    left e r = record { player = withState p (out e r .state); answers = one (numberOf (out e r .answer)) 0; block = []; area = [] }
 
     by-room : (ms : List Message) → p .state .playing .ended ≡ false → callOf bytes ≡ whole ms → (b : Bool) → leb (length (messagesIn w) + length ms) mostMessages ≡ b
         → Presses p bytes (left false (cond b (record { messages = behind w ms; answer = answer.Taken }) (record { messages = w; answer = answer.NoRoom })))

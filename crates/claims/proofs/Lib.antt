@@ -6,6 +6,7 @@ pub mod Keyboard
 pub mod Chosen
 pub mod Cycles
 pub mod Past
+pub mod Ceiling
 pub mod Fitting
 pub mod Pushing
 pub mod Readings

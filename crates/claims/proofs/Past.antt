@@ -9,7 +9,6 @@ use lib.ListN.{length, length-take, length-replicate}
 use lib.Dec.{eqb, leb}
 use borrow.Author.Tests.{le-leb}
 use Rattle.answer.specs.Numbers.{numberOf, isTaken}
-use Rattle.float32.specs.Limit.{Within}
 use Rattle.score_line.specs.declared.Line.{Line}
 use Rattle.syntax.specs.Tree.{Instrument}
 use Rattle.voices.specs.Tree.{treeVoices}
@@ -22,11 +21,10 @@ use Rattle.players.specs.Holds.{Settings, Due, settingsOf, Holds, behind, withM
 use Rattle.players.specs.inside.Holds.{capped}
 use Rattle.players.specs.Plain.{plainStart}
 use Rattle.players.specs.Calls.{Door, unit, reads, Call, bring, burst, keyboard, cycle, wholeMessages, messagesIn, Answer, one, After, numbered, linesOf, takenOf, isZero, Last, none, cyclesWith, lastWith, momentOf, traceFrom, trace, afterAll}
-use Rattle.players.specs.Condition3.{PlainAlike, WithinCeiling}
+use Rattle.players.specs.Condition3.{PlainAlike}
 use Rattle.players.specs.History.{nowhere, at, History, unbegun, withCycle, withMoment, historyFrom, historyOf}
 use Rattle.players.proofs.Lists.{cond-true, cond-false, all-append, all-map}
 use Rattle.players.proofs.Count.{AllSteady, steady, Slow, within-limit, cap-none, slow-played, starting}
-use Rattle.players.proofs.Ceiling.{block-within}
 use Rattle.players.proofs.Alike.{AllFollow, plain-alike}
 use Rattle.waiting.specs.declared.Queue.{Queue}
 use Rattle.messages.specs.Writing as midi
@@ -42,16 +40,16 @@ use Rattle.loader_claims.proofs.Loaded.{loaded}
 use Rattle.panel.specs.State.{tableOf, voicesOf, holdsOf, settingsIn, startOf, withQueue, withMessages as panelWith, endedOf}
 use Rattle.bursts.specs.Bursts.{Burst, unitsIn}
 use Rattle.bursts.specs.inside.Reading.{burstOf}
-use Rattle.panel.specs.Calls.{singly, freshOf, playedOf}
+use Rattle.panel.specs.Calls.{freshOf}
 use Rattle.panel.specs.declared.Panel.{Panel}
 use Rattle.panel.specs.declared.Fresh.{Fresh}
-use Rattle.claims.specs.Claims.{unitAnswer, afterOf, panel, reachedOf, Given, fresh, settings, panelAfter, CeilingBinds}
+use Rattle.claims.specs.Claims.{unitAnswer, afterOf, panel, reachedOf, Given, fresh, settings, panelAfter}
 use Rattle.claims.proofs.Ranged.{ranged, ranged-steady, reads-ranged}
 use Rattle.claims.proofs.Doors.{differ, differ′, Behind, Brings, takes, refuses, brings}
-use Rattle.claims.proofs.Bursts.{Receives, received, unreceived, receives, taken-of, leaves}
+use Rattle.claims.proofs.Bursts.{singly, Receives, received, unreceived, receives, taken-of, leaves}
 use Rattle.claims.proofs.Keyboard.{waits-behind, length-behind, Presses, keys-over, keys-faulty, keys-full, keys-taken, presses}
 use Rattle.claims.proofs.Chosen.{chosen-there}
-use Rattle.claims.proofs.Cycles.{holds-ended, holds-played, reached-ended, reached-played, played-long, Cycles, off, over-before, ends, plays, cycles}
+use Rattle.claims.proofs.Cycles.{playedOf, holds-ended, holds-played, reached-ended, reached-played, played-long, Cycles, off, over-before, ends, plays, cycles}
 
 -- the history that a panel's own fields tell
 abbrev pub own : Panel → History Held
@@ -427,31 +425,6 @@ module _ (program : Program) (ceiling chosen : ℕ) (is : List Instrument) (r : 
       is-numbered (ends u e d x) = u
       is-numbered (plays u e d x) = u
 
-  module _ (low : 1 ≤ ceiling) (high : ceiling ≤ 32767) where
-    -- a door has no block, nor has a burst or the keyboard
-    no-block : (p : Panel) (d : Door) (handed : List ℕ) → All (Within ceiling) (afterOf p (bring d handed) .block)
-    unfolding afterOf
-    no-block p d handed = tt
-
-    no-burst-block : (p : Panel) (bytes area : List ℕ) → All (Within ceiling) (afterOf p (burst bytes area) .block)
-    unfolding afterOf
-    no-burst-block p bytes area = tt
-
-    no-key-block : (p : Panel) (bytes : List ℕ) → All (Within ceiling) (afterOf p (keyboard bytes) .block)
-    unfolding afterOf
-    no-key-block p bytes = tt
-
-    within : (p : Panel) → Kept p → (c : Call) → isZero (afterOf p c .answers) ≡ true → All (Within ceiling) (afterOf p c .block)
-    within p k (bring d handed) t = no-block p d handed
-    within p k (burst bytes area) t = no-burst-block p bytes area
-    within p k (keyboard bytes) t = no-key-block p bytes
-    within p k (cycle b) t = subst⁻¹ (All (Within ceiling)) (sounded p k b t) (block-within w s low high (dueOf (holdsOf p)) (holdsOf p .plays))
-
-    all-within : (cs : List Call) (n : ℕ) (z : Last) (p : Panel) → Kept p → All (WithinCeiling (settings ceiling chosen)) (traceFrom panel n z p cs)
-    unfolding traceFrom
-    all-within [] n z p k = tt
-    all-within (c ∷ cs) n z p k = ((λ t. within p k c t), all-within cs _ _ (afterOf p c .player) (step n z p k c .kept))
-
 -- ---- a fresh panel
 
 -- what a list of calls leaves by its history, the notes' values by place
@@ -520,8 +493,3 @@ block-by-place orchestra is ceiling chosen g cs lent t =
 
 pub by-place : (orchestra : List ℕ) (is : List Instrument) (ceiling chosen : ℕ) → Given orchestra is ceiling chosen → PlainAlike panel (treeVoices is) (settings ceiling chosen) (fresh orchestra ceiling chosen)
 by-place orchestra is ceiling chosen g = plain-alike panel (treeVoices is) (settings ceiling chosen) (fresh orchestra ceiling chosen) (follows-past orchestra is ceiling chosen g)
-
-pub ceiling-binds : CeilingBinds
-unfolding CeilingBinds
-ceiling-binds orchestra is ceiling chosen g cs =
-    all-within (loadOf orchestra .program) ceiling chosen is (stands orchestra is ceiling chosen g) (g .low) (g .high) cs 0 none (fresh orchestra ceiling chosen) (fresh-kept orchestra is ceiling chosen g)

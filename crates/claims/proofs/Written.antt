@@ -32,11 +32,11 @@ use Rattle.loader.specs.Loading.{loadOf}
 use Rattle.loader_claims.specs.Claims.{StandsFor}
 use Rattle.panel.specs.declared.Panel.{Panel}
 use Rattle.claims.specs.Verdict.{HasFields, here, there, Playable, Fits, AllFit, Faulty, untimed, unplayable, late, full, AtDoor, over, badText, cut, notCarried, outOfRange, tooManyValues, leftOver, faulty, taken}
-use Rattle.panel.specs.Calls.{bringOf, singly}
+use Rattle.panel.specs.Calls.{bringOf}
 use Rattle.claims.specs.Claims.{unitAnswer, afterOf, panel, Given, fresh, settings, past, LinesFit, CycleByTree, Condition3}
 use Rattle.claims.proofs.Ranged.{ranged, AllRanged, reads-ranged}
 use Rattle.claims.proofs.Past.{Kept, own, kept-all, stands, fresh-kept, past-is, block-by-place, by-place}
-use Rattle.claims.proofs.Bursts.{Receives, received, unreceived, receives, taken-of}
+use Rattle.claims.proofs.Bursts.{singly, Receives, received, unreceived, receives, taken-of}
 use Rattle.claims.proofs.Answers.{at-door-given, past-unit}
 use Rattle.claims.proofs.Decided.{at-door}
 

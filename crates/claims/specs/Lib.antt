@@ -1,3 +1,4 @@
 pub mod Verdict
 pub mod Fresh
 pub mod Claims
+pub mod Core

@@ -6,16 +6,15 @@ use Prim.Native.Nat.{ℕ, _≤_, _<_}
 use lib.Dec.{leb}
 use borrow.Author.Tests.{le-leb, lt-leb}
 use Rattle.answer.specs.Numbers.{isTaken}
-use Rattle.answer.specs.declared.Answer.the-variants.{OutOfRange, NoInstrument, Ended}
+use Rattle.answer.specs.declared.Answer.the-variants.{OutOfRange, NoInstrument}
 use Rattle.score.specs.Score.{Score}
 use Rattle.players.specs.Calls.{Door, mustBeTimed, reads}
 use Rattle.players.proofs.Lists.{cond-true, cond-false}
 use Rattle.doors.specs.Doors.{handedOf, scoreIn}
-use Rattle.entrances.specs.Entrances.{broughtIn}
 use Rattle.doors.specs.declared.Handed.{Handed}
 use Rattle.entrances.proofs.Pushing.{handed-timed, handed-brings}
-use Rattle.panel.specs.State.{tableOf, withState, withQueue, withMessages, startOf}
-use Rattle.panel.specs.Calls.{noPanel, hasChosen, freshOf, broughtOf, bringOf, playKeysOf}
+use Rattle.panel.specs.State.{tableOf, voicesOf, settingsIn, withState, startOf}
+use Rattle.panel.specs.Calls.{noPanel, hasChosen, freshOf, broughtOf, bringOf, receiveOf, playKeysOf, cycleOf}
 use Rattle.panel.specs.declared.Panel.{Panel}
 use Rattle.loader.specs.declared.Ready.{Ready}
 use Rattle.kept_orchestra.specs.declared.Program.{Program}
@@ -23,14 +22,12 @@ use Rattle.loader.specs.Loading.{loadOf as loadedFrom}
 use Rattle.panel.specs.declared.Fresh.{Fresh}
 use Rattle.entrances.specs.declared.Pushed.{Pushed}
 use Rattle.panel.specs.declared.Brought.{Brought}
-use Rattle.panel.specs.declared.Played.{Played}
+use Rattle.bursts.specs.inside.Reading.{burstOf}
 use Rattle.calls.specs.OnState as onState
-use Rattle.calls.specs.OnState.{pressedOf}
-use Rattle.calls.specs.declared.Brought.{Brought as OnState}
+use Rattle.calls.specs.OnState.{sentOf, pressedOf, cycledOf}
+use Rattle.calls.specs.declared.Brought.{Brought as BroughtIn}
+use Rattle.calls.specs.declared.Received.{Received as ReceivedIn}
 use Rattle.calls.specs.declared.Left.{Left}
-use Rattle.messages.specs.inside.Reading.{callOf}
-use Rattle.keyboard.specs.Keyboard.{pressedIn}
-use Rattle.keyboard.specs.declared.Pressed.{Pressed}
 
 module _ (orchestra : List ℕ) (ceiling chosen : ℕ) where
   pub fresh-low : ceiling < 1 → (q : Program) → q ≡ loadedFrom [] .program → (x : Fresh) → x ≡ noPanel q OutOfRange → x ≡ freshOf orchestra ceiling chosen
@@ -72,31 +69,26 @@ module _ (orchestra : List ℕ) (ceiling chosen : ℕ) (r : Ready) (er : r ≡ l
       fresh-taken b q f p e =
           ap (λ (x : Panel). record { panel = x; answer = r .answer }) e ∙ sym (taken-law ∙ cond-true _ _ (sym q ∙ f))
 
--- at the keyboard
-module _ (p : Panel) (bytes : List ℕ) where
-  pub keys-same : (r : Left) → r ≡ pressedOf (p .state) bytes → record { panel = withState p (r .state); answer = r .answer } ≡ playKeysOf p bytes
-  unfolding pressedOf playKeysOf withMessages
-  keys-same r e = ap (λ (x : Left). record { panel = withState p (x .state); answer = x .answer }) e ∙ either (p .state .playing .ended)
-    where
-      y : Pressed
-      y = pressedIn (p .state .messages) (callOf bytes)
+-- a call on the panel, from the call on its state
+module _ (p : Panel) where
+  pub brings-in : (timed : Bool) (s : Score) (r : BroughtIn) → r ≡ onState.broughtOf (tableOf (p .program)) (p .state) timed s
+      → record { panel = withState p (r .state); answer = r .answer; line = r .line } ≡ broughtOf p timed s
+  unfolding broughtOf
+  brings-in timed s r e = ap (λ (x : BroughtIn). record { panel = withState p (x .state); answer = x .answer; line = x .line }) e
 
-      after : Left
-      after = record { state = record { queue = p .state .queue; messages = y .messages; playing = p .state .playing }; answer = y .answer }
+  pub receives : (bytes : List ℕ) (places : ℕ) (r : ReceivedIn) → r ≡ sentOf (tableOf (p .program)) (p .state) places (burstOf bytes)
+      → record { panel = withState p (r .state); answer = r .answer; units = r .units } ≡ receiveOf p bytes places
+  unfolding receiveOf
+  receives bytes places r e = ap (λ (x : ReceivedIn). record { panel = withState p (x .state); answer = x .answer; units = x .units }) e
 
-      stays : Left
-      stays = record { state = p .state; answer = Ended }
+  pub presses : (bytes : List ℕ) (r : Left) → r ≡ pressedOf (p .state) bytes → record { panel = withState p (r .state); answer = r .answer } ≡ playKeysOf p bytes
+  unfolding playKeysOf
+  presses bytes r e = ap (λ (x : Left). record { panel = withState p (x .state); answer = x .answer }) e
 
-      either : (b : Bool) → _≡_ {A = Played} (record { panel = withState p (cond b stays after .state); answer = cond b stays after .answer })
-          (cond b (record { panel = p; answer = Ended }) (record { panel = withMessages p (y .messages); answer = y .answer }))
-      either true = refl
-      either false = refl
-
--- at a door
-pub brings-in : (p : Panel) (timed : Bool) (s : Score) (r : OnState) → r ≡ onState.broughtOf (tableOf (p .program)) (p .state) timed s
-    → record { panel = withState p (r .state); answer = r .answer; line = r .line } ≡ broughtOf p timed s
-unfolding broughtOf onState.broughtOf withQueue
-brings-in p timed s r e = ap (λ (x : OnState). record { panel = withState p (x .state); answer = x .answer; line = x .line }) e
+  pub cycles : (n : ℕ) (r : Left) → r ≡ cycledOf (voicesOf (p .program)) (settingsIn p) (p .state) n
+      → record { panel = withState p (r .state); answer = r .answer } ≡ cycleOf p n
+  unfolding cycleOf
+  cycles n r e = ap (λ (x : Left). record { panel = withState p (x .state); answer = x .answer }) e
 
 -- what is handed over at a door does what the whole reading does
 module _ (p : Panel) (d : Door) (handed : List ℕ) where
@@ -104,9 +96,9 @@ module _ (p : Panel) (d : Door) (handed : List ℕ) where
   given = handedOf (mustBeTimed d) (reads d handed)
 
   pub by-door : (h : Handed) → h ≡ given → (x : Brought) → x ≡ broughtOf p (h .timed) (scoreIn h) → x ≡ bringOf p d handed
-  unfolding bringOf broughtOf
+  unfolding bringOf broughtOf onState.broughtOf
   by-door h e x q =
       q ∙ ap (λ (y : Handed). broughtOf p (y .timed) (scoreIn y)) e
       ∙ ap (λ (t : Bool). broughtOf p t (scoreIn given)) (handed-timed (mustBeTimed d) (reads d handed))
-      ∙ ap (λ (r : Pushed). record { panel = withQueue p (r .queue); answer = r .answer; line = r .line })
+      ∙ ap (λ (r : Pushed). record { panel = withState p (onState.withQueue (p .state) (r .queue)); answer = r .answer; line = r .line })
       (handed-brings (p .state .playing .ended) (mustBeTimed d) (tableOf (p .program)) (p .state .queue) (reads d handed))

@@ -1,3 +1,1 @@
 pub mod Entering
-pub mod Receiving
-pub mod Cycling

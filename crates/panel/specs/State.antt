@@ -11,7 +11,7 @@ use Rattle.kept_voices.specs.Voices.{Held, voices}
 use Rattle.kept_orchestra.specs.declared.Instrument.{Instrument}
 use Rattle.cycle.specs.OneCycle as oneCycle
 use Rattle.cycle.specs.declared.State.{State}
-use Rattle.calls.specs.OnState.{startState}
+use Rattle.calls.specs.OnState as onState
 use Rattle.kept_orchestra.specs.declared.Program.{Program}
 use Rattle.panel.specs.declared.Panel.{Panel}
 
@@ -37,11 +37,11 @@ withState p s = record { state = s; ceiling = p .ceiling; chosen = p .chosen; pr
 
 -- the panel with other waiting lines
 unfoldable pub withQueue : Panel → Queue → Panel
-withQueue p q = withState p (record { queue = q; messages = p .state .messages; playing = p .state .playing })
+withQueue p q = withState p (onState.withQueue (p .state) q)
 
 -- the panel with other waiting note messages
 unfoldable pub withMessages : Panel → Messages → Panel
-withMessages p m = withState p (record { queue = p .state .queue; messages = m; playing = p .state .playing })
+withMessages p m = withState p (onState.withMessages (p .state) m)
 
 -- the panel marked as ended
 unfoldable pub endedOf : Panel → Panel
@@ -51,4 +51,4 @@ endedOf p = withState p (record { queue = p .state .queue; messages = p .state .
 
 -- the state of every start, at the starting tempo, beside what this one fixes
 unfoldable pub startOf : Program → ℕ → ℕ → Bool → Panel
-startOf program ceiling chosen ended = record { state = startState sixty ended; ceiling = ceiling; chosen = chosen; program = program }
+startOf program ceiling chosen ended = record { state = onState.startState sixty ended; ceiling = ceiling; chosen = chosen; program = program }

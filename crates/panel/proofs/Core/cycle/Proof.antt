@@ -1,13 +1,14 @@
 use borrow.Author.Needs.{needs}
 use Rattle.panel.specs.Core.{panelOf}
-use Rattle.panel.proofs.Cycling.{cycle-same, block-same}
+use Rattle.panel.specs.Calls.{blockAfter}
+use Rattle.panel.proofs.Entering.{cycles}
 use Rattle.panel.proofs.Core.cycle.Statement.{statement}
 use Rattle.panel.proofs.Core.cycle.Tie as tie
 
 pub cycle-spec : {M : Type 1} → statement M
 cycle-spec =
     tie.close (tie.spec (λ c κs. search needs) (λ c. search needs)
-    (λ c. let y = c .before .before in
+    (λ c. unfold blockAfter in let y = c .before .before in
     let a = y .before .before .before .before .before .before .before .args in
     let p = panelOf (a .self) (a .code .now) (a .vals .now) in
-    (cycle-same p _ _ (y .cycle .ensures .0), block-same p _ _ (y .cycle .ensures .1))))
+    (cycles p _ _ (y .cycle .ensures .0), y .cycle .ensures .1)))

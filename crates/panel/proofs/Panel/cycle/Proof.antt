@@ -1,9 +1,10 @@
 use borrow.Author.Needs.{needs}
-use Rattle.panel.proofs.Cycling.{cycle-same, block-same}
+use Rattle.panel.specs.Calls.{blockAfter}
+use Rattle.panel.proofs.Entering.{cycles}
 use Rattle.panel.proofs.Panel.cycle.Statement.{statement}
 use Rattle.panel.proofs.Panel.cycle.Tie as tie
 
 pub cycle-spec : {M : Type 1} → statement M
 cycle-spec =
     tie.close (tie.spec (λ c κs. search needs) (λ c. search needs)
-    (λ c. let e = c .before .before .cycle .ensures in (cycle-same _ _ _ (e .0), block-same _ _ _ (e .1))))
+    (λ c. unfold blockAfter in let e = c .before .before .cycle .ensures in (cycles _ _ _ (e .0), e .1)))
