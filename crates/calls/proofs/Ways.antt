@@ -28,8 +28,9 @@ use Rattle.keyboard.specs.declared.Messages.{Messages}
 use Rattle.keyboard.specs.declared.Pressed.{Pressed}
 use Rattle.kept_voices.specs.Voices.{Held, voices}
 use Rattle.kept_orchestra.specs.declared.Instrument.{Instrument}
+use Rattle.state.specs.States.{holdsOf}
+use Rattle.state.specs.declared.State.{State}
 use Rattle.cycle.specs.OneCycle as oneCycle
-use Rattle.cycle.specs.declared.State.{State}
 use Rattle.cycle.proofs.Stepping.{ended-law, has-stopped, has-played}
 use Rattle.cycle.proofs.Samples.{length-mix, whole-block}
 use Rattle.calls.specs.OnState.{emptyNote, startState, withQueue, withMessages, broughtOf, sentOf, pressedOf, cycledOf, blockLeft}
@@ -119,5 +120,5 @@ module _ (table : List Instrument) (code : List ℕ) (vals : List Float) (ceilin
       go true t = r ∙ cond-true _ _ (ended-law _ _ _ _ next is ∙ t) ∙ block-stays (ap isTaken (a ∙ cond-true _ _ t))
       go false t =
           r ∙ cond-false _ _ (ended-law _ _ _ _ next is ∙ t)
-          ∙ whole-block ceiling (bandOf v (settingsOf ceiling chosen) (dueOf (oneCycle.holdsOf s)) (oneCycle.holdsOf s .plays) .mix) lent (length-mix _ _ _ _ _ _ ∙ sym h)
+          ∙ whole-block ceiling (bandOf v (settingsOf ceiling chosen) (dueOf (holdsOf s)) (holdsOf s .plays) .mix) lent (length-mix _ _ _ _ _ _ ∙ sym h)
           ∙ sym (cond-true _ _ (ap (λ (y : Left). isTaken (y .answer)) (sym q) ∙ ap isTaken (a ∙ cond-false _ _ t)))

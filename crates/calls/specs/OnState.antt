@@ -23,8 +23,9 @@ use Rattle.keyboard.specs.Keyboard.{noMessages, pressedIn}
 use Rattle.keyboard.specs.declared.Messages.{Messages}
 use Rattle.kept_voices.specs.Voices.{Held}
 use Rattle.kept_orchestra.specs.declared.Instrument.{Instrument}
-use Rattle.cycle.specs.OneCycle.{holdsOf, endsNow, stopped, playedOf}
-use Rattle.cycle.specs.declared.State.{State}
+use Rattle.state.specs.States.{holdsOf, endsNow, stopped}
+use Rattle.state.specs.declared.State.{State}
+use Rattle.cycle.specs.OneCycle.{playedOf}
 use Rattle.calls.specs.declared.Brought.{Brought}
 use Rattle.calls.specs.declared.Received.{Received}
 use Rattle.calls.specs.declared.Left.{Left}

@@ -1,14 +1,14 @@
 // The work of every call, on the state that it changes and on lent code (documents 01 and 02).
 use answer::Answer;
-use cycle::Playing;
-use cycle::Settings;
-use cycle::State;
 use doors::Handed;
 use kept_orchestra::Instrument;
 use notes::NoteEnd;
 use notes::NoteLabel;
 use notes::NoteOrigin;
 use sounding::Notes;
+use state::State;
+use steps::Playing;
+use steps::Settings;
 use waiting::Queue;
 ghost use mathlib.Core.Path.{_≡_};
 ghost use mathlib.Core.Bool.{cond};
@@ -18,7 +18,7 @@ ghost use Rattle.bursts.specs.inside.Reading.{burstOf};
 ghost use Rattle.kept_voices.specs.Voices.{voices};
 ghost use Rattle.doors.specs.Doors.{scoreIn};
 ghost use Rattle.burst_entrance.specs.Singly.{areaIn};
-ghost use Rattle.cycle.specs.Steps.{settingsIn};
+ghost use Rattle.steps.specs.Steps.{settingsIn};
 ghost use Rattle.calls.specs.OnState.{startState, broughtOf, sentOf, pressedOf, cycledOf, blockLeft};
 
 // What a call at any door leaves; `line` is the number of the line that a refusal is about.

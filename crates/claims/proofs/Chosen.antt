@@ -10,7 +10,7 @@ use Rattle.syntax.specs.Names.{has, titleOf}
 use Rattle.players.specs.Lists.{Some, here, later}
 use Rattle.kept_orchestra.specs.declared.Program.{Program}
 use Rattle.loader_claims.specs.Claims.{StandsFor}
-use Rattle.panel.specs.Calls.{hasChosen}
+use Rattle.fresh_start.specs.Starting.{hasChosen}
 use Rattle.claims.proofs.Doors.{differ}
 
 named : (name : ℕ) {is : List Instrument} → Some (λ (i : Instrument). i .name ≡ name) is → has name (map titleOf is) ≡ true

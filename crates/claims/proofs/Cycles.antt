@@ -26,9 +26,10 @@ use Rattle.kept_voices.specs.Voices.{Held}
 use Rattle.sounding.specs.Notes.{notesIn}
 use Rattle.one_note.specs.OneNote.{noteOf, structOf}
 use Rattle.sounding.proofs.Steps.{length-each}
-use Rattle.cycle.specs.Steps.{playsOf, laidOver, advanced}
+use Rattle.steps.specs.Steps.{playsOf, laidOver, advanced}
+use Rattle.steps.specs.declared.Playing.{Playing}
+use Rattle.state.specs.States.{stopped, queueAfter}
 use Rattle.cycle.specs.OneCycle as oneCycle
-use Rattle.cycle.specs.declared.Playing.{Playing}
 use Rattle.calls.specs.OnState.{cycledOf, blockLeft}
 use Rattle.calls.specs.declared.Left.{Left}
 use Rattle.panel.specs.State.{voicesOf, holdsOf, settingsIn, withState, endedOf}
@@ -63,7 +64,7 @@ unfoldable pub playedOf : Panel → Panel
 playedOf p = withState p (oneCycle.playedOf (voicesOf (p .program)) (settingsIn p) (p .state))
 
 pub holds-ended : (p : Panel) → holdsOf (endedOf p) ≡ record { waits = holdsOf p .waits; messages = holdsOf p .messages; plays = marked (holdsOf p .plays) }
-unfolding endedOf oneCycle.stopped marked
+unfolding endedOf stopped marked
 holds-ended p = refl
 
 pub holds-played : (p : Panel) → holdsOf (playedOf p)
@@ -72,7 +73,7 @@ pub holds-played : (p : Panel) → holdsOf (playedOf p)
       messages = [];
       plays = capped (played (voicesOf (p .program)) (settingsIn p) (dueOf (holdsOf p)) (holdsOf p .plays));
     }
-unfolding playedOf oneCycle.playedOf oneCycle.queueAfter advanced
+unfolding playedOf oneCycle.playedOf queueAfter advanced
 holds-played p =
     let later = laterThan (holdsOf p .plays .position) (holdsOf p .waits) in
     λ i. record {
@@ -82,16 +83,16 @@ holds-played p =
     }
 
 pub reached-ended : (p : Panel) → reachedOf (endedOf p) ≡ reachedOf p
-unfolding endedOf oneCycle.stopped
+unfolding endedOf stopped
 reached-ended p = refl
 
 pub reached-played : (p : Panel) → reachedOf (playedOf p) ≡ at (holdsOf p .plays .position)
-unfolding playedOf oneCycle.playedOf oneCycle.queueAfter
+unfolding playedOf oneCycle.playedOf queueAfter
 reached-played p = refl
 
 -- a played panel still has its 64 places
 pub played-long : (p : Panel) → length (p .state .queue .lines) ≡ 64 → length (playedOf p .state .queue .lines) ≡ 64
-unfolding playedOf oneCycle.playedOf oneCycle.queueAfter laterThan
+unfolding playedOf oneCycle.playedOf queueAfter laterThan
 played-long p h =
     let k : Line → Bool = λ (l : Line). not (isDue (p .state .playing .position) l) in
     let w = waitingIn (p .state .queue) in

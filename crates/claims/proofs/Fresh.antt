@@ -38,12 +38,13 @@ use Rattle.keyboard.specs.Keyboard.{noMessages}
 use Rattle.calls.specs.OnState as onState
 use Rattle.calls.specs.OnState.{pressedOf, cycledOf, blockLeft}
 use Rattle.calls.specs.declared.Left.{Left}
-use Rattle.panel.specs.State.{startOf, holdsOf, withState}
-use Rattle.panel.specs.Calls.{hasChosen, freshOf, noPanel, broughtOf, bringOf, playKeysOf, cycleOf, blockAfter}
+use Rattle.panel.specs.State.{panelAt, holdsOf, withState}
+use Rattle.fresh_start.specs.Starting.{hasChosen, startOf, refusedStart, startingOf}
+use Rattle.fresh_start.specs.declared.Start.{Start}
+use Rattle.panel.specs.Calls.{freshOf, broughtOf, bringOf, playKeysOf, cycleOf, blockAfter}
 use Rattle.panel.specs.declared.Panel.{Panel}
-use Rattle.panel.specs.declared.Fresh.{Fresh}
 use Rattle.panel.specs.declared.Brought.{Brought}
-use Rattle.players.specs.Holds.{settingsOf}
+use Rattle.players.specs.Holds.{settingsOf, sixty}
 use Rattle.players.specs.Plain.{plainStart}
 use Rattle.players.specs.Calls.{unit, Call, bring, burst, keyboard, cycle, one, After, Last, none as none-yet, traceFrom}
 use Rattle.players.specs.History.{nowhere}
@@ -216,12 +217,12 @@ all-ended (c ∷ cs) k z p e = (
 -- ---- the two kinds of start
 
 -- what a fresh start gives, by its ceiling, by its orchestra's answer and by the choice
-out : List ℕ → ℕ → ℕ → Bool → Bool → Bool → Fresh
+out : List ℕ → ℕ → ℕ → Bool → Bool → Bool → Start
 out bs ceiling chosen law taken there =
     cond law
-    (cond taken (cond there (record { panel = startOf (loadOf bs .program) ceiling chosen false; answer = loadOf bs .answer }) (noPanel (loadOf bs .program) NoInstrument))
-    (noPanel (loadOf bs .program) (loadOf bs .answer)))
-    (noPanel (loadOf [] .program) OutOfRange)
+    (cond taken (cond there (startOf sixty (loadOf bs .program) ceiling chosen false (loadOf bs .answer)) (refusedStart sixty (loadOf bs .program) NoInstrument))
+    (refusedStart sixty (loadOf bs .program) (loadOf bs .answer)))
+    (refusedStart sixty (loadOf [] .program) OutOfRange)
 
 module _ (bs : List ℕ) (ceiling chosen : ℕ) (bytes : Bytes bs) where
   module _ (l : leb 1 ceiling ≡ true) (h : leb ceiling 32767 ≡ true) where
@@ -251,7 +252,7 @@ module _ (bs : List ℕ) (ceiling chosen : ℕ) (bytes : Bytes bs) where
 
   number-is : (a b t c : Bool) → leb 1 ceiling ≡ a → leb ceiling 32767 ≡ b → isTaken (loadOf bs .answer) ≡ t → hasChosen (loadOf bs .program) chosen ≡ c
       → First (checks bs ceiling chosen) (numberOf (out bs ceiling chosen (a && b) t c .answer))
-  unfolding out noPanel
+  unfolding out startOf
   number-is true true true true l h q r = taken-first l h q r
   number-is true true true false l h q r = absent-first l h q r
   number-is true true false c l h q r = refused-first l h q
@@ -259,19 +260,22 @@ module _ (bs : List ℕ) (ceiling chosen : ℕ) (bytes : Bytes bs) where
   number-is false b t c l h q r = fails (λ (x : (1 ≤ ceiling) × (ceiling ≤ 32767)). differ (sym (le-leb 1 ceiling (x .0)) ∙ l))
 
   number : First (checks bs ceiling chosen) (numberOf (freshOf bs ceiling chosen .answer))
-  unfolding freshOf out
+  unfolding freshOf startingOf out
   number = number-is (leb 1 ceiling) (leb ceiling 32767) (isTaken (loadOf bs .answer)) (hasChosen (loadOf bs .program) chosen) refl refl refl refl
 
   -- the panel where it is 0
-  start-holds : holdsOf (startOf (loadOf bs .program) ceiling chosen false) ≡ plainStart (settingsOf ceiling chosen) []
+  abbrev begin : Panel
+  begin = panelAt (startOf sixty (loadOf bs .program) ceiling chosen false (loadOf bs .answer))
+
+  start-holds : holdsOf begin ≡ plainStart (settingsOf ceiling chosen) []
   unfolding startOf plainStart each noMessages
   start-holds = refl
 
-  start-reached : reachedOf (startOf (loadOf bs .program) ceiling chosen false) ≡ nowhere
+  start-reached : reachedOf begin ≡ nowhere
   unfolding startOf
   start-reached = refl
 
-  begun-is : loadOf bs .answer ≡ Taken → hasChosen (loadOf bs .program) chosen ≡ true → Begun bs ceiling chosen (startOf (loadOf bs .program) ceiling chosen false)
+  begun-is : loadOf bs .answer ≡ Taken → hasChosen (loadOf bs .program) chosen ≡ true → Begun bs ceiling chosen begin
   unfolding startOf
   begun-is e c =
       let x = taken-only bs bytes e in
@@ -287,22 +291,22 @@ module _ (bs : List ℕ) (ceiling chosen : ℕ) (bytes : Bytes bs) where
         reached = start-reached;
       }
 
-  Kinds : Fresh → Type 0
-  Kinds f = (f .answer ≡ Taken → Begun bs ceiling chosen (f .panel)) × ((f .answer ≡ Taken → ⊥) → f .panel .state .playing .ended ≡ true)
+  Kinds : Start → Type 0
+  Kinds s = (s .answer ≡ Taken → Begun bs ceiling chosen (panelAt s)) × ((s .answer ≡ Taken → ⊥) → s .state .playing .ended ≡ true)
 
   kinds-is : (a t c : Bool) → isTaken (loadOf bs .answer) ≡ t → hasChosen (loadOf bs .program) chosen ≡ c → Kinds (out bs ceiling chosen a t c)
-  unfolding out noPanel Kinds startOf
+  unfolding out Kinds startOf
   kinds-is true true true e r = ((λ q. begun-is q r), λ n. absurd (n (taken-is (loadOf bs .answer) e)))
   kinds-is true true false e r = ((λ q. absurd (differ (sym (ap isTaken q)))), λ n. refl)
   kinds-is true false c e r = ((λ q. absurd (differ (sym (ap isTaken q) ∙ e))), λ n. refl)
   kinds-is false t c e r = ((λ q. absurd (differ (sym (ap isTaken q)))), λ n. refl)
 
-  kinds : Kinds (freshOf bs ceiling chosen)
-  unfolding freshOf out
+  kinds : Kinds (startingOf sixty bs ceiling chosen)
+  unfolding startingOf out
   kinds = kinds-is (leb 1 ceiling && leb ceiling 32767) (isTaken (loadOf bs .answer)) (hasChosen (loadOf bs .program) chosen) refl refl
 
 pub fresh-verdict : FreshVerdict
-unfolding Kinds
+unfolding Kinds freshOf
 fresh-verdict bs ceiling chosen bytes =
     record {
       given = number bs ceiling chosen bytes;

@@ -17,7 +17,7 @@ use Rattle.voices.proofs.Alike.{Alike, Notes, block-same, played-same, played-g
 use Rattle.kept_voices.specs.Voices.{Held}
 use Rattle.players.specs.Lists.{each, All}
 use Rattle.players.specs.Cycle.{Voices, positionLimit}
-use Rattle.players.specs.Holds.{Settings, Due, settingsOf, Holds, behind, withMessages, laterThan, dueOf, endsBy, marked, answerOf, blockOf, played, cycled}
+use Rattle.players.specs.Holds.{Settings, Due, settingsOf, sixty, Holds, behind, withMessages, laterThan, dueOf, endsBy, marked, answerOf, blockOf, played, cycled}
 use Rattle.players.specs.inside.Holds.{capped}
 use Rattle.players.specs.Plain.{plainStart}
 use Rattle.players.specs.Calls.{Door, unit, reads, Call, bring, burst, keyboard, cycle, wholeMessages, messagesIn, Answer, one, After, numbered, linesOf, takenOf, isZero, Last, none, cyclesWith, lastWith, momentOf, traceFrom, trace, afterAll}
@@ -32,17 +32,19 @@ use Rattle.messages.specs.inside.Reading.{blank, callOf}
 use Rattle.messages.specs.declared.Message.{Message}
 use Rattle.keyboard.specs.Keyboard.{noMessages, mostMessages, messagesIn as waitingMessages, behind as behindMessages}
 use Rattle.doors.specs.Doors.{emptyLine}
+use Rattle.state.specs.States.{stopped}
 use Rattle.cycle.specs.OneCycle as oneCycle
 use Rattle.kept_orchestra.specs.declared.Program.{Program}
 use Rattle.loader.specs.Loading.{loadOf}
 use Rattle.loader_claims.specs.Claims.{StandsFor}
 use Rattle.loader_claims.proofs.Loaded.{loaded}
-use Rattle.panel.specs.State.{tableOf, voicesOf, holdsOf, settingsIn, startOf, withQueue, withMessages as panelWith, endedOf}
+use Rattle.panel.specs.State.{tableOf, voicesOf, holdsOf, settingsIn, panelAt, withQueue, withMessages as panelWith, endedOf}
 use Rattle.bursts.specs.Bursts.{Burst, unitsIn}
 use Rattle.bursts.specs.inside.Reading.{burstOf}
 use Rattle.panel.specs.Calls.{freshOf}
+use Rattle.fresh_start.specs.Starting.{startOf, startingOf}
+use Rattle.fresh_start.specs.declared.Start.{Start}
 use Rattle.panel.specs.declared.Panel.{Panel}
-use Rattle.panel.specs.declared.Fresh.{Fresh}
 use Rattle.claims.specs.Claims.{unitAnswer, afterOf, panel, reachedOf, Given, fresh, settings, panelAfter}
 use Rattle.claims.proofs.Ranged.{ranged, ranged-steady, reads-ranged}
 use Rattle.claims.proofs.Doors.{differ, differ′, Behind, Brings, takes, refuses, brings}
@@ -268,7 +270,7 @@ module _ (program : Program) (ceiling chosen : ℕ) (is : List Instrument) (r : 
     own-ended = λ i. record { holds = holds-ended p i; reached = reached-ended p i }
 
     kept-ended : Kept (endedOf p)
-    unfolding endedOf oneCycle.stopped
+    unfolding endedOf stopped
     kept-ended = record { has = k .has; locked = k .locked; choice = k .choice; long = k .long; listed = k .listed; slow = record { few = k .slow .few; lines = k .slow .lines; tempo = k .slow .tempo }; good = k .good }
 
   -- ---- one call
@@ -438,19 +440,23 @@ module _ (orchestra : List ℕ) (is : List Instrument) (ceiling chosen : ℕ) (g
   pub stands : StandsFor is program
   stands = loaded orchestra is (g .accepted) .stands
 
-  fresh-is : fresh orchestra ceiling chosen ≡ startOf program ceiling chosen false
-  unfolding freshOf
+  -- what it starts with
+  abbrev begin : Panel
+  begin = panelAt (startOf sixty program ceiling chosen false (loadOf orchestra .answer))
+
+  fresh-is : fresh orchestra ceiling chosen ≡ begin
+  unfolding freshOf startingOf
   fresh-is =
-      ap (λ (x : Fresh). x .panel)
+      ap panelAt
       (cond-true _ _ (ap (λ (t : Bool). t && leb ceiling 32767) (le-leb 1 ceiling (g .low)) ∙ le-leb ceiling 32767 (g .high))
       ∙ cond-true _ _ (ap isTaken (loaded orchestra is (g .accepted) .taken))
       ∙ cond-true _ _ (chosen-there is program stands chosen (g .there)))
 
-  start-own : own (startOf program ceiling chosen false) ≡ unbegun (settingsOf ceiling chosen)
+  start-own : own begin ≡ unbegun (settingsOf ceiling chosen)
   unfolding startOf plainStart each noMessages
   start-own = refl
 
-  start-kept : Kept program ceiling chosen is stands (startOf program ceiling chosen false)
+  start-kept : Kept program ceiling chosen is stands begin
   unfolding startOf each noMessages
   start-kept =
       record {

@@ -1,4 +1,3 @@
-pub mod Steps
 pub mod Stepping
 pub mod Samples
 pub mod Resting

@@ -1,17 +1,15 @@
--- Step 1 and the two ways through a cycle.
+-- The two ways through a cycle.
 use mathlib.Core.Path.{_≡_, refl, sym, ap, _∙_}
-use mathlib.Core.Bool.{Bool, true, false, not, cond, _||_}
+use mathlib.Core.Bool.{Bool, true, false, cond, _||_}
 use mathlib.Core.List.{List}
-use Prim.Native.Nat.{ℕ, _≤_, _<_}
+use Prim.Native.Nat.{ℕ}
 use lib.IntN.{ℤ}
-use lib.ListN.{length}
 use lib.Dec.{ltb}
-use borrow.Author.Tests.{ltb-false, lt-ltb, le-ltb}
 use Rattle.limiter.specs.Block as block
 use Rattle.score_line.specs.declared.Line.{Line}
-use Rattle.players.specs.Lists.{keep, over}
+use Rattle.players.specs.Lists.{keep}
 use Rattle.players.specs.Cycle.{Voices, positionLimit, isDue, ordered, anyEnd}
-use Rattle.players.specs.Holds.{Due, settingsOf, dueAt, laterThan, dueOf, endsBy, bandOf, played}
+use Rattle.players.specs.Holds.{Due, settingsOf, dueAt, dueOf, endsBy, bandOf, played}
 use Rattle.players.specs.inside.Holds.{capped}
 use Rattle.players.proofs.Lists.{cond-true, cond-false}
 use Rattle.waiting.specs.Admission.{waitingIn}
@@ -19,26 +17,11 @@ use Rattle.waiting.specs.declared.Queue.{Queue}
 use Rattle.keyboard.specs.Keyboard.{messagesIn}
 use Rattle.keyboard.specs.declared.Messages.{Messages}
 use Rattle.kept_voices.specs.Voices.{Held}
-use Rattle.cycle.specs.Steps.{playsOf, advanced}
-use Rattle.cycle.specs.OneCycle.{holdsOf, endsNow, stopped, queueAfter, usedOf, playedOf, stateAfter, blockAfter}
-use Rattle.cycle.specs.declared.Playing.{Playing}
-use Rattle.cycle.specs.declared.State.{State}
-
--- ---- step 1
-
-pub over-far : (position : ℕ) (due : List Line) → 1000000000000 < position → true ≡ (ltb positionLimit position || anyEnd due)
-over-far position due h = ap (λ (t : Bool). t || anyEnd due) (sym (lt-ltb positionLimit position h))
-
-pub over-near : (position : ℕ) (due : List Line) → position ≤ positionLimit → (b : Bool) → b ≡ anyEnd due → b ≡ (ltb positionLimit position || anyEnd due)
-over-near position due h b e = e ∙ ap (λ (t : Bool). t || anyEnd due) (sym (le-ltb positionLimit position h))
-
--- what is not over is at or before the limit
-neither : (a b : Bool) → (a || b) ≡ false → a ≡ false
-neither true b h = h
-neither false b h = refl
-
-pub near-law : (position : ℕ) (b : Bool) → (ltb positionLimit position || b) ≡ false → position ≤ positionLimit
-near-law position b h = ltb-false positionLimit position (neither (ltb positionLimit position) b h)
+use Rattle.steps.specs.Steps.{playsOf, advanced}
+use Rattle.steps.specs.declared.Playing.{Playing}
+use Rattle.state.specs.States.{holdsOf, endsNow, stopped, queueAfter, usedOf}
+use Rattle.state.specs.declared.State.{State}
+use Rattle.cycle.specs.OneCycle.{playedOf, stateAfter, blockAfter}
 
 module _ (v : Voices Held) (ceiling chosen : ℕ) (s : State) (due : List Line) (is : due ≡ ordered (keep (isDue (s .playing .position)) (waitingIn (s .queue))))
     (b : Bool) (q : b ≡ (ltb positionLimit (s .playing .position) || anyEnd due)) where
@@ -73,14 +56,6 @@ module _ (v : Voices Held) (ceiling chosen : ℕ) (s : State) (due : List Line) 
     block-plays t left e =
         e ∙ ap (λ (d : Due). block.limited ceiling (bandOf v (settingsOf ceiling chosen) d (playsOf (s .playing)) .mix) lent) due-law
         ∙ sym (cond-false _ _ (sym ends-law ∙ t))
-
--- ---- what waits
-
-pub keep-law : (position : ℕ) (q : Queue) (kl : List Line) (kc : ℕ)
-    → kc ≡ length (keep (λ (l : Line). not (isDue position l)) (waitingIn q)) → kl ≡ over (keep (λ (l : Line). not (isDue position l)) (waitingIn q)) (q .lines)
-    → record { lines = kl; count = kc; ran = true; last = position } ≡ queueAfter position q
-unfolding queueAfter laterThan
-keep-law position q kl kc e f = λ i. record { lines = f i; count = e i; ran = true; last = position }
 
 -- ---- for callers: the mark of the end tells which way it went
 

@@ -1,24 +1,19 @@
--- One law for each way through the fresh start and the entrances.
-use mathlib.Core.Path.{_≡_, refl, sym, ap, _∙_}
-use mathlib.Core.Bool.{Bool, true, false, _&&_, cond}
-use mathlib.Core.List.{List, []}
-use Prim.Native.Nat.{ℕ, _≤_, _<_}
-use lib.Dec.{leb}
-use borrow.Author.Tests.{le-leb, lt-leb}
-use Rattle.answer.specs.Numbers.{isTaken}
-use Rattle.answer.specs.declared.Answer.the-variants.{OutOfRange, NoInstrument}
+-- One law for each call.
+use mathlib.Core.Path.{_≡_, ap, _∙_}
+use mathlib.Core.Bool.{Bool}
+use mathlib.Core.List.{List}
+use Prim.Native.Nat.{ℕ}
 use Rattle.score.specs.Score.{Score}
+use Rattle.players.specs.Holds.{sixty}
 use Rattle.players.specs.Calls.{Door, mustBeTimed, reads}
-use Rattle.players.proofs.Lists.{cond-true, cond-false}
+use Rattle.fresh_start.specs.Starting.{startingOf}
+use Rattle.fresh_start.specs.declared.Start.{Start}
 use Rattle.doors.specs.Doors.{handedOf, scoreIn}
 use Rattle.doors.specs.declared.Handed.{Handed}
 use Rattle.entrances.proofs.Pushing.{handed-timed, handed-brings}
-use Rattle.panel.specs.State.{tableOf, voicesOf, settingsIn, withState, startOf}
-use Rattle.panel.specs.Calls.{noPanel, hasChosen, freshOf, broughtOf, bringOf, receiveOf, playKeysOf, cycleOf}
+use Rattle.panel.specs.State.{tableOf, voicesOf, settingsIn, withState, panelAt}
+use Rattle.panel.specs.Calls.{freshOf, broughtOf, bringOf, receiveOf, playKeysOf, cycleOf}
 use Rattle.panel.specs.declared.Panel.{Panel}
-use Rattle.loader.specs.declared.Ready.{Ready}
-use Rattle.kept_orchestra.specs.declared.Program.{Program}
-use Rattle.loader.specs.Loading.{loadOf as loadedFrom}
 use Rattle.panel.specs.declared.Fresh.{Fresh}
 use Rattle.entrances.specs.declared.Pushed.{Pushed}
 use Rattle.panel.specs.declared.Brought.{Brought}
@@ -29,45 +24,11 @@ use Rattle.calls.specs.declared.Brought.{Brought as BroughtIn}
 use Rattle.calls.specs.declared.Received.{Received as ReceivedIn}
 use Rattle.calls.specs.declared.Left.{Left}
 
-module _ (orchestra : List ℕ) (ceiling chosen : ℕ) where
-  pub fresh-low : ceiling < 1 → (q : Program) → q ≡ loadedFrom [] .program → (x : Fresh) → x ≡ noPanel q OutOfRange → x ≡ freshOf orchestra ceiling chosen
-  unfolding freshOf
-  fresh-low h q eq x e =
-      e ∙ ap (λ (y : Program). noPanel y OutOfRange) eq
-      ∙ sym (cond-false _ _ (ap (λ (t : Bool). t && leb ceiling 32767) (lt-leb 1 ceiling h)))
-
-  pub fresh-high : 1 ≤ ceiling → 32767 < ceiling → (q : Program) → q ≡ loadedFrom [] .program → (x : Fresh) → x ≡ noPanel q OutOfRange → x ≡ freshOf orchestra ceiling chosen
-  unfolding freshOf
-  fresh-high g h q eq x e =
-      e ∙ ap (λ (y : Program). noPanel y OutOfRange) eq
-      ∙ sym (cond-false _ _ (ap (λ (t : Bool). t && leb ceiling 32767) (le-leb 1 ceiling g) ∙ lt-leb ceiling 32767 h))
-
-module _ (orchestra : List ℕ) (ceiling chosen : ℕ) (r : Ready) (er : r ≡ loadedFrom orchestra) where
-  module _ (g : 1 ≤ ceiling) (h : ceiling ≤ 32767) where
-    in-range : (leb 1 ceiling && leb ceiling 32767) ≡ true
-    in-range = ap (λ (t : Bool). t && leb ceiling 32767) (le-leb 1 ceiling g) ∙ le-leb ceiling 32767 h
-
-    pub fresh-refused : isTaken (r .answer) ≡ false → (x : Fresh) → x ≡ noPanel (r .program) (r .answer) → x ≡ freshOf orchestra ceiling chosen
-    unfolding freshOf
-    fresh-refused t x e =
-        e ∙ ap (λ (y : Ready). noPanel (y .program) (y .answer)) er
-        ∙ sym (cond-true _ _ in-range ∙ cond-false _ _ (ap (λ (y : Ready). isTaken (y .answer)) (sym er) ∙ t))
-
-    module _ (t : isTaken (r .answer) ≡ true) where
-      taken-law : freshOf orchestra ceiling chosen
-          ≡ cond (hasChosen (r .program) chosen) (record { panel = startOf (r .program) ceiling chosen false; answer = r .answer }) (noPanel (r .program) NoInstrument)
-      unfolding freshOf
-      taken-law =
-          cond-true _ _ in-range ∙ cond-true _ _ (ap (λ (y : Ready). isTaken (y .answer)) (sym er) ∙ t)
-          ∙ ap (λ (y : Ready). cond {A = Fresh} (hasChosen (y .program) chosen) (record { panel = startOf (y .program) ceiling chosen false; answer = y .answer }) (noPanel (y .program) NoInstrument)) (sym er)
-
-      pub fresh-without : (b : Bool) → b ≡ hasChosen (r .program) chosen → b ≡ false → (x : Fresh) → x ≡ noPanel (r .program) NoInstrument → x ≡ freshOf orchestra ceiling chosen
-      fresh-without b q f x e = e ∙ sym (taken-law ∙ cond-false _ _ (sym q ∙ f))
-
-      pub fresh-taken : (b : Bool) → b ≡ hasChosen (r .program) chosen → b ≡ true → (p : Panel) → p ≡ startOf (r .program) ceiling chosen false
-          → record { panel = p; answer = r .answer } ≡ freshOf orchestra ceiling chosen
-      fresh-taken b q f p e =
-          ap (λ (x : Panel). record { panel = x; answer = r .answer }) e ∙ sym (taken-law ∙ cond-true _ _ (sym q ∙ f))
+-- a fresh start, from what it starts with
+pub starts : (orchestra : List ℕ) (ceiling chosen : ℕ) (s : Start) → s ≡ startingOf sixty orchestra ceiling chosen
+    → record { panel = panelAt s; answer = s .answer } ≡ freshOf orchestra ceiling chosen
+unfolding freshOf
+starts orchestra ceiling chosen s e = ap (λ (x : Start). record { panel = panelAt x; answer = x .answer }) e
 
 -- a call on the panel, from the call on its state
 module _ (p : Panel) where

@@ -1,47 +1,29 @@
 -- What each call of the panel gives, for every panel and every input.
-use mathlib.Core.Bool.{Bool, true, false, cond, _&&_}
-use mathlib.Core.List.{List, []}
+use mathlib.Core.Bool.{Bool}
+use mathlib.Core.List.{List}
 use Prim.Native.Nat.{ℕ}
 use lib.IntN.{ℤ}
-use lib.Dec.{leb}
-use Rattle.answer.specs.Numbers.{isTaken}
-use Rattle.answer.specs.declared.Answer.{Answer}
-use Rattle.answer.specs.declared.Answer.the-variants.{OutOfRange, NoInstrument}
 use Rattle.score.specs.Score.{Score}
 use Rattle.bursts.specs.inside.Reading.{burstOf}
+use Rattle.players.specs.Holds.{sixty}
 use Rattle.players.specs.Calls.{Door, mustBeTimed, reads}
 use Rattle.burst_entrance.specs.Singly.{areaIn}
 use Rattle.calls.specs.OnState as onState
 use Rattle.calls.specs.OnState.{sentOf, pressedOf, cycledOf, blockLeft}
-use Rattle.kept_orchestra.specs.Kept.{foundIn}
-use Rattle.panel.specs.State.{tableOf, voicesOf, settingsIn, withState, startOf}
+use Rattle.panel.specs.State.{tableOf, voicesOf, settingsIn, withState, panelAt}
 use Rattle.panel.specs.declared.Panel.{Panel}
-use Rattle.kept_orchestra.specs.declared.Program.{Program}
-use Rattle.loader.specs.Loading.{loadOf as loadedFrom}
+use Rattle.fresh_start.specs.Starting.{startingOf}
 use Rattle.panel.specs.declared.Fresh.{Fresh}
 use Rattle.panel.specs.declared.Brought.{Brought}
 use Rattle.panel.specs.declared.Received.{Received}
 use Rattle.panel.specs.declared.Played.{Played}
 use Rattle.panel.specs.declared.Cycled.{Cycled}
 
--- a refused start: the answer beside a panel that has ended
-unfoldable pub noPanel : Program → Answer → Fresh
-noPanel program a = record { panel = startOf program 1 0 true; answer = a }
-
--- the chosen instrument is there
-unfoldable pub hasChosen : Program → ℕ → Bool
-hasChosen program chosen = foundIn chosen (tableOf program) .there
-
--- the ceiling is from 1 to 32,767, another gives 3 before the orchestra is looked at; then the orchestra's answer; then 4 where the chosen
--- instrument is not there
+-- a fresh start, at tempo 60
 unfoldable pub freshOf : List ℕ → ℕ → ℕ → Fresh
 freshOf orchestra ceiling chosen =
-    let r = loadedFrom orchestra in
-    cond (leb 1 ceiling && leb ceiling 32767)
-    (cond (isTaken (r .answer))
-    (cond (hasChosen (r .program) chosen) (record { panel = startOf (r .program) ceiling chosen false; answer = r .answer }) (noPanel (r .program) NoInstrument))
-    (noPanel (r .program) (r .answer)))
-    (noPanel (loadedFrom [] .program) OutOfRange)
+    let s = startingOf sixty orchestra ceiling chosen in
+    record { panel = panelAt s; answer = s .answer }
 
 -- ---- a call on a panel is the call on its state: nothing else of the panel changes
 

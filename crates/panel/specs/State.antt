@@ -1,18 +1,18 @@
 -- The panel's value: its state, and its program's voices.
-use mathlib.Core.Bool.{Bool}
 use mathlib.Core.List.{List}
 use Prim.Native.Nat.{ℕ}
 use lib.ListN.{take}
 use Rattle.waiting.specs.declared.Queue.{Queue}
 use Rattle.players.specs.Cycle.{Voices}
-use Rattle.players.specs.Holds.{Settings, settingsOf, Holds, sixty}
+use Rattle.players.specs.Holds.{Settings, settingsOf, Holds}
 use Rattle.keyboard.specs.declared.Messages.{Messages}
 use Rattle.kept_voices.specs.Voices.{Held, voices}
 use Rattle.kept_orchestra.specs.declared.Instrument.{Instrument}
-use Rattle.cycle.specs.OneCycle as oneCycle
-use Rattle.cycle.specs.declared.State.{State}
+use Rattle.state.specs.States as states
+use Rattle.state.specs.declared.State.{State}
 use Rattle.calls.specs.OnState as onState
 use Rattle.kept_orchestra.specs.declared.Program.{Program}
+use Rattle.fresh_start.specs.declared.Start.{Start}
 use Rattle.panel.specs.declared.Panel.{Panel}
 
 -- the instruments of the accepted orchestra
@@ -25,7 +25,7 @@ voicesOf g = voices (tableOf g) (g .code) (g .vals)
 
 -- what waits and what plays
 abbrev pub holdsOf : Panel → Holds Held
-holdsOf p = oneCycle.holdsOf (p .state)
+holdsOf p = states.holdsOf (p .state)
 
 -- what its fresh start fixed
 abbrev pub settingsIn : Panel → Settings
@@ -45,10 +45,8 @@ withMessages p m = withState p (onState.withMessages (p .state) m)
 
 -- the panel marked as ended
 unfoldable pub endedOf : Panel → Panel
-endedOf p = withState p (record { queue = p .state .queue; messages = p .state .messages; playing = oneCycle.stopped (p .state .playing) })
+endedOf p = withState p (record { queue = p .state .queue; messages = p .state .messages; playing = states.stopped (p .state .playing) })
 
--- ---- a fresh start
-
--- the state of every start, at the starting tempo, beside what this one fixes
-unfoldable pub startOf : Program → ℕ → ℕ → Bool → Panel
-startOf program ceiling chosen ended = record { state = onState.startState sixty ended; ceiling = ceiling; chosen = chosen; program = program }
+-- the panel that a fresh start gives
+abbrev pub panelAt : Start → Panel
+panelAt s = record { state = s .state; ceiling = s .ceiling; chosen = s .chosen; program = s .program }

@@ -1,21 +1,18 @@
 // The panel: its state by value, the fresh start, the entrances and the cycle (documents 01 and 02).
 use answer::Answer;
-use cycle::Settings;
-use cycle::State;
 use doors::Handed;
 use kept_orchestra::Instrument;
 use kept_orchestra::Program;
 use operations::CODE;
 use operations::PROGRAM;
+use state::State;
+use steps::Settings;
 ghost use mathlib.Core.Path.{_≡_};
-ghost use mathlib.Core.List.{[]};
 ghost use lib.ListN.{length};
-ghost use Rattle.panel.specs.State.{startOf};
-ghost use Rattle.loader.specs.Loading.{loadOf as loadedFrom};
 ghost use Rattle.players.specs.Calls.{stick, unit, keypad, text};
 ghost use Rattle.doors.specs.Doors.{scoreIn};
 ghost use Rattle.panel.specs.Core.{panelOf, BroughtAs, ReceivedAs, AreaAs, PlayedAs, cycledWith};
-ghost use Rattle.panel.specs.Calls.{noPanel, hasChosen, freshOf, broughtOf, bringOf, receiveOf, areaAfter, playKeysOf, cycleOf, blockAfter};
+ghost use Rattle.panel.specs.Calls.{freshOf, broughtOf, bringOf, receiveOf, areaAfter, playKeysOf, cycleOf, blockAfter};
 
 // What the calls change, beside what a fresh start fixes.
 pub struct Panel {
@@ -214,46 +211,6 @@ fn bring(mut p: Panel, h: Handed) -> Brought
     }
 }
 
-// A panel at its start.
-fn start(program: Program, ceiling: u16, chosen: u16, ended: bool) -> Panel
-    ensures { λ r. ⌜ r ≡ startOf program ceiling chosen ended ⌝ }
-{
-    Panel {
-        state: calls::start(Panel::STARTING_TEMPO, ended),
-        ceiling: ceiling,
-        chosen: chosen,
-        program: program,
-    }
-}
-
-// The program of no orchestra, for a panel whose orchestra is not looked at.
-fn unread() -> Program
-    ensures { λ r. ⌜ r ≡ loadedFrom [] .program ⌝ }
-{
-    let none = [0u8; 1];
-    let read = loader::load(&none[..0]);
-    read.program
-}
-
-// A refused start hands back a panel that has ended: every call on it answers 9.
-fn no_panel(program: Program, answer: Answer) -> Fresh
-    ensures { λ r. ⌜ r ≡ noPanel program answer ⌝ }
-{
-    Fresh {
-        panel: start(program, 1, 0, true),
-        answer: answer,
-    }
-}
-
-// Whether a program has the chosen instrument.
-fn has_chosen(program: Program, chosen: u16) -> bool
-    ensures { λ r. ⌜ r ≡ hasChosen program chosen ⌝ }
-{
-    let table = program.table;
-    let f = kept_orchestra::find(table, program.count, chosen);
-    f.there
-}
-
 impl Panel {
     pub const STARTING_TEMPO: f32 = 60.0;
 
@@ -262,23 +219,17 @@ impl Panel {
     pub fn fresh(orchestra: &[u8], ceiling: u32, chosen: u16) -> Fresh
         ensures { λ r. ⌜ r ≡ freshOf (now (orchestra .entry)) ceiling chosen ⌝ }
     {
-        if ceiling < 1 {
-            return no_panel(unread(), Answer::OutOfRange);
-        }
-        if 32767 < ceiling {
-            return no_panel(unread(), Answer::OutOfRange);
-        }
-        let read = loader::load(orchestra);
-        let program = read.program;
-        let answer = read.answer;
-        if !answer::is_taken(answer) {
-            return no_panel(program, answer);
-        }
-        if !has_chosen(program, chosen) {
-            return no_panel(program, Answer::NoInstrument);
-        }
+        let s = fresh_start::starting(Panel::STARTING_TEMPO, orchestra, ceiling, chosen);
+        let state = s.state;
+        let program = s.program;
+        let answer = s.answer;
         Fresh {
-            panel: start(program, ceiling as u16, chosen, false),
+            panel: Panel {
+                state: state,
+                ceiling: s.ceiling,
+                chosen: s.chosen,
+                program: program,
+            },
             answer: answer,
         }
     }

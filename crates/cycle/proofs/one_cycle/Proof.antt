@@ -2,9 +2,10 @@ use mathlib.Core.Path.{_≡_, sym, _∙_}
 use lib.ListN.{length, length-map}
 use borrow.Author.Needs.{needs}
 use Rattle.players.proofs.Loops.{take-over}
-use Rattle.cycle.specs.OneCycle.{stopped}
-use Rattle.cycle.proofs.Stepping.{near-law, cycle-stops, cycle-plays, block-stays, block-plays}
-use Rattle.cycle.proofs.Resting.{rest-near, rest-law, rest-block}
+use Rattle.state.specs.States.{stopped}
+use Rattle.state.proofs.Ways.{near-law, rest-near}
+use Rattle.cycle.proofs.Stepping.{cycle-stops, cycle-plays, block-stays, block-plays}
+use Rattle.cycle.proofs.Resting.{rest-law, rest-block}
 use Rattle.cycle.proofs.one_cycle.Statement.{statement}
 use Rattle.cycle.proofs.one_cycle.Tie as tie
 

@@ -1,0 +1,32 @@
+// The sounding notes heard: run into one mix, which is limited into a block (document 01, steps 5 and 6).
+use kept_orchestra::Instrument;
+use sounding::Notes;
+ghost use mathlib.Core.Path.{_≡_};
+ghost use lib.ListN.{take};
+ghost use Rattle.limiter.specs.Block.{limited};
+ghost use Rattle.players.specs.Cycle.{runAll};
+ghost use Rattle.kept_voices.specs.Voices.{voices};
+ghost use Rattle.sounding.specs.Notes.{notesIn};
+
+// Steps 5 and 6: the notes run into one mix, which is limited into the block.
+pub fn sound<'a>(
+    table: [Instrument; 8],
+    n: usize,
+    code: &'a [u64],
+    vals: &'a [f32],
+    v: Notes,
+    ceiling: u16,
+    block: &mut [i16],
+) -> Notes
+    ensures notes { λ r. ⌜ (r .count ≡ v .count) × (notesIn (r .notes) (r .count) ≡ runAll (voices (take n table) (now (code .entry)) (now (vals .entry))) (notesIn (v .notes) (v .count)) .notes) ⌝ }
+    ensures block { λ r. ⌜ now (block .exit) ≡ limited ceiling (runAll (voices (take n table) (now (code .entry)) (now (vals .entry))) (notesIn (v .notes) (v .count)) .mix) (now (block .entry)) ⌝ }
+{
+    let mut mix = [0.0f32; 320];
+    let notes = v.notes;
+    let held = ensemble::run_notes(table, n, code, vals, notes, v.count, &mut mix);
+    limiter::limit(&mix, ceiling, block);
+    Notes {
+        notes: held,
+        count: v.count,
+    }
+}

@@ -1,0 +1,111 @@
+// The state that the calls change, and what a cycle does with it beside its steps: whether it ends the piece, what waits afterwards, and a
+// cycle of rest (document 01, "One cycle, in order").
+use keyboard::Messages;
+use steps::Playing;
+use waiting::Lines;
+use waiting::Queue;
+ghost use mathlib.Core.Path.{_≡_};
+ghost use mathlib.Core.Bool.{_||_};
+ghost use Prim.Native.Nat.{_≤_, min};
+ghost use lib.Dec.{ltb};
+ghost use lib.ListN.{take};
+ghost use Rattle.limiter.specs.Block.{limited};
+ghost use Rattle.players.specs.Cycle.{positionLimit, anyEnd};
+ghost use Rattle.state.specs.States.{queueAfter, usedOf, restsNow, restedOf, silence};
+
+// What the calls change: the waiting lines and note messages, and what plays.
+pub struct State {
+    pub queue: Queue,
+    pub messages: Messages,
+    pub playing: Playing,
+}
+
+// The limit on position.
+const POSITION_LIMIT: u64 = 1000000000000;
+
+// Most lines that wait.
+const MOST_LINES: usize = 64;
+
+// Step 1: an end line is due, or the position is past the limit.
+pub fn is_over(position: u64, due: Lines) -> bool
+    ensures { λ r. ⌜ r ≡ (ltb positionLimit position || anyEnd (take (due .count) (due .lines))) ⌝ }
+{
+    if POSITION_LIMIT < position {
+        return true;
+    }
+    let lines = due.lines;
+    waiting::has_end(lines, due.count)
+}
+
+// The lines that are not due stay; a cycle has run at this position.
+pub fn keep_waiting(q: Queue, position: u64) -> Queue
+    ensures { λ r. ⌜ r ≡ queueAfter position q ⌝ }
+{
+    let lines = q.lines;
+    let k = waiting::kept(lines, q.count, position);
+    let rest = k.lines;
+    Queue {
+        lines: rest,
+        count: k.count,
+        ran: true,
+        last: position,
+    }
+}
+
+// Note messages that have acted wait no more.
+pub fn used(keys: Messages) -> Messages
+    ensures { λ r. ⌜ r ≡ usedOf keys ⌝ }
+{
+    let list = keys.list;
+    Messages {
+        list: list,
+        count: 0,
+    }
+}
+
+// Whether a cycle is one of rest: no line is due, no note message waits and no note sounds.
+pub fn rests(s: State) -> bool
+    ensures { λ r. ⌜ r ≡ restsNow s ⌝ }
+{
+    let position = s.playing.position;
+    if POSITION_LIMIT < position {
+        return false;
+    }
+    if s.playing.notes.count != 0 {
+        return false;
+    }
+    if s.messages.count != 0 {
+        return false;
+    }
+    let q = s.queue;
+    let lines = q.lines;
+    !waiting::has_due(lines, q.count, position)
+}
+
+fn within(n: usize, most: usize) -> usize
+    ensures { λ r. ⌜ r ≡ min n most ⌝ }
+{
+    if n < most { n } else { most }
+}
+
+// A cycle of rest: silence, and the clock goes on. Nothing large is copied.
+pub fn rested(mut s: State, ceiling: u16, block: &mut [i16]) -> State
+    requires { ⌜ s .playing .position ≤ positionLimit ⌝ }
+    ensures state { λ r. ⌜ r ≡ restedOf s ⌝ }
+    ensures block { λ r. ⌜ now (block .exit) ≡ limited ceiling silence (now (block .entry)) ⌝ }
+{
+    let mix = [0.0f32; 320];
+    limiter::limit(&mix, ceiling, block);
+    let position = s.playing.position;
+    let step = timebase::ticks_per_cycle(s.playing.tempo);
+    let next = position + step;
+    let waiting = within(s.queue.count, MOST_LINES);
+    let missed = steps::more_missed(s.playing.missed, 0);
+    s.queue.count = waiting;
+    s.queue.ran = true;
+    s.queue.last = position;
+    s.playing.position = next;
+    s.playing.missed = missed;
+    s.playing.ended = false;
+    s
+}

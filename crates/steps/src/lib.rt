@@ -1,0 +1,159 @@
+// Steps 2 to 8 of a cycle, on what plays (document 01, "One cycle, in order").
+use kept_orchestra::Instrument;
+use keyboard::Messages;
+use sounding::Notes;
+use sounding::Started;
+use waiting::Lines;
+ghost use mathlib.Core.Path.{_≡_};
+ghost use Prim.Native.Nat.{_≤_, _+_, min};
+ghost use lib.ListN.{take};
+ghost use Rattle.limiter.specs.Block.{limited};
+ghost use Rattle.players.specs.Cycle.{positionLimit};
+ghost use Rattle.players.specs.Holds.{bandOf};
+ghost use Rattle.kept_voices.specs.Voices.{voices};
+ghost use Rattle.steps.specs.Steps.{playsOf, dueIn, settingsIn, performedOf, advanced};
+
+// What plays: the sounding notes, position, tempo, missed notes and the mark of the end.
+pub struct Playing {
+    pub notes: Notes,
+    pub position: u64,
+    pub tempo: f32,
+    pub missed: u64,
+    pub ended: bool,
+}
+
+// What a fresh start fixes: the ceiling, and the instrument of the keyboard's notes by its name.
+pub struct Settings {
+    pub ceiling: u16,
+    pub chosen: u16,
+}
+
+// What acts in a cycle: the due lines, in order, and the note messages that wait.
+pub struct Due {
+    pub lines: Lines,
+    pub messages: Messages,
+}
+
+// The count of missed notes stops at the largest number.
+pub fn more_missed(missed: u64, more: usize) -> u64
+    ensures { λ r. ⌜ r ≡ min (missed + more) 18446744073709551615 ⌝ }
+{
+    let m = more as u64;
+    if missed <= 18446744073709551615 - m {
+        missed + m
+    } else {
+        18446744073709551615
+    }
+}
+
+// The notes that sound afterwards, and how many were missed so far.
+struct Performed {
+    notes: Notes,
+    missed: u64,
+}
+
+// Steps 3 to 7, for the due lines and then the note messages in order.
+fn perform<'a>(
+    table: [Instrument; 8],
+    n: usize,
+    code: &'a [u64],
+    vals: &'a [f32],
+    p: Playing,
+    due: Due,
+    settings: Settings,
+    block: &mut [i16],
+) -> Performed
+    requires { ⌜ p .position ≤ positionLimit ⌝ }
+    ensures notes { λ r. ⌜ r ≡ performedOf (voices (take n table) (now (code .entry)) (now (vals .entry))) (settingsIn settings) (dueIn due) p ⌝ }
+    ensures block { λ r. ⌜ now (block .exit) ≡ limited (settings .ceiling) (bandOf (voices (take n table) (now (code .entry)) (now (vals .entry))) (settingsIn settings) (dueIn due) (playsOf p) .mix) (now (block .entry)) ⌝ }
+{
+    let old = p.notes;
+    let position = p.position;
+    let acting = due.lines;
+    let v = sounding::start_notes(table, n, code, vals, old, acting, position);
+    let born = v.notes;
+    let lines = acting.lines;
+    let c = sounding::control_lines(
+        table,
+        n,
+        Notes {
+            notes: born,
+            count: v.count,
+        },
+        lines,
+        acting.count,
+    );
+    let changed = c.notes;
+    let keys = due.messages;
+    let list = keys.list;
+    let k = sounding::play_messages(
+        table,
+        n,
+        code,
+        vals,
+        Started {
+            notes: changed,
+            count: c.count,
+            missed: v.missed,
+        },
+        settings.chosen,
+        list,
+        keys.count,
+    );
+    let played = k.notes;
+    let h = sound_block::sound(
+        table,
+        n,
+        code,
+        vals,
+        Notes {
+            notes: played,
+            count: k.count,
+        },
+        settings.ceiling,
+        block,
+    );
+    let heard = h.notes;
+    let g = sounding::remaining(heard, h.count, position);
+    let left = g.notes;
+    let before = old.notes;
+    let out = sounding::laid(left, g.count, before);
+    Performed {
+        notes: Notes {
+            notes: out,
+            count: g.count,
+        },
+        missed: more_missed(p.missed, k.missed),
+    }
+}
+
+// Steps 2 to 8 on what plays, for the due lines and then the note messages in order.
+pub fn advance<'a>(
+    table: [Instrument; 8],
+    n: usize,
+    code: &'a [u64],
+    vals: &'a [f32],
+    p: Playing,
+    due: Due,
+    settings: Settings,
+    block: &mut [i16],
+) -> Playing
+    requires { ⌜ p .position ≤ positionLimit ⌝ }
+    ensures playing { λ r. ⌜ r ≡ advanced (voices (take n table) (now (code .entry)) (now (vals .entry))) (settingsIn settings) (dueIn due) p ⌝ }
+    ensures block { λ r. ⌜ now (block .exit) ≡ limited (settings .ceiling) (bandOf (voices (take n table) (now (code .entry)) (now (vals .entry))) (settingsIn settings) (dueIn due) (playsOf p) .mix) (now (block .entry)) ⌝ }
+{
+    let position = p.position;
+    let acting = due.lines;
+    let lines = acting.lines;
+    let tempo = waiting::tempo_after(lines, acting.count, p.tempo);
+    let t = perform(table, n, code, vals, p, due, settings, block);
+    let notes = t.notes;
+    let step = timebase::ticks_per_cycle(tempo);
+    Playing {
+        notes: notes,
+        position: position + step,
+        tempo: tempo,
+        missed: t.missed,
+        ended: false,
+    }
+}
