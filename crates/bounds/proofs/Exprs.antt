@@ -13,6 +13,7 @@ use Rattle.syntax.specs.inside.Program.{Ins, ins, unaryOp, compile, code}
 use Rattle.syntax.specs.Grammar.{Derives, real, whole, named, prefixed, bracketed, called, called2, sides, chosen}
 use Rattle.translation.specs.Translation.{after, past}
 use Rattle.translation.specs.Statements.{depth}
+use Rattle.translation.proofs.Exprs.{depth-pos}
 
 -- ---- lengths
 
@@ -91,8 +92,8 @@ past-length n (branch e a b t) =
 
 -- ---- what the tokens of an expression leave
 
--- no more parts of an expression wait than it has tokens
-pub depth-tokens : {m : ℕ} {e : Expr} {ts : List Token} → Derives m e ts → depth e ≤ length ts
+-- each waiting part has two tokens before what comes behind it: an operand and an operator
+pub depth-tokens : {m : ℕ} {e : Expr} {ts : List Token} → Derives m e ts → depth e + depth e ≤ suc (length ts)
 unfolding depth
 depth-tokens (real x) = omega arith
 depth-tokens (whole w) = omega arith
@@ -100,9 +101,10 @@ depth-tokens (named n) = omega arith
 depth-tokens (prefixed p d) = omega (arith, depth-tokens d)
 depth-tokens (bracketed {ts = ts} d) = simp length-append (omega (arith, depth-tokens d))
 depth-tokens (called p d) = simp length-append (omega (arith, depth-tokens d))
-depth-tokens (called2 p d f) = simp length-append (omega (arith, depth-tokens d, depth-tokens f))
-depth-tokens (sides p l d f) = simp length-append (omega (arith, depth-tokens d, depth-tokens f))
-depth-tokens (chosen c d f) = simp length-append (omega (arith, depth-tokens c, depth-tokens d, depth-tokens f))
+depth-tokens (called2 {a = a} p d f) = simp length-append (omega (arith, depth-pos a, depth-tokens d, depth-tokens f))
+depth-tokens (sides {a = a} p l d f) = simp length-append (omega (arith, depth-pos a, depth-tokens d, depth-tokens f))
+depth-tokens (chosen {c = c} {a = a} g d f) =
+    simp length-append (omega (arith, depth-pos c, depth-pos a, depth-tokens g, depth-tokens d, depth-tokens f))
 
 -- nor has its code more instructions
 pub compile-tokens : {m : ℕ} {e : Expr} {ts : List Token} → Derives m e ts → length (compile e) ≤ length ts

@@ -16,7 +16,7 @@ use Rattle.operations.specs.Words.{mostIfs, mostParts, programSize}
 use Rattle.translation.specs.Translation.{lowered}
 use Rattle.translation.specs.Statements.{depth, Playable}
 
--- an expression of which no more than 128 parts wait
+-- an expression of which no more than 64 parts wait
 pub record Shallow (e : Expr) : Type 0 where
   pub deep : depth e ≤ mostParts
 
