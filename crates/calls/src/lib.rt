@@ -5,7 +5,7 @@ use kept_orchestra::Instrument;
 use notes::NoteEnd;
 use notes::NoteLabel;
 use notes::NoteOrigin;
-use sounding::Notes;
+use sixteen_notes::Notes;
 use state::State;
 use steps::Playing;
 use steps::Settings;

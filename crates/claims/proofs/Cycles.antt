@@ -23,9 +23,9 @@ use Rattle.players.proofs.Lists.{length-keep}
 use Rattle.players.proofs.Loops.{length-over}
 use Rattle.waiting.specs.Admission.{waitingIn}
 use Rattle.kept_voices.specs.Voices.{Held}
-use Rattle.sounding.specs.Notes.{notesIn}
+use Rattle.sixteen_notes.specs.Notes.{notesIn}
 use Rattle.one_note.specs.OneNote.{noteOf, structOf}
-use Rattle.sounding.proofs.Steps.{length-each}
+use Rattle.sixteen_notes.proofs.Steps.{length-each}
 use Rattle.steps.specs.Steps.{playsOf, laidOver, advanced}
 use Rattle.steps.specs.declared.Playing.{Playing}
 use Rattle.state.specs.States.{stopped, queueAfter}

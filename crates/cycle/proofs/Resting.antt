@@ -18,7 +18,7 @@ use Rattle.players.proofs.Lists.{cond-false}
 use Rattle.waiting.specs.Admission.{waitingIn}
 use Rattle.waiting.proofs.Resting.{none-acts, all-stay}
 use Rattle.kept_voices.specs.Voices.{Held}
-use Rattle.sounding.proofs.Steps.{over-self}
+use Rattle.sixteen_notes.proofs.Steps.{over-self}
 use Rattle.steps.specs.Steps.{playsOf, advanced}
 use Rattle.steps.specs.declared.Playing.{Playing}
 use Rattle.state.specs.States.{holdsOf, endsNow, queueAfter, restsNow, restedOf, silence}

@@ -1,12 +1,12 @@
 // The sounding notes heard: run into one mix, which is limited into a block (document 01, steps 5 and 6).
 use kept_orchestra::Instrument;
-use sounding::Notes;
+use sixteen_notes::Notes;
 ghost use mathlib.Core.Path.{_≡_};
 ghost use lib.ListN.{take};
 ghost use Rattle.limiter.specs.Block.{limited};
 ghost use Rattle.players.specs.Cycle.{runAll};
 ghost use Rattle.kept_voices.specs.Voices.{voices};
-ghost use Rattle.sounding.specs.Notes.{notesIn};
+ghost use Rattle.sixteen_notes.specs.Notes.{notesIn};
 
 // Steps 5 and 6: the notes run into one mix, which is limited into the block.
 pub fn sound<'a>(

@@ -24,14 +24,15 @@ use Rattle.synth.specs.Passes.{sums, played}
 use Rattle.notes.specs.declared.Note.{Note}
 use Rattle.kept_orchestra.specs.Kept.{instrumentIn, foundIn}
 use Rattle.kept_voices.specs.Voices.{Held, voices, birthOf, ranValues, ranMixOf, named}
-use Rattle.sounding.specs.Notes.{notesIn, startedIn, bandIn, controlledIn, controlsIn, controlledAll}
+use Rattle.sixteen_notes.specs.Notes.{notesIn, startedIn}
+use Rattle.sounding.specs.Controls.{bandIn, controlledIn, controlsIn, controlledAll}
 use Rattle.one_note.specs.OneNote.{noteOf, structOf, bornNote, pressedNote, controlledNote, kNote, ranNote, ranMix, goesOnIn}
 use Rattle.notes.specs.Notes.{withValues}
 use Rattle.kept_orchestra.specs.declared.Instrument.{Instrument}
-use Rattle.sounding.specs.Started.{StartedBy}
+use Rattle.sixteen_notes.specs.Started.{StartedBy}
 use Rattle.kept_orchestra.specs.declared.Found.{Found}
-use Rattle.sounding.specs.declared.Started.{Started}
-use Rattle.sounding.proofs.Steps.{each-append, each-one, length-each, struct-note, drop-more, take-laid, notes-laid, Starting, starting-step}
+use Rattle.sixteen_notes.specs.declared.Started.{Started}
+use Rattle.sixteen_notes.proofs.Steps.{each-append, each-one, length-each, struct-note, drop-more, take-laid, notes-laid, Starting, starting-step}
 
 -- one more of an array's elements, each made into another
 pub each-step : {A : Type 0} (g : A → A) (l a : List A) (i : ℕ) (d y : A) → i < length l → i < length a

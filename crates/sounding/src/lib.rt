@@ -1,118 +1,33 @@
-// The sounding notes in an array of 16: notes started, control lines, the run of a cycle, notes that are over (document 01,
-// "One cycle, in order", steps 3, 4, 5 and 7), and what note messages do, over straight-line code.
+// What lines and note messages do with the sounding notes, and the run of a cycle, over straight-line code (document 01, "One cycle, in
+// order", steps 3, 4 and 5).
 use kept_orchestra::Instrument;
 use messages::Message;
 use notes::Note;
 use score_line::Event;
 use score_line::Line;
+use sixteen_notes::MOST_NOTES;
+use sixteen_notes::Notes;
+use sixteen_notes::Started;
 use waiting::Lines;
 ghost use mathlib.Core.Path.{_≡_};
-ghost use Prim.Native.Nat.{_<_, _≤_, _+_, min};
-ghost use lib.ListN.{length, take, set};
-ghost use Rattle.players.specs.Lists.{keep, each, over};
-ghost use Rattle.players.specs.Cycle.{positionLimit, startedBy, started, letGoOldest, afterMessage, afterMessages, runFrom};
+ghost use Prim.Native.Nat.{_<_, _≤_, min};
+ghost use lib.ListN.{take};
+ghost use Rattle.players.specs.Lists.{each, over};
+ghost use Rattle.players.specs.Cycle.{positionLimit, startedBy, started, afterMessage, afterMessages, runFrom};
 ghost use Rattle.players.specs.Holds.{sixteen};
 ghost use Rattle.kept_voices.specs.Voices.{voices};
-ghost use Rattle.sounding.specs.Notes.{notesIn, startedIn, startedOver, oldestWithout, leftOut, controlledIn, controlsIn, controlledAll};
-ghost use Rattle.one_note.specs.OneNote.{structOf, goesOnIn};
-ghost use Rattle.sounding.specs.Started.{StartedBy};
-
-// The notes that sound, from the first on, and how many were missed.
-pub struct Started {
-    pub notes: [Note; MOST_NOTES],
-    pub count: usize,
-    pub missed: usize,
-}
-
-// Some of 16 notes, from the first on.
-pub struct Notes {
-    pub notes: [Note; MOST_NOTES],
-    pub count: usize,
-}
-
-// Most notes that sound at once.
-const MOST_NOTES: usize = 16;
+ghost use Rattle.sixteen_notes.specs.Notes.{notesIn, startedIn, startedOver};
+ghost use Rattle.sixteen_notes.specs.Started.{StartedBy};
+ghost use Rattle.sounding.specs.Controls.{controlledIn, controlsIn, controlledAll};
+ghost use Rattle.one_note.specs.OneNote.{structOf};
 
 // The limit on position.
 const POSITION_LIMIT: u64 = 1000000000000;
-
-fn within(n: usize, most: usize) -> usize
-    ensures { λ r. ⌜ r ≡ min n most ⌝ }
-{
-    if n < most { n } else { most }
-}
 
 fn at_most(position: u64, most: u64) -> u64
     ensures { λ r. ⌜ r ≡ min position most ⌝ }
 {
     if position < most { position } else { most }
-}
-
-// One note more; there is room for it.
-fn with_note(v: Started, n: Note) -> Started
-    requires { ⌜ v .count < 16 ⌝ }
-    ensures { λ r. ⌜ (r .notes ≡ set (v .notes) (v .count) n) × (r .count ≡ v .count + 1) × (r .missed ≡ v .missed) ⌝ }
-{
-    let k = v.count;
-    let mut a = v.notes;
-    a[k] = n;
-    Started {
-        notes: a,
-        count: k + 1,
-        missed: v.missed,
-    }
-}
-
-// One more missed.
-fn with_miss(v: Started) -> Started
-    requires { ⌜ v .missed < 128 ⌝ }
-    ensures { λ r. ⌜ (r .notes ≡ v .notes) × (r .count ≡ v .count) × (r .missed ≡ v .missed + 1) ⌝ }
-{
-    let notes = v.notes;
-    Started {
-        notes: notes,
-        count: v.count,
-        missed: v.missed + 1,
-    }
-}
-
-// The place of the oldest note without priority; with none, how many notes there are.
-fn oldest_without(v: Started) -> usize
-    requires { ⌜ v .count ≤ 16 ⌝ }
-    ensures { λ r. ⌜ r ≡ oldestWithout (take (v .count) (v .notes)) ⌝ }
-{
-    let notes = v.notes;
-    let m = v.count;
-    let mut i: usize = 0;
-    while i < m {
-        let x = notes[i];
-        if !x.priority {
-            return i;
-        }
-        i += 1;
-    }
-    m
-}
-
-// The note at a place cut off: the later ones move down, what lies behind them stays, and one more is missed.
-fn cut_off(v: Started, place: usize) -> Started
-    requires { ⌜ (place < v .count) × (v .count ≤ 16) × (v .missed < 128) ⌝ }
-    ensures { λ r. ⌜ (r .notes ≡ over (leftOut place (take (v .count) (v .notes))) (v .notes)) × (r .count + 1 ≡ v .count) × (r .missed ≡ v .missed + 1) ⌝ }
-{
-    let notes = v.notes;
-    let m = v.count - 1;
-    let mut a = notes;
-    let mut i = place;
-    while i < m {
-        let x = notes[i + 1];
-        a[i] = x;
-        i += 1;
-    }
-    with_miss(Started {
-        notes: a,
-        count: m,
-        missed: v.missed,
-    })
 }
 
 // What a due line starts: an instr line a note, where fewer than the most notes sound, or where it has priority and a note has none, which
@@ -149,19 +64,19 @@ fn start_line<'a>(
                     instrument,
                     duration,
                 );
-                return with_note(v, note);
+                return sixteen_notes::with_note(v, note);
             }
             if !l.priority {
-                return with_miss(v);
+                return sixteen_notes::with_miss(v);
             }
-            let place = oldest_without(v);
+            let place = sixteen_notes::oldest_without(v);
             if v.count <= place {
-                return with_miss(v);
+                return sixteen_notes::with_miss(v);
             }
             let f = kept_orchestra::find(table, n, instrument);
             let x = f.instrument;
             let note = one_note::note_of(code, vals, x, l, position, label, instrument, duration);
-            with_note(cut_off(v, place), note)
+            sixteen_notes::with_note(sixteen_notes::cut_off(v, place), note)
         }
         Event::Control {
             label: _,
@@ -185,13 +100,13 @@ pub fn start_notes<'a>(
 ) -> Started
     ensures { λ r. ⌜ (r ≡ startedOver (started (voices (take n table) (now (code .entry)) (now (vals .entry))) sixteen (min position positionLimit) (notesIn (old .notes) (old .count)) (take (due .count) (due .lines))) (old .notes)) × (r .missed ≤ 64) ⌝ }
 {
-    let w = within(due.count, 64);
+    let w = sixteen_notes::within(due.count, 64);
     let p = at_most(position, POSITION_LIMIT);
     let lines = due.lines;
     let notes = old.notes;
     let mut v = Started {
         notes: notes,
-        count: within(old.count, MOST_NOTES),
+        count: sixteen_notes::within(old.count, MOST_NOTES),
         missed: 0,
     };
     let mut i: usize = 0;
@@ -215,7 +130,7 @@ fn control_notes(
     ensures { λ r. ⌜ (r .count ≡ v .count) × (r .notes ≡ over (each (controlledIn (take n table) label variable value) (take (v .count) (v .notes))) (v .notes)) ⌝ }
 {
     let notes = v.notes;
-    let m = within(v.count, MOST_NOTES);
+    let m = sixteen_notes::within(v.count, MOST_NOTES);
     let mut a = notes;
     let mut j: usize = 0;
     while j < m {
@@ -262,36 +177,12 @@ pub fn control_lines(
 ) -> Notes
     ensures { λ r. ⌜ (r .count ≡ notes .count) × (r .notes ≡ over (controlledAll (take n table) (take (notes .count) (notes .notes)) (take m lines)) (notes .notes)) ⌝ }
 {
-    let w = within(m, 64);
+    let w = sixteen_notes::within(m, 64);
     let mut v = notes;
     let mut i: usize = 0;
     while i < w {
         let l = lines[i];
         v = control_line(table, n, v, l);
-        i += 1;
-    }
-    v
-}
-
-// What a note-off does: the oldest unmarked note of its key and channel is marked for removal.
-fn let_go_oldest(v: Started, channel: u8, key: u8) -> Started
-    requires { ⌜ v .count ≤ 16 ⌝ }
-    ensures { λ r. ⌜ StartedBy (record { notes = letGoOldest channel key (notesIn (v .notes) (v .count)); missed = v .missed }) v r ⌝ }
-{
-    let notes = v.notes;
-    let m = v.count;
-    let mut i: usize = 0;
-    while i < m {
-        let x = notes[i];
-        if one_note::is_held(x, channel, key) {
-            let mut a = notes;
-            a[i] = notes::let_go(x);
-            return Started {
-                notes: a,
-                count: m,
-                missed: v.missed,
-            };
-        }
         i += 1;
     }
     v
@@ -315,11 +206,11 @@ fn play_message<'a>(
             let f = kept_orchestra::find(table, n, chosen);
             let x = f.instrument;
             let note = one_note::pressed_note(code, vals, x, chosen, m);
-            return with_note(v, note);
+            return sixteen_notes::with_note(v, note);
         }
-        return with_miss(v);
+        return sixteen_notes::with_miss(v);
     }
-    let_go_oldest(v, m.channel, m.key)
+    sixteen_notes::let_go_oldest(v, m.channel, m.key)
 }
 
 // After step 4: each note message among the first m, in order.
@@ -336,9 +227,9 @@ pub fn play_messages<'a>(
     requires { ⌜ old .missed ≤ 64 ⌝ }
     ensures { λ r. ⌜ (r ≡ startedOver (afterMessages (voices (take n table) (now (code .entry)) (now (vals .entry))) sixteen chosen (startedIn (old .notes) (old .count) (old .missed)) (take m messages)) (old .notes)) × (r .missed ≤ 128) ⌝ }
 {
-    let w = within(m, 64);
+    let w = sixteen_notes::within(m, 64);
     let mut v = old;
-    v.count = within(old.count, MOST_NOTES);
+    v.count = sixteen_notes::within(old.count, MOST_NOTES);
     let mut i: usize = 0;
     while i < w {
         let x = messages[i];
@@ -361,7 +252,7 @@ pub fn run_notes<'a>(
     ensures notes { λ r. ⌜ r ≡ over (each structOf (runFrom (voices (take n table) (now (code .entry)) (now (vals .entry))) (notesIn notes count) (now (mix .entry)) .notes)) notes ⌝ }
     ensures mix { λ r. ⌜ now (mix .exit) ≡ runFrom (voices (take n table) (now (code .entry)) (now (vals .entry))) (notesIn notes count) (now (mix .entry)) .mix ⌝ }
 {
-    let m = within(count, MOST_NOTES);
+    let m = sixteen_notes::within(count, MOST_NOTES);
     let mut room = synth::room(vals);
     let mut a = notes;
     let mut j: usize = 0;
@@ -376,36 +267,3 @@ pub fn run_notes<'a>(
     a
 }
 
-// Step 7: the notes that go on, in order; what lies behind them stays.
-pub fn remaining(notes: [Note; MOST_NOTES], count: usize, position: u64) -> Notes
-    ensures { λ r. ⌜ (r .count ≡ length (keep (goesOnIn position) (take count notes))) × (r .notes ≡ over (keep (goesOnIn position) (take count notes)) notes) × (r .count ≤ 16) ⌝ }
-{
-    let m = within(count, MOST_NOTES);
-    let mut a = notes;
-    let mut k: usize = 0;
-    let mut i: usize = 0;
-    while i < m {
-        let x = notes[i];
-        if one_note::goes_on(x, position) {
-            a[k] = x;
-            k += 1;
-        }
-        i += 1;
-    }
-    Notes { notes: a, count: k }
-}
-
-// The first notes of an array laid over another.
-pub fn laid(new: [Note; MOST_NOTES], count: usize, old: [Note; MOST_NOTES]) -> [Note; MOST_NOTES]
-    ensures { λ r. ⌜ r ≡ over (take count new) old ⌝ }
-{
-    let m = within(count, MOST_NOTES);
-    let mut a = old;
-    let mut i: usize = 0;
-    while i < m {
-        let x = new[i];
-        a[i] = x;
-        i += 1;
-    }
-    a
-}

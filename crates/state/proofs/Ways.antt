@@ -15,7 +15,7 @@ use Rattle.players.specs.Holds.{laterThan}
 use Rattle.waiting.specs.Waiting.{anyDue}
 use Rattle.waiting.specs.Admission.{waitingIn}
 use Rattle.waiting.specs.declared.Queue.{Queue}
-use Rattle.sounding.proofs.Cutting.{not-true}
+use Rattle.sixteen_notes.proofs.Cutting.{not-true}
 use Rattle.state.specs.States.{queueAfter, restsNow, restedOf}
 use Rattle.state.specs.declared.State.{State}
 

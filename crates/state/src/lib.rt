@@ -6,7 +6,7 @@ use waiting::Lines;
 use waiting::Queue;
 ghost use mathlib.Core.Path.{_≡_};
 ghost use mathlib.Core.Bool.{_||_};
-ghost use Prim.Native.Nat.{_≤_, min};
+ghost use Prim.Native.Nat.{_≤_};
 ghost use lib.Dec.{ltb};
 ghost use lib.ListN.{take};
 ghost use Rattle.limiter.specs.Block.{limited};
@@ -82,12 +82,6 @@ pub fn rests(s: State) -> bool
     !waiting::has_due(lines, q.count, position)
 }
 
-fn within(n: usize, most: usize) -> usize
-    ensures { λ r. ⌜ r ≡ min n most ⌝ }
-{
-    if n < most { n } else { most }
-}
-
 // A cycle of rest: silence, and the clock goes on. Nothing large is copied.
 pub fn rested(mut s: State, ceiling: u16, block: &mut [i16]) -> State
     requires { ⌜ s .playing .position ≤ positionLimit ⌝ }
@@ -99,7 +93,7 @@ pub fn rested(mut s: State, ceiling: u16, block: &mut [i16]) -> State
     let position = s.playing.position;
     let step = timebase::ticks_per_cycle(s.playing.tempo);
     let next = position + step;
-    let waiting = within(s.queue.count, MOST_LINES);
+    let waiting = sixteen_notes::within(s.queue.count, MOST_LINES);
     let missed = steps::more_missed(s.playing.missed, 0);
     s.queue.count = waiting;
     s.queue.ran = true;

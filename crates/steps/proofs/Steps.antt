@@ -17,11 +17,12 @@ use Rattle.players.specs.Cycle as cycle
 use Rattle.players.specs.Holds.{Due, settingsOf, sixteen, startedOf, soundsOf, bandOf, played}
 use Rattle.players.specs.inside.Holds.{capped}
 use Rattle.kept_voices.specs.Voices.{Held, voices}
-use Rattle.sounding.specs.Notes.{notesIn, startedIn as startedNotes, startedOver, controlledAll}
+use Rattle.sixteen_notes.specs.Notes.{notesIn, startedIn as startedNotes, startedOver}
+use Rattle.sounding.specs.Controls.{controlledAll}
 use Rattle.one_note.specs.OneNote.{noteOf, structOf, goesOnIn}
 use Rattle.kept_orchestra.specs.declared.Instrument.{Instrument}
-use Rattle.sounding.specs.declared.Started.{Started as Starts}
-use Rattle.sounding.proofs.Steps.{length-each, started-are}
+use Rattle.sixteen_notes.specs.declared.Started.{Started as Starts}
+use Rattle.sixteen_notes.proofs.Steps.{length-each, started-are}
 use Rattle.sounding.proofs.Band.{control-all, going as going-as}
 use Rattle.steps.specs.Steps.{playsOf, advanced, performedOf}
 use Rattle.steps.specs.declared.Performed.{Performed}

@@ -8,9 +8,9 @@ use Rattle.players.specs.Cycle as cycle
 use Rattle.players.specs.Holds.{Settings, settingsOf, Due, Plays, played}
 use Rattle.players.specs.inside.Holds.{capped}
 use Rattle.kept_voices.specs.Voices.{Held}
-use Rattle.sounding.specs.Notes.{notesIn}
+use Rattle.sixteen_notes.specs.Notes.{notesIn}
 use Rattle.one_note.specs.OneNote.{structOf}
-use Rattle.sounding.specs.declared.Notes.{Notes}
+use Rattle.sixteen_notes.specs.declared.Notes.{Notes}
 use Rattle.steps.specs.declared.Due.{Due as DueNow}
 use Rattle.steps.specs.declared.Settings.{Settings as Fixed}
 use Rattle.steps.specs.declared.Performed.{Performed}

@@ -1,8 +1,8 @@
 // Steps 2 to 8 of a cycle, on what plays (document 01, "One cycle, in order").
 use kept_orchestra::Instrument;
 use keyboard::Messages;
-use sounding::Notes;
-use sounding::Started;
+use sixteen_notes::Notes;
+use sixteen_notes::Started;
 use waiting::Lines;
 ghost use mathlib.Core.Path.{_≡_};
 ghost use Prim.Native.Nat.{_≤_, _+_, min};
@@ -114,10 +114,10 @@ fn perform<'a>(
         block,
     );
     let heard = h.notes;
-    let g = sounding::remaining(heard, h.count, position);
+    let g = sixteen_notes::remaining(heard, h.count, position);
     let left = g.notes;
     let before = old.notes;
-    let out = sounding::laid(left, g.count, before);
+    let out = sixteen_notes::laid(left, g.count, before);
     Performed {
         notes: Notes {
             notes: out,

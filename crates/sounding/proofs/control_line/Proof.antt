@@ -1,6 +1,6 @@
 use mathlib.Core.Path.{refl}
 use borrow.Author.Needs.{needs}
-use Rattle.sounding.proofs.Steps.{over-self}
+use Rattle.sixteen_notes.proofs.Steps.{over-self}
 use Rattle.sounding.proofs.control_line.Statement.{statement}
 use Rattle.sounding.proofs.control_line.Tie as tie
 

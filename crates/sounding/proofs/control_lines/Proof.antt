@@ -6,8 +6,8 @@ use lib.ListN.{length, take, getD}
 use Rattle.score_line.specs.declared.Line.{Line}
 use Rattle.players.specs.Lists.{fold, over}
 use Rattle.players.proofs.Loops.{take-end}
-use Rattle.sounding.specs.Notes.{controlsIn, controlledAll}
-use Rattle.sounding.proofs.Steps.{over-self}
+use Rattle.sounding.specs.Controls.{controlsIn, controlledAll}
+use Rattle.sixteen_notes.proofs.Steps.{over-self}
 use Rattle.sounding.proofs.Band.{control-more}
 use Rattle.sounding.proofs.control_lines.Statement.{statement}
 use Rattle.sounding.proofs.control_lines.Tie as tie

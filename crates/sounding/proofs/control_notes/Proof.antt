@@ -6,8 +6,8 @@ use lib.ListN.{length, take, length-map}
 use Rattle.players.specs.Lists.{each, over}
 use Rattle.players.proofs.Loops.{take-end}
 use Rattle.notes.specs.declared.Note.{Note}
-use Rattle.sounding.specs.Notes.{controlledIn}
-use Rattle.sounding.proofs.Steps.{each-over}
+use Rattle.sounding.specs.Controls.{controlledIn}
+use Rattle.sixteen_notes.proofs.Steps.{each-over}
 use Rattle.sounding.proofs.Band.{control-in}
 use Rattle.sounding.proofs.control_notes.Statement.{statement}
 use Rattle.sounding.proofs.control_notes.Tie as tie

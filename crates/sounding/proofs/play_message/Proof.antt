@@ -3,8 +3,8 @@ use lib.ListN.{length-map}
 use borrow.Author.Needs.{needs}
 use Rattle.players.specs.Cycle as cycle
 use Rattle.kept_voices.specs.Voices.{Held}
-use Rattle.sounding.specs.Started.{StartedBy}
-use Rattle.sounding.proofs.Steps.{start-room, start-full}
+use Rattle.sixteen_notes.specs.Started.{StartedBy}
+use Rattle.sixteen_notes.proofs.Steps.{start-room, start-full}
 use Rattle.one_note.proofs.OneNote.{pressed-yields}
 use Rattle.sounding.proofs.Band.{press-starts, off-marks}
 use Rattle.sounding.proofs.play_message.Statement.{statement}

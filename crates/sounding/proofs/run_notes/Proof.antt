@@ -11,10 +11,10 @@ use lib.ListN.{take}
 use Rattle.players.proofs.Loops.{take-end}
 use Rattle.notes.specs.declared.Note.{Note}
 use Rattle.kept_voices.specs.Voices.{voices}
-use Rattle.sounding.specs.Notes.{notesIn}
+use Rattle.sixteen_notes.specs.Notes.{notesIn}
 use Rattle.synth.specs.Room.{numbersIn, roomOf}
 use Rattle.one_note.proofs.OneNote.{ran-here, mixed-here}
-use Rattle.sounding.proofs.Steps.{laid-notes}
+use Rattle.sixteen_notes.proofs.Steps.{laid-notes}
 use Rattle.sounding.proofs.Band.{Running, running-none, running-step}
 use Rattle.sounding.proofs.run_notes.Statement.{statement}
 use Rattle.sounding.proofs.run_notes.Tie as tie

@@ -3,8 +3,8 @@ use native.Mathlib.Omega.{arith}
 use lib.ListN.{length-map}
 use borrow.Author.Needs.{needs}
 use Rattle.one_note.proofs.OneNote.{born-yields, born-alone, born-priority}
-use Rattle.sounding.proofs.Steps.{start-none, start-room, start-full}
-use Rattle.sounding.proofs.Cutting.{not-true, not-false, none-to-cut, start-cut}
+use Rattle.sixteen_notes.proofs.Steps.{start-none, start-room, start-full}
+use Rattle.sixteen_notes.proofs.Cutting.{not-true, not-false, none-to-cut, start-cut}
 use Rattle.sounding.proofs.Band.{born-found, start-instr}
 use Rattle.sounding.proofs.start_line.Statement.{statement}
 use Rattle.sounding.proofs.start_line.Tie as tie

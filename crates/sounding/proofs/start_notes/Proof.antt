@@ -7,9 +7,9 @@ use Rattle.players.specs.Cycle.{started}
 use Rattle.players.specs.Holds.{sixteen}
 use Rattle.players.proofs.Loops.{take-end, take-min}
 use Rattle.kept_voices.specs.Voices.{voices}
-use Rattle.sounding.specs.Notes.{notesIn, startedOver}
+use Rattle.sixteen_notes.specs.Notes.{notesIn, startedOver}
 use Rattle.one_note.specs.OneNote.{noteOf}
-use Rattle.sounding.proofs.Steps.{Starting, starting-none, starting-end}
+use Rattle.sixteen_notes.proofs.Steps.{Starting, starting-none, starting-end}
 use Rattle.sounding.proofs.Band.{starting-more}
 use Rattle.sounding.proofs.start_notes.Statement.{statement}
 use Rattle.sounding.proofs.start_notes.Tie as tie

@@ -4,8 +4,8 @@ use Prim.Native.Nat.{_+_, _≤_}
 use lib.ListN.{length, drop}
 use Rattle.players.specs.Cycle as cycle
 use Rattle.kept_voices.specs.Voices.{Held}
-use Rattle.sounding.specs.Notes.{startedIn}
-use Rattle.sounding.specs.declared.Started.{Started}
+use Rattle.sixteen_notes.specs.Notes.{startedIn}
+use Rattle.sixteen_notes.specs.declared.Started.{Started}
 
 pub record StartedBy (s : cycle.Started Held) (v r : Started) : Type 0 where
   pub are : startedIn (r .notes) (r .count) (r .missed) ≡ s

@@ -4,9 +4,9 @@ use native.Mathlib.Omega.{arith}
 use lib.ListN.{length, take, length-map}
 use lib.Seq.{length-take-le, getD-take}
 use Rattle.notes.specs.declared.Note.{Note}
-use Rattle.sounding.proofs.Cutting.{Past, past-none, past-one, past-here, past-all, not-true, not-false}
-use Rattle.sounding.proofs.oldest_without.Statement.{statement}
-use Rattle.sounding.proofs.oldest_without.Tie as tie
+use Rattle.sixteen_notes.proofs.Cutting.{Past, past-none, past-one, past-here, past-all, not-true, not-false}
+use Rattle.sixteen_notes.proofs.oldest_without.Statement.{statement}
+use Rattle.sixteen_notes.proofs.oldest_without.Tie as tie
 
 pub oldest-without-spec : {M : Type 1} → statement M
 oldest-without-spec =

@@ -2,9 +2,9 @@ use mathlib.Core.Path.{_≡_, sym, _∙_}
 use Prim.Native.Nat.{_≤_, _-_}
 use native.Mathlib.Omega.{arith}
 use lib.ListN.{length, take, length-map}
-use Rattle.sounding.proofs.Steps.{Unheld, unheld-more, marks-one, marks-none}
-use Rattle.sounding.proofs.let_go_oldest.Statement.{statement}
-use Rattle.sounding.proofs.let_go_oldest.Tie as tie
+use Rattle.sixteen_notes.proofs.Steps.{Unheld, unheld-more, marks-one, marks-none}
+use Rattle.sixteen_notes.proofs.let_go_oldest.Statement.{statement}
+use Rattle.sixteen_notes.proofs.let_go_oldest.Tie as tie
 
 pub let-go-oldest-spec : {M : Type 1} → statement M
 let-go-oldest-spec =

@@ -3,10 +3,10 @@ use Prim.Native.Nat.{ℕ, _+_, _≤_, _-_}
 use native.Mathlib.Omega.{arith}
 use lib.ListN.{length, take, length-map, length-set}
 use Rattle.players.specs.Lists.{over}
-use Rattle.sounding.specs.Notes.{leftOut}
-use Rattle.sounding.proofs.Cutting.{moved-none, moved-one}
-use Rattle.sounding.proofs.cut_off.Statement.{statement}
-use Rattle.sounding.proofs.cut_off.Tie as tie
+use Rattle.sixteen_notes.specs.Notes.{leftOut}
+use Rattle.sixteen_notes.proofs.Cutting.{moved-none, moved-one}
+use Rattle.sixteen_notes.proofs.cut_off.Statement.{statement}
+use Rattle.sixteen_notes.proofs.cut_off.Tie as tie
 
 pub cut-off-spec : {M : Type 1} → statement M
 cut-off-spec =

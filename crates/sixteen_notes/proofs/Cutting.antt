@@ -16,11 +16,11 @@ use Rattle.players.proofs.Lists.{cond-true, cond-false}
 use Rattle.players.proofs.Loops.{over-set, length-over, take-over}
 use Rattle.notes.specs.declared.Note.{Note}
 use Rattle.kept_voices.specs.Voices.{Held}
-use Rattle.sounding.specs.Notes.{notesIn, startedIn, oldestWithout, leftOut}
+use Rattle.sixteen_notes.specs.Notes.{notesIn, startedIn, oldestWithout, leftOut}
 use Rattle.one_note.specs.OneNote.{noteOf}
-use Rattle.sounding.specs.Started.{StartedBy}
-use Rattle.sounding.specs.declared.Started.{Started}
-use Rattle.sounding.proofs.Steps.{each-append, each-one, over-self, cut}
+use Rattle.sixteen_notes.specs.Started.{StartedBy}
+use Rattle.sixteen_notes.specs.declared.Started.{Started}
+use Rattle.sixteen_notes.proofs.Steps.{each-append, each-one, over-self, cut}
 
 pub not-true : (b : Bool) → not b ≡ true → b ≡ false
 not-true true h = sym h

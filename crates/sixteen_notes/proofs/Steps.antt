@@ -19,10 +19,10 @@ use Rattle.players.proofs.Results.{join-room, join-cut, join-miss}
 use Rattle.notes.specs.Notes.{letGo}
 use Rattle.notes.specs.declared.Note.{Note}
 use Rattle.kept_voices.specs.Voices.{Held}
-use Rattle.sounding.specs.Notes.{notesIn, startedIn, startedOver}
+use Rattle.sixteen_notes.specs.Notes.{notesIn, startedIn, startedOver}
 use Rattle.one_note.specs.OneNote.{noteOf, structOf, isHeldIn}
-use Rattle.sounding.specs.Started.{StartedBy}
-use Rattle.sounding.specs.declared.Started.{Started}
+use Rattle.sixteen_notes.specs.Started.{StartedBy}
+use Rattle.sixteen_notes.specs.declared.Started.{Started}
 
 -- ---- each
 

@@ -8,8 +8,8 @@ use Rattle.players.specs.Lists.{keep, over}
 use Rattle.players.proofs.Loops.{Packed, packed-none, packed-yes, packed-no, take-end}
 use Rattle.notes.specs.declared.Note.{Note}
 use Rattle.one_note.specs.OneNote.{goesOnIn}
-use Rattle.sounding.proofs.remaining.Statement.{statement}
-use Rattle.sounding.proofs.remaining.Tie as tie
+use Rattle.sixteen_notes.proofs.remaining.Statement.{statement}
+use Rattle.sixteen_notes.proofs.remaining.Tie as tie
 
 abbrev Inv-loop : tie.InvT-loop
 Inv-loop count position notes m a₀ k₀ i₀ a k i = (i ≤ m) × (m ≤ 16) × Packed (goesOnIn position) notes a k i

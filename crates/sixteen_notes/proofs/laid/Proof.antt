@@ -6,8 +6,8 @@ use lib.ListN.{length, take, length-set}
 use Rattle.players.specs.Lists.{over}
 use Rattle.players.proofs.Loops.{laid-step, take-end}
 use Rattle.notes.specs.declared.Note.{Note}
-use Rattle.sounding.proofs.laid.Statement.{statement}
-use Rattle.sounding.proofs.laid.Tie as tie
+use Rattle.sixteen_notes.proofs.laid.Statement.{statement}
+use Rattle.sixteen_notes.proofs.laid.Tie as tie
 
 abbrev Inv-loop : tie.InvT-loop
 Inv-loop count new m a₀ i₀ a i = (i ≤ m) × (m ≤ 16) × (length a ≡ 16) × (a ≡ over (take i new) a₀)
