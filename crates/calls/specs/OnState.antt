@@ -1,17 +1,12 @@
--- What each call leaves of the state, for every state and every input; the table, the voices and the settings stay.
+-- What each call but the cycle leaves of the state, for every state and every input; the table stays.
 use mathlib.Core.Bool.{Bool, false, cond}
 use mathlib.Core.List.{List}
 use Prim.Native.Nat.{ℕ}
-use lib.IntN.{ℤ}
 use lib.Ieee.{Float, binary32, ofBits}
-use lib.ListN.{length, replicate}
-use lib.Dec.{eqb}
-use Rattle.answer.specs.Numbers.{isTaken}
-use Rattle.answer.specs.declared.Answer.the-variants.{Taken, Ended, BlockLength}
+use lib.ListN.{replicate}
+use Rattle.answer.specs.declared.Answer.the-variants.{Ended}
 use Rattle.score.specs.Score.{Score}
 use Rattle.bursts.specs.Bursts.{Burst}
-use Rattle.players.specs.Cycle.{Voices, samples}
-use Rattle.players.specs.Holds.{Settings, dueOf, blockOf}
 use Rattle.waiting.specs.declared.Queue.{Queue}
 use Rattle.notes.specs.Notes.{newNote}
 use Rattle.notes.specs.declared.Note.{Note}
@@ -21,11 +16,8 @@ use Rattle.entrances.specs.Entrances.{broughtIn}
 use Rattle.messages.specs.inside.Reading.{callOf}
 use Rattle.keyboard.specs.Keyboard.{noMessages, pressedIn}
 use Rattle.keyboard.specs.declared.Messages.{Messages}
-use Rattle.kept_voices.specs.Voices.{Held}
 use Rattle.kept_orchestra.specs.declared.Instrument.{Instrument}
-use Rattle.state.specs.States.{holdsOf, endsNow, stopped}
 use Rattle.state.specs.declared.State.{State}
-use Rattle.cycle.specs.OneCycle.{playedOf}
 use Rattle.calls.specs.declared.Brought.{Brought}
 use Rattle.calls.specs.declared.Received.{Received}
 use Rattle.calls.specs.declared.Left.{Left}
@@ -73,16 +65,3 @@ unfoldable pub pressedOf : State → List ℕ → Left
 pressedOf s bytes =
     let r = pressedIn (s .messages) (callOf bytes) in
     cond (s .playing .ended) (record { state = s; answer = Ended }) (record { state = withMessages s (r .messages); answer = r .answer })
-
--- a cycle: 10, then 9, then steps 2 to 8
-unfoldable pub cycledOf : Voices Held → Settings → State → ℕ → Left
-cycledOf v x s lent =
-    cond (eqb lent samples)
-    (cond (s .playing .ended) (record { state = s; answer = Ended })
-    (cond (endsNow s) (record { state = record { queue = s .queue; messages = s .messages; playing = stopped (s .playing) }; answer = Ended })
-    (record { state = playedOf v x s; answer = Taken })))
-    (record { state = s; answer = BlockLength })
-
--- the lent block afterwards: the cycle's samples where it answers 0, else as it was
-unfoldable pub blockLeft : Voices Held → Settings → State → List ℤ → List ℤ
-blockLeft v x s block = cond (isTaken (cycledOf v x s (length block) .answer)) (blockOf v x (dueOf (holdsOf s)) (holdsOf s .plays)) block

@@ -1,4 +1,4 @@
-// The work of every call, on the state that it changes and on lent code (documents 01 and 02).
+// The work of every call but the cycle, on the state that it changes (documents 01 and 02).
 use answer::Answer;
 use doors::Handed;
 use kept_orchestra::Instrument;
@@ -6,20 +6,15 @@ use notes::NoteEnd;
 use notes::NoteLabel;
 use notes::NoteOrigin;
 use sixteen_notes::Notes;
+use state::Playing;
 use state::State;
-use steps::Playing;
-use steps::Settings;
 use waiting::Queue;
 ghost use mathlib.Core.Path.{_≡_};
-ghost use mathlib.Core.Bool.{cond};
 ghost use lib.ListN.{length, take};
-ghost use Rattle.answer.specs.declared.Answer.the-variants.{Taken, Ended};
 ghost use Rattle.bursts.specs.inside.Reading.{burstOf};
-ghost use Rattle.kept_voices.specs.Voices.{voices};
 ghost use Rattle.doors.specs.Doors.{scoreIn};
 ghost use Rattle.burst_entrance.specs.Singly.{areaIn};
-ghost use Rattle.steps.specs.Steps.{settingsIn};
-ghost use Rattle.calls.specs.OnState.{startState, broughtOf, sentOf, pressedOf, cycledOf, blockLeft};
+ghost use Rattle.calls.specs.OnState.{startState, broughtOf, sentOf, pressedOf};
 
 // What a call at any door leaves; `line` is the number of the line that a refusal is about.
 pub struct Brought {
@@ -35,14 +30,11 @@ pub struct Received {
     pub units: usize,
 }
 
-// What a call at the keyboard or a cycle leaves.
+// What a call at the keyboard, or a cycle, leaves.
 pub struct Left {
     pub state: State,
     pub answer: Answer,
 }
-
-// How many samples a block has.
-const SAMPLES: usize = 320;
 
 // The state at a fresh start with a tempo; ended only where the start is refused.
 pub fn start(tempo: f32, ended: bool) -> State
@@ -129,16 +121,6 @@ pub fn receive_burst(
     }
 }
 
-// Nothing but an answer.
-fn unchanged(s: State, a: Answer) -> Left
-    ensures { λ r. ⌜ r ≡ record { state = s; answer = a } ⌝ }
-{
-    Left {
-        state: s,
-        answer: a,
-    }
-}
-
 // Bytes at the keyboard: all its note messages, or none of them.
 pub fn play_keys(mut s: State, bytes: &[u8]) -> Left
     ensures { λ r. ⌜ r ≡ pressedOf s (now (bytes .entry)) ⌝ }
@@ -157,39 +139,5 @@ pub fn play_keys(mut s: State, bytes: &[u8]) -> Left
     Left {
         state: s,
         answer: given,
-    }
-}
-
-// The answer of a cycle that ran: 9 where it met the end.
-fn after(ended: bool) -> Answer
-    ensures { λ r. ⌜ r ≡ cond ended Ended Taken ⌝ }
-{
-    if ended { Answer::Ended } else { Answer::Taken }
-}
-
-// A cycle of sound into a block of 320 samples.
-pub fn cycle<'a>(
-    table: [Instrument; 8],
-    n: usize,
-    code: &'a [u64],
-    vals: &'a [f32],
-    s: State,
-    settings: Settings,
-    block: &mut [i16],
-) -> Left
-    ensures state { λ r. ⌜ r ≡ cycledOf (voices (take n table) (now (code .entry)) (now (vals .entry))) (settingsIn settings) s (length (now (block .entry))) ⌝ }
-    ensures block { λ r. ⌜ now (block .exit) ≡ blockLeft (voices (take n table) (now (code .entry)) (now (vals .entry))) (settingsIn settings) s (now (block .entry)) ⌝ }
-{
-    let over = s.playing.ended;
-    if block.len() != SAMPLES {
-        return unchanged(s, Answer::BlockLength);
-    }
-    if over {
-        return unchanged(s, Answer::Ended);
-    }
-    let next = cycle::one_cycle(table, n, code, vals, s, settings, block);
-    Left {
-        state: next,
-        answer: after(next.playing.ended),
     }
 }

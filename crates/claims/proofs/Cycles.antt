@@ -26,11 +26,12 @@ use Rattle.kept_voices.specs.Voices.{Held}
 use Rattle.sixteen_notes.specs.Notes.{notesIn}
 use Rattle.one_note.specs.OneNote.{noteOf, structOf}
 use Rattle.sixteen_notes.proofs.Steps.{length-each}
-use Rattle.steps.specs.Steps.{playsOf, laidOver, advanced}
-use Rattle.steps.specs.declared.Playing.{Playing}
+use Rattle.state.specs.Playing.{playsOf}
+use Rattle.steps.specs.Steps.{laidOver, advanced}
+use Rattle.state.specs.declared.Playing.{Playing}
 use Rattle.state.specs.States.{stopped, queueAfter}
 use Rattle.cycle.specs.OneCycle as oneCycle
-use Rattle.calls.specs.OnState.{cycledOf, blockLeft}
+use Rattle.cycle.specs.IntoBlock.{cycledOf, blockLeft}
 use Rattle.calls.specs.declared.Left.{Left}
 use Rattle.panel.specs.State.{voicesOf, holdsOf, settingsIn, withState, endedOf}
 use Rattle.panel.specs.Calls.{cycleOf, blockAfter}

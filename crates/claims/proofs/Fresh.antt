@@ -36,7 +36,8 @@ use Rattle.loader_claims.specs.Claims.{StandsFor}
 use Rattle.loader_claims.proofs.Loaded.{loaded, taken-only}
 use Rattle.keyboard.specs.Keyboard.{noMessages}
 use Rattle.calls.specs.OnState as onState
-use Rattle.calls.specs.OnState.{pressedOf, cycledOf, blockLeft}
+use Rattle.cycle.specs.IntoBlock.{cycledOf, blockLeft}
+use Rattle.calls.specs.OnState.{pressedOf}
 use Rattle.calls.specs.declared.Left.{Left}
 use Rattle.panel.specs.State.{panelAt, holdsOf, withState}
 use Rattle.fresh_start.specs.Starting.{hasChosen, startOf, refusedStart, startingOf}

@@ -1,3 +1,4 @@
 pub mod Stepping
 pub mod Samples
 pub mod Resting
+pub mod Calling

@@ -13,14 +13,15 @@ use Rattle.score_line.specs.declared.Line.{Line}
 use Rattle.players.specs.Lists.{fold, keep, each, over}
 use Rattle.players.specs.Cycle.{Voices, positionLimit, ordered, anyEnd, lastTempo, started, controlled, afterMessages, runFrom, runAll}
 use Rattle.players.specs.Holds.{Settings, Due, dueAt, laterThan, dueOf, endsBy, startedOf, soundsOf, bandOf, played}
-use Rattle.players.specs.inside.Holds.{capped}
+use Rattle.players.specs.inside.Holds.{capped, mostCounted}
 use Rattle.players.proofs.Lists.{cond-false}
 use Rattle.waiting.specs.Admission.{waitingIn}
 use Rattle.waiting.proofs.Resting.{none-acts, all-stay}
 use Rattle.kept_voices.specs.Voices.{Held}
 use Rattle.sixteen_notes.proofs.Steps.{over-self}
-use Rattle.steps.specs.Steps.{playsOf, advanced}
-use Rattle.steps.specs.declared.Playing.{Playing}
+use Rattle.state.specs.Playing.{playsOf}
+use Rattle.steps.specs.Steps.{advanced}
+use Rattle.state.specs.declared.Playing.{Playing}
 use Rattle.state.specs.States.{holdsOf, endsNow, queueAfter, restsNow, restedOf, silence}
 use Rattle.state.specs.declared.State.{State}
 use Rattle.state.proofs.Ways.{Rest, rest-facts}
@@ -35,7 +36,7 @@ module _ (v : Voices Held) (x : Settings) where
       record { notes = record { notes = p .notes .notes; count = k }; position = p .position; tempo = p .tempo; missed = p .missed; ended = p .ended }
 
   abbrev on : Playing → Playing
-  on p = record { notes = p .notes; position = p .position + cycleIn (p .tempo); tempo = p .tempo; missed = min (p .missed + 0) 18446744073709551615; ended = false }
+  on p = record { notes = p .notes; position = p .position + cycleIn (p .tempo); tempo = p .tempo; missed = min (p .missed + 0) mostCounted; ended = false }
 
   plays-here : (p : Playing) → advanced v x none (counted p 0) ≡ on (counted p 0)
   unfolding advanced capped played bandOf soundsOf startedOf started controlled afterMessages fold runAll runFrom keep each lastTempo

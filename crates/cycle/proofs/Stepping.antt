@@ -17,8 +17,9 @@ use Rattle.waiting.specs.declared.Queue.{Queue}
 use Rattle.keyboard.specs.Keyboard.{messagesIn}
 use Rattle.keyboard.specs.declared.Messages.{Messages}
 use Rattle.kept_voices.specs.Voices.{Held}
-use Rattle.steps.specs.Steps.{playsOf, advanced}
-use Rattle.steps.specs.declared.Playing.{Playing}
+use Rattle.state.specs.Playing.{playsOf}
+use Rattle.steps.specs.Steps.{advanced}
+use Rattle.state.specs.declared.Playing.{Playing}
 use Rattle.state.specs.States.{holdsOf, endsNow, stopped, queueAfter, usedOf}
 use Rattle.state.specs.declared.State.{State}
 use Rattle.cycle.specs.OneCycle.{playedOf, stateAfter, blockAfter}

@@ -1,1 +1,2 @@
 pub mod OneCycle
+pub mod IntoBlock

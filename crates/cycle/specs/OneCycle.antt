@@ -6,7 +6,8 @@ use Rattle.limiter.specs.Block.{limited}
 use Rattle.players.specs.Cycle.{Voices}
 use Rattle.players.specs.Holds.{Settings, dueOf, bandOf}
 use Rattle.kept_voices.specs.Voices.{Held}
-use Rattle.steps.specs.Steps.{playsOf, advanced}
+use Rattle.state.specs.Playing.{playsOf}
+use Rattle.steps.specs.Steps.{advanced}
 use Rattle.state.specs.States.{holdsOf, endsNow, stopped, queueAfter, usedOf}
 use Rattle.state.specs.declared.State.{State}
 

@@ -19,7 +19,8 @@ use Rattle.entrances.specs.declared.Pushed.{Pushed}
 use Rattle.panel.specs.declared.Brought.{Brought}
 use Rattle.bursts.specs.inside.Reading.{burstOf}
 use Rattle.calls.specs.OnState as onState
-use Rattle.calls.specs.OnState.{sentOf, pressedOf, cycledOf}
+use Rattle.cycle.specs.IntoBlock.{cycledOf}
+use Rattle.calls.specs.OnState.{sentOf, pressedOf}
 use Rattle.calls.specs.declared.Brought.{Brought as BroughtIn}
 use Rattle.calls.specs.declared.Received.{Received as ReceivedIn}
 use Rattle.calls.specs.declared.Left.{Left}

@@ -9,7 +9,8 @@ use Rattle.players.specs.Holds.{sixty}
 use Rattle.players.specs.Calls.{Door, mustBeTimed, reads}
 use Rattle.burst_entrance.specs.Singly.{areaIn}
 use Rattle.calls.specs.OnState as onState
-use Rattle.calls.specs.OnState.{sentOf, pressedOf, cycledOf, blockLeft}
+use Rattle.cycle.specs.IntoBlock.{cycledOf, blockLeft}
+use Rattle.calls.specs.OnState.{sentOf, pressedOf}
 use Rattle.panel.specs.State.{tableOf, voicesOf, settingsIn, withState, panelAt}
 use Rattle.panel.specs.declared.Panel.{Panel}
 use Rattle.fresh_start.specs.Starting.{startingOf}

@@ -5,8 +5,8 @@ use kept_orchestra::Instrument;
 use kept_orchestra::Program;
 use operations::CODE;
 use operations::PROGRAM;
+use state::Settings;
 use state::State;
-use steps::Settings;
 ghost use mathlib.Core.Path.{_≡_};
 ghost use lib.ListN.{length};
 ghost use Rattle.players.specs.Calls.{stick, unit, keypad, text};
@@ -165,7 +165,7 @@ impl Core {
         let table = self.table;
         let state = self.state;
         let settings = self.settings;
-        let r = calls::cycle(table, self.count, code, vals, state, settings, block);
+        let r = cycle::into_block(table, self.count, code, vals, state, settings, block);
         let left = r.state;
         let given = r.answer;
         self.state = left;
@@ -307,7 +307,7 @@ impl Panel {
             ceiling: self.ceiling,
             chosen: self.chosen,
         };
-        let r = calls::cycle(
+        let r = cycle::into_block(
             table,
             self.program.count,
             &self.program.code,

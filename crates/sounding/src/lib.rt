@@ -266,4 +266,3 @@ pub fn run_notes<'a>(
     }
     a
 }
-

@@ -12,6 +12,7 @@ use Rattle.score_line.specs.declared.Line.{Line}
 use Rattle.players.specs.Lists.{keep, over}
 use Rattle.players.specs.Cycle.{positionLimit, isDue, anyEnd}
 use Rattle.players.specs.Holds.{laterThan}
+use Rattle.players.specs.inside.Holds.{mostCounted}
 use Rattle.waiting.specs.Waiting.{anyDue}
 use Rattle.waiting.specs.Admission.{waitingIn}
 use Rattle.waiting.specs.declared.Queue.{Queue}
@@ -95,7 +96,7 @@ module _ (s : State) where
 
 -- from its parts
 pub rested-law : (s : State) (step : ℕ) → step ≡ cycleIn (s .playing .tempo) → (waiting : ℕ) → waiting ≡ min (s .queue .count) 64
-    → (missed : ℕ) → missed ≡ min (s .playing .missed + 0) 18446744073709551615
+    → (missed : ℕ) → missed ≡ min (s .playing .missed + 0) mostCounted
     → _≡_ {A = State} (record {
       queue = record { lines = s .queue .lines; count = waiting; ran = true; last = s .playing .position };
       messages = s .messages;

@@ -9,14 +9,15 @@ use Rattle.timebase.specs.Time.{cycleIn}
 use Rattle.players.specs.Lists.{over}
 use Rattle.players.specs.Cycle.{samples, positionLimit}
 use Rattle.players.specs.Holds.{Holds, laterThan, dueOf, endsBy}
+use Rattle.players.specs.inside.Holds.{mostCounted}
 use Rattle.waiting.specs.Waiting.{anyDue}
 use Rattle.waiting.specs.Admission.{mostLines, waitingIn}
 use Rattle.waiting.specs.declared.Queue.{Queue}
 use Rattle.keyboard.specs.Keyboard.{messagesIn}
 use Rattle.keyboard.specs.declared.Messages.{Messages}
 use Rattle.kept_voices.specs.Voices.{Held}
-use Rattle.steps.specs.Steps.{playsOf}
-use Rattle.steps.specs.declared.Playing.{Playing}
+use Rattle.state.specs.Playing.{playsOf}
+use Rattle.state.specs.declared.Playing.{Playing}
 use Rattle.state.specs.declared.State.{State}
 
 -- what waits and what plays, as lists
@@ -54,7 +55,7 @@ restedOf x =
     record {
       queue = record { lines = x .queue .lines; count = min (x .queue .count) mostLines; ran = true; last = p .position };
       messages = x .messages;
-      playing = record { notes = p .notes; position = p .position + cycleIn (p .tempo); tempo = p .tempo; missed = min (p .missed + 0) 18446744073709551615; ended = false };
+      playing = record { notes = p .notes; position = p .position + cycleIn (p .tempo); tempo = p .tempo; missed = min (p .missed + 0) mostCounted; ended = false };
     }
 
 -- a mix that nothing adds to

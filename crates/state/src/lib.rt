@@ -1,17 +1,33 @@
 // The state that the calls change, and what a cycle does with it beside its steps: whether it ends the piece, what waits afterwards, and a
 // cycle of rest (document 01, "One cycle, in order").
 use keyboard::Messages;
-use steps::Playing;
+use sixteen_notes::Notes;
 use waiting::Lines;
 use waiting::Queue;
 ghost use mathlib.Core.Path.{_≡_};
 ghost use mathlib.Core.Bool.{_||_};
-ghost use Prim.Native.Nat.{_≤_};
+ghost use Prim.Native.Nat.{_≤_, _+_, min};
 ghost use lib.Dec.{ltb};
 ghost use lib.ListN.{take};
 ghost use Rattle.limiter.specs.Block.{limited};
 ghost use Rattle.players.specs.Cycle.{positionLimit, anyEnd};
+ghost use Rattle.players.specs.inside.Holds.{mostCounted};
 ghost use Rattle.state.specs.States.{queueAfter, usedOf, restsNow, restedOf, silence};
+
+// What plays: the sounding notes, position, tempo, missed notes and the mark of the end.
+pub struct Playing {
+    pub notes: Notes,
+    pub position: u64,
+    pub tempo: f32,
+    pub missed: u64,
+    pub ended: bool,
+}
+
+// What a fresh start fixes: the ceiling, and the instrument of the keyboard's notes by its name.
+pub struct Settings {
+    pub ceiling: u16,
+    pub chosen: u16,
+}
 
 // What the calls change: the waiting lines and note messages, and what plays.
 pub struct State {
@@ -25,6 +41,21 @@ const POSITION_LIMIT: u64 = 1000000000000;
 
 // Most lines that wait.
 const MOST_LINES: usize = 64;
+
+// The largest count.
+const MOST_COUNTED: u64 = 18446744073709551615;
+
+// The count of missed notes stops at the largest number.
+pub fn more_missed(missed: u64, more: usize) -> u64
+    ensures { λ r. ⌜ r ≡ min (missed + more) mostCounted ⌝ }
+{
+    let m = more as u64;
+    if missed <= MOST_COUNTED - m {
+        missed + m
+    } else {
+        MOST_COUNTED
+    }
+}
 
 // Step 1: an end line is due, or the position is past the limit.
 pub fn is_over(position: u64, due: Lines) -> bool
@@ -94,7 +125,7 @@ pub fn rested(mut s: State, ceiling: u16, block: &mut [i16]) -> State
     let step = timebase::ticks_per_cycle(s.playing.tempo);
     let next = position + step;
     let waiting = sixteen_notes::within(s.queue.count, MOST_LINES);
-    let missed = steps::more_missed(s.playing.missed, 0);
+    let missed = more_missed(s.playing.missed, 0);
     s.queue.count = waiting;
     s.queue.ran = true;
     s.queue.last = position;

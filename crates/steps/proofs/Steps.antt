@@ -15,7 +15,7 @@ use Rattle.players.specs.Lists.{each, keep, over}
 use Rattle.players.specs.Cycle.{Voices, Band, Started, positionLimit, lastTempo, started, controlled, afterMessages, runAll, goesOn}
 use Rattle.players.specs.Cycle as cycle
 use Rattle.players.specs.Holds.{Due, settingsOf, sixteen, startedOf, soundsOf, bandOf, played}
-use Rattle.players.specs.inside.Holds.{capped}
+use Rattle.players.specs.inside.Holds.{capped, mostCounted}
 use Rattle.kept_voices.specs.Voices.{Held, voices}
 use Rattle.sixteen_notes.specs.Notes.{notesIn, startedIn as startedNotes, startedOver}
 use Rattle.sounding.specs.Controls.{controlledAll}
@@ -24,9 +24,10 @@ use Rattle.kept_orchestra.specs.declared.Instrument.{Instrument}
 use Rattle.sixteen_notes.specs.declared.Started.{Started as Starts}
 use Rattle.sixteen_notes.proofs.Steps.{length-each, started-are}
 use Rattle.sounding.proofs.Band.{control-all, going as going-as}
-use Rattle.steps.specs.Steps.{playsOf, advanced, performedOf}
+use Rattle.state.specs.Playing.{playsOf}
+use Rattle.steps.specs.Steps.{advanced, performedOf}
 use Rattle.steps.specs.declared.Performed.{Performed}
-use Rattle.steps.specs.declared.Playing.{Playing}
+use Rattle.state.specs.declared.Playing.{Playing}
 
 module _ (table : List Instrument) (code : List ℕ) (vals : List Float) (ceiling chosen : ℕ) (p : Playing) (due : Due) where
   abbrev v : Voices Held
@@ -73,7 +74,7 @@ module _ (table : List Instrument) (code : List ℕ) (vals : List Float) (ceilin
     pub perform-law : (hn : List Note) (hc : ℕ) → notesIn hn hc ≡ runAll v (notesIn kn kc) .notes
         → (gn : List Note) (gc : ℕ) → gc ≡ length (keep (goesOnIn (p .position)) (take hc hn)) → gn ≡ over (keep (goesOnIn (p .position)) (take hc hn)) hn
         → (out : List Note) → out ≡ over (take gc gn) old
-        → (total : ℕ) → total ≡ min (p .missed + km) 18446744073709551615
+        → (total : ℕ) → total ≡ min (p .missed + km) mostCounted
         → record { notes = record { notes = out; count = gc }; missed = total } ≡ performedOf v (settingsOf ceiling chosen) due p
     unfolding performedOf advanced capped played
     perform-law hn hc h gn gc eg en out eo total em =
@@ -88,7 +89,7 @@ module _ (table : List Instrument) (code : List ℕ) (vals : List Float) (ceilin
             notes = (eo ∙ ap (λ (ns : List Note). over ns old) (t ∙ k)) i;
             count = (eg ∙ ap length k ∙ length-each structOf going) i;
           };
-          missed = (em ∙ ap (λ (s : Started Held). min (p .missed + s .missed) 18446744073709551615) e) i;
+          missed = (em ∙ ap (λ (s : Started Held). min (p .missed + s .missed) mostCounted) e) i;
         }
 
   -- what plays afterwards, from its parts

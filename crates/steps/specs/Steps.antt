@@ -4,40 +4,18 @@ use lib.ListN.{length, take}
 use Rattle.keyboard.specs.Keyboard.{messagesIn}
 use Rattle.players.specs.Lists.{each, over}
 use Rattle.players.specs.Cycle.{Voices}
-use Rattle.players.specs.Cycle as cycle
-use Rattle.players.specs.Holds.{Settings, settingsOf, Due, Plays, played}
+use Rattle.players.specs.Holds.{Settings, Due, Plays, played}
 use Rattle.players.specs.inside.Holds.{capped}
 use Rattle.kept_voices.specs.Voices.{Held}
-use Rattle.sixteen_notes.specs.Notes.{notesIn}
 use Rattle.one_note.specs.OneNote.{structOf}
-use Rattle.sixteen_notes.specs.declared.Notes.{Notes}
 use Rattle.steps.specs.declared.Due.{Due as DueNow}
-use Rattle.steps.specs.declared.Settings.{Settings as Fixed}
 use Rattle.steps.specs.declared.Performed.{Performed}
-use Rattle.steps.specs.declared.Playing.{Playing}
-
--- the notes that sound
-abbrev pub soundingIn : Notes → List (cycle.Note Held)
-soundingIn n = notesIn (n .notes) (n .count)
-
--- what plays, its notes as a list
-abbrev pub playsOf : Playing → Plays Held
-playsOf p =
-    record {
-      notes = soundingIn (p .notes);
-      position = p .position;
-      tempo = p .tempo;
-      counts = record { missed = p .missed };
-      ended = p .ended;
-    }
+use Rattle.state.specs.Playing.{playsOf}
+use Rattle.state.specs.declared.Playing.{Playing}
 
 -- what acts: the first lines of an array, and the note messages that wait
 abbrev pub dueIn : DueNow → Due
 dueIn due = record { lines = take (due .lines .count) (due .lines .lines); messages = messagesIn (due .messages) }
-
--- what a fresh start fixed
-abbrev pub settingsIn : Fixed → Settings
-settingsIn s = settingsOf (s .ceiling) (s .chosen)
 
 -- what plays now, laid over what played before: the array keeps what the notes do not reach
 abbrev pub laidOver : Playing → Plays Held → Playing

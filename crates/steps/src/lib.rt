@@ -3,47 +3,23 @@ use kept_orchestra::Instrument;
 use keyboard::Messages;
 use sixteen_notes::Notes;
 use sixteen_notes::Started;
+use state::Playing;
+use state::Settings;
 use waiting::Lines;
 ghost use mathlib.Core.Path.{_≡_};
-ghost use Prim.Native.Nat.{_≤_, _+_, min};
+ghost use Prim.Native.Nat.{_≤_};
 ghost use lib.ListN.{take};
 ghost use Rattle.limiter.specs.Block.{limited};
 ghost use Rattle.players.specs.Cycle.{positionLimit};
 ghost use Rattle.players.specs.Holds.{bandOf};
 ghost use Rattle.kept_voices.specs.Voices.{voices};
-ghost use Rattle.steps.specs.Steps.{playsOf, dueIn, settingsIn, performedOf, advanced};
-
-// What plays: the sounding notes, position, tempo, missed notes and the mark of the end.
-pub struct Playing {
-    pub notes: Notes,
-    pub position: u64,
-    pub tempo: f32,
-    pub missed: u64,
-    pub ended: bool,
-}
-
-// What a fresh start fixes: the ceiling, and the instrument of the keyboard's notes by its name.
-pub struct Settings {
-    pub ceiling: u16,
-    pub chosen: u16,
-}
+ghost use Rattle.state.specs.Playing.{playsOf, settingsIn};
+ghost use Rattle.steps.specs.Steps.{dueIn, performedOf, advanced};
 
 // What acts in a cycle: the due lines, in order, and the note messages that wait.
 pub struct Due {
     pub lines: Lines,
     pub messages: Messages,
-}
-
-// The count of missed notes stops at the largest number.
-pub fn more_missed(missed: u64, more: usize) -> u64
-    ensures { λ r. ⌜ r ≡ min (missed + more) 18446744073709551615 ⌝ }
-{
-    let m = more as u64;
-    if missed <= 18446744073709551615 - m {
-        missed + m
-    } else {
-        18446744073709551615
-    }
 }
 
 // The notes that sound afterwards, and how many were missed so far.
@@ -123,7 +99,7 @@ fn perform<'a>(
             notes: out,
             count: g.count,
         },
-        missed: more_missed(p.missed, k.missed),
+        missed: state::more_missed(p.missed, k.missed),
     }
 }
 

@@ -1,5 +1,5 @@
 use borrow.Author.Needs.{needs}
-use Rattle.calls.proofs.Ways.{brings}
+use Rattle.calls.proofs.Calling.{brings}
 use Rattle.calls.proofs.bring.Statement.{statement}
 use Rattle.calls.proofs.bring.Tie as tie
 

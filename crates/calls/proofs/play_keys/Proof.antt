@@ -1,5 +1,5 @@
 use borrow.Author.Needs.{needs}
-use Rattle.calls.proofs.Ways.{keys-over, keys-in}
+use Rattle.calls.proofs.Calling.{keys-over, keys-in}
 use Rattle.calls.proofs.play_keys.Statement.{statement}
 use Rattle.calls.proofs.play_keys.Tie as tie
 

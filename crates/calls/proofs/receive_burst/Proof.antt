@@ -1,5 +1,5 @@
 use borrow.Author.Needs.{needs}
-use Rattle.calls.proofs.Ways.{sends}
+use Rattle.calls.proofs.Calling.{sends}
 use Rattle.calls.proofs.receive_burst.Statement.{statement}
 use Rattle.calls.proofs.receive_burst.Tie as tie
 

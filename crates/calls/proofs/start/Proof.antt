@@ -1,6 +1,6 @@
 use borrow.Author.Needs.{needs}
 use Rattle.calls.specs.OnState.{emptyNote}
-use Rattle.calls.proofs.Ways.{start-law}
+use Rattle.calls.proofs.Calling.{start-law}
 use Rattle.calls.proofs.start.Statement.{statement}
 use Rattle.calls.proofs.start.Tie as tie
 

@@ -5,9 +5,5 @@ use Rattle.keys.specs.Keys.{shared, loudnessOf}
 use Rattle.keys.proofs.loudness.Statement.{statement}
 use Rattle.keys.proofs.loudness.Tie as tie
 
-returns : tie.Need-returns
-unfolding loudnessOf shared ofBits ofInt
-returns c = (refl, search needs)
-
 pub loudness-spec : {M : Type 1} → statement M
-loudness-spec = tie.close (tie.spec (λ c. search needs) returns)
+loudness-spec = tie.close (tie.spec (λ c. search needs) (λ c. unfold loudnessOf shared ofBits ofInt in (refl, search needs)))

@@ -1,6 +1,10 @@
 -- What plays, in the code's numbers. Definitions only.
-use Prim.Native.Nat.{min}
+use Prim.Native.Nat.{ℕ, min}
 use Rattle.players.specs.Holds.{Plays}
+
+-- the largest count that a 64-bit number holds
+abbrev pub mostCounted : ℕ
+mostCounted = 18446744073709551615
 
 module _ {S : Type 0} where
   -- the count of missed notes as far as 64 bits go
@@ -10,6 +14,6 @@ module _ {S : Type 0} where
         notes = p .notes;
         position = p .position;
         tempo = p .tempo;
-        counts = record { missed = min (p .counts .missed) 18446744073709551615 };
+        counts = record { missed = min (p .counts .missed) mostCounted };
         ended = p .ended;
       }

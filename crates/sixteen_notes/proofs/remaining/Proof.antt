@@ -11,75 +11,24 @@ use Rattle.one_note.specs.OneNote.{goesOnIn}
 use Rattle.sixteen_notes.proofs.remaining.Statement.{statement}
 use Rattle.sixteen_notes.proofs.remaining.Tie as tie
 
-abbrev Inv-loop : tie.InvT-loop
-Inv-loop count position notes m a₀ k₀ i₀ a k i = (i ≤ m) × (m ≤ 16) × Packed (goesOnIn position) notes a k i
-
-abbrev μ-loop : tie.MeasureT-loop
-μ-loop count position notes m a₀ k₀ i₀ a k i = m - i
-
-within-requires : tie.Need-within-requires Inv-loop μ-loop
-within-requires c κs = tt
-
-loop-holds : tie.Need-loop-holds Inv-loop μ-loop
-loop-holds c = (omega (arith, c .within .ensures), omega (arith, c .within .ensures), packed-none _ _)
-
-mul-x : tie.Need-mul-x Inv-loop μ-loop
-mul-x c = omega arith
-
-array-copy-out-x : tie.Need-array-copy-out-x Inv-loop μ-loop
-array-copy-out-x c = omega arith
-
-goes-on-requires : tie.Need-goes-on-requires Inv-loop μ-loop
-goes-on-requires c κs = tt
-
-mul-a : tie.Need-mul-a Inv-loop μ-loop
-mul-a c = omega arith
-
-array-set-from-a : tie.Need-array-set-from-a Inv-loop μ-loop
-array-set-from-a c = omega arith
-
-add-k : tie.Need-add-k Inv-loop μ-loop
-add-k c = omega arith
-
-add-i : tie.Need-add-i Inv-loop μ-loop
-add-i c = omega arith
-
-loop-less : tie.Need-loop-less Inv-loop μ-loop
-loop-less c = omega arith
-
-loop-again : tie.Need-loop-again Inv-loop μ-loop
-loop-again c = let s = c .before .before .before .before .before .before in
+pub remaining-spec : {M : Type 1} → statement M
+remaining-spec =
+    tie.close (tie.spec
+    (λ count position notes m a₀ k₀ i₀ a k i. (i ≤ m) × (m ≤ 16) × Packed (goesOnIn position) notes a k i)
+    (λ count position notes m a₀ k₀ i₀ a k i. m - i) (λ c κs. tt)
+    (λ c. (omega (arith, c .within .ensures), omega (arith, c .within .ensures), packed-none _ _))
+    (λ c. omega arith) (λ c. omega arith) (λ c κs. tt) (λ c. omega arith) (λ c. omega arith) (λ c. omega arith) (λ c. omega arith) (λ c. omega arith)
+    (λ c. let s = c .before .before .before .before .before .before in
     let at = c .before .before .before .before .loop in
     let h : at .i < length (s .args .t1) = omega (arith, s .good .0 .1 .0 .1) in
     let p = at .inv .2 in
     ⊎-elim
     (λ w. (omega arith, at .inv .1, rw (w .1, w .2) (packed-yes _ (s .args .t1) _ _ _ _ h (sym (c .before .goes-on .ensures) ∙ w .0 .taken) p)))
     (λ w. (omega arith, at .inv .1, rw (w .1, w .2) (packed-no _ (s .args .t1) _ _ _ _ h (sym (c .before .goes-on .ensures) ∙ w .0 .left) p)))
-    (c .if1 .came)
-
-returns : tie.Need-returns Inv-loop μ-loop
-returns c = let s = c .before .before .before in
+    (c .if1 .came))
+    (λ c. let s = c .before .before .before in
     let e = take-end (s .args .t1) (s .args .count) 16 _ (s .good .0 .1 .0 .1) _ (c .before .before .within .ensures) (c .before .loop .inv .0) (c .loop-test .left) in (
-      c .before .loop .inv .2 .count ∙ ap (λ (l : List Note). length (keep (goesOnIn (s .args .position)) l)) e,
-      c .before .loop .inv .2 .held ∙ ap (λ (l : List Note). over (keep (goesOnIn (s .args .position)) l) (s .args .t1)) e,
-      omega arith,
-    )
-
-pub remaining-spec : {M : Type 1} → statement M
-remaining-spec =
-    tie.close
-    (tie.spec
-    Inv-loop
-    μ-loop
-    within-requires
-    loop-holds
-    mul-x
-    array-copy-out-x
-    goes-on-requires
-    mul-a
-    array-set-from-a
-    add-k
-    add-i
-    loop-less
-    loop-again
-    returns)
+    c .before .loop .inv .2 .count ∙ ap (λ (l : List Note). length (keep (goesOnIn (s .args .position)) l)) e,
+    c .before .loop .inv .2 .held ∙ ap (λ (l : List Note). over (keep (goesOnIn (s .args .position)) l) (s .args .t1)) e,
+    omega arith,
+    )))

@@ -19,92 +19,33 @@ use Rattle.sounding.proofs.Band.{Running, running-none, running-step}
 use Rattle.sounding.proofs.run_notes.Statement.{statement}
 use Rattle.sounding.proofs.run_notes.Tie as tie
 
-abbrev Inv-loop : tie.InvT-loop
-Inv-loop table n code vals count mix₀ notes m room₀ a₀ j₀ mix room a j =
-    (j ≤ m) × (m ≤ 16) × Running (take n table) code vals notes a mix₀ mix j × (numbersIn room ≡ numbersIn (roomOf vals))
-
-abbrev μ-loop : tie.MeasureT-loop
-μ-loop table n code vals count mix₀ notes m room₀ a₀ j₀ mix room a j = m - j
-
-within-requires : tie.Need-within-requires Inv-loop μ-loop
-within-requires c κs = tt
-
-room-requires : tie.Need-room-requires Inv-loop μ-loop
-room-requires c κs = search needs
-
-loop-holds : tie.Need-loop-holds Inv-loop μ-loop
-loop-holds c =
-    let w = c .before .within .ensures in
-    (omega (arith, w), omega (arith, w), running-none _ _ _ _ _ (c .before .before .before .before .before .good .1 .1 .1 .1 .0 .1 .0 .1), ap numbersIn (c .room .ensures))
-
-mul-x : tie.Need-mul-x Inv-loop μ-loop
-mul-x c = omega arith
-
-array-copy-out-x : tie.Need-array-copy-out-x Inv-loop μ-loop
-array-copy-out-x c = omega arith
-
-find-requires : tie.Need-find-requires Inv-loop μ-loop
-find-requires c κs = tt
-
-run-note-requires : tie.Need-run-note-requires Inv-loop μ-loop
-run-note-requires c κs = search needs
-
-mul-a : tie.Need-mul-a Inv-loop μ-loop
-mul-a c = omega arith
-
-array-set-from-a : tie.Need-array-set-from-a Inv-loop μ-loop
-array-set-from-a c = omega arith
-
-add-j : tie.Need-add-j Inv-loop μ-loop
-add-j c = omega arith
-
-loop-less : tie.Need-loop-less Inv-loop μ-loop
-loop-less c = omega arith
-
-loop-again : tie.Need-loop-again Inv-loop μ-loop
-loop-again c =
-    let s = c .before .before .before .before .before .before .before .before .before .before .before .before .before .before .before in
+pub run-notes-spec : {M : Type 1} → statement M
+run-notes-spec =
+    tie.close (tie.spec
+    (λ table n code vals count mix₀ notes m room₀ a₀ j₀ mix room a j. (j ≤ m) × (m ≤ 16) × Running (take n table) code vals notes a mix₀ mix j × (numbersIn room ≡ numbersIn (roomOf vals)))
+    (λ table n code vals count mix₀ notes m room₀ a₀ j₀ mix room a j. m - j)
+    (λ c κs. tt) (λ c κs. search needs)
+    (λ c. let w = c .before .within .ensures in
+    (omega (arith, w), omega (arith, w), running-none _ _ _ _ _ (c .before .before .before .before .before .good .1 .1 .1 .1 .0 .1 .0 .1), ap numbersIn (c .room .ensures)))
+    (λ c. omega arith) (λ c. omega arith) (λ c κs. tt) (λ c κs. search needs) (λ c. omega arith) (λ c. omega arith) (λ c. omega arith)
+    (λ c. omega arith)
+    (λ c. let s = c .before .before .before .before .before .before .before .before .before .before .before .before .before .before .before in
     let at = c .before .before .before .before .before .before .before .before .before .loop in
     let ran = c .before .before .run-note .ensures in
     let e = at .inv .3 in (
-      omega arith,
-      at .inv .1,
-      running-step _ _ _ _ _ _ _ _ _ (s .good .1 .1 .1 .1 .0 .1 .0 .1) (omega arith) _ (c .before .before .before .before .before .before .find .ensures) _ (ran .0 ∙ ran-here _ _ _ _ _ _ e) _ (ran .1 .0 ∙ mixed-here _ _ _ _ _ _ e) (at .inv .2),
-      ran .1 .1 ∙ e,
-    )
-
-same-length : tie.Need-same-length Inv-loop μ-loop
-same-length c = c .before .loop .inv .2 .samples
-
-returns : tie.Need-returns Inv-loop μ-loop
-returns c = let s = c .before .before .before .before .before .before .before in
+    omega arith,
+    at .inv .1,
+    running-step _ _ _ _ _ _ _ _ _ (s .good .1 .1 .1 .1 .0 .1 .0 .1) (omega arith) _ (c .before .before .before .before .before .before .find .ensures) _ (ran .0 ∙ ran-here _ _ _ _ _ _ e) _ (ran .1 .0 ∙ mixed-here _ _ _ _ _ _ e) (at .inv .2),
+    ran .1 .1 ∙ e,
+    ))
+    (λ c. c .before .loop .inv .2 .samples)
+    (λ c. let s = c .before .before .before .before .before .before .before in
     let r = c .before .loop .inv .2 in
     let w = c .before .before .before .within .ensures in
     let i = c .before .loop .inv .0 in
     let v = voices (take (s .args .n) (s .args .table)) (s .args .code .now) (s .args .vals .now) in
     let e : runFrom v (notesIn (s .args .t5) (c .before .loop .j)) (s .args .mix .now) ≡ runFrom v (notesIn (s .args .t5) (s .args .count)) (s .args .mix .now) =
     ap (λ (l : List Note). runFrom v (each noteOf l) (s .args .mix .now)) (take-end (s .args .t5) (s .args .count) 16 _ (s .good .1 .1 .1 .1 .0 .1 .0 .1) _ w i (c .loop-test .left)) in (
-      laid-notes (c .before .loop .a) (s .args .t5) (c .before .loop .j) _ (omega (arith, r .long, w, i)) (ap (λ (b : Band Held). b .notes) (r .are ∙ e)) (r .behind) .1,
-      ap (λ (b : Band Held). b .mix) (r .are ∙ e),
-    )
-
-pub run-notes-spec : {M : Type 1} → statement M
-run-notes-spec =
-    tie.close
-    (tie.spec
-    Inv-loop
-    μ-loop
-    within-requires
-    room-requires
-    loop-holds
-    mul-x
-    array-copy-out-x
-    find-requires
-    run-note-requires
-    mul-a
-    array-set-from-a
-    add-j
-    loop-less
-    loop-again
-    same-length
-    returns)
+    laid-notes (c .before .loop .a) (s .args .t5) (c .before .loop .j) _ (omega (arith, r .long, w, i)) (ap (λ (b : Band Held). b .notes) (r .are ∙ e)) (r .behind) .1,
+    ap (λ (b : Band Held). b .mix) (r .are ∙ e),
+    )))

@@ -3,11 +3,5 @@ use Rattle.state.proofs.Ways.{keep-law}
 use Rattle.state.proofs.keep_waiting.Statement.{statement}
 use Rattle.state.proofs.keep_waiting.Tie as tie
 
-kept-requires : tie.Need-kept-requires
-kept-requires c κs = search needs
-
-returns : tie.Need-returns
-returns c = keep-law _ _ _ _ (c .before .kept .ensures .0) (c .before .kept .ensures .1)
-
 pub keep-waiting-spec : {M : Type 1} → statement M
-keep-waiting-spec = tie.close (tie.spec kept-requires returns)
+keep-waiting-spec = tie.close (tie.spec (λ c κs. search needs) (λ c. keep-law _ _ _ _ (c .before .kept .ensures .0) (c .before .kept .ensures .1)))

@@ -1,13 +1,13 @@
 use mathlib.Core.Path.{ap, sym, _∙_}
 use Rattle.answer.specs.Numbers.{isTaken}
 use Rattle.calls.specs.declared.Left.{Left}
 use borrow.Author.Needs.{needs}
-use Rattle.calls.proofs.Ways.{cycle-off, cycle-over, cycle-ran, block-stays, block-ran}
-use Rattle.calls.proofs.cycle.Statement.{statement}
-use Rattle.calls.proofs.cycle.Tie as tie
+use Rattle.cycle.proofs.Calling.{cycle-off, cycle-over, cycle-ran, block-stays, block-ran}
+use Rattle.cycle.proofs.into_block.Statement.{statement}
+use Rattle.cycle.proofs.into_block.Tie as tie
 
-pub cycle-spec : {M : Type 1} → statement M
-cycle-spec =
+pub into-block-spec : {M : Type 1} → statement M
+into-block-spec =
     tie.close (tie.spec
     (λ c κs. search needs)
     (λ c. let e = cycle-off _ _ _ _ _ (c .before .if1 .taken) _ (c .unchanged .ensures) in
