@@ -1,132 +1,41 @@
 -- What reading meets in the fields of any line, lawful or not. Assumes nothing.
-use Prim.Native.Nat.{ℕ, zero, suc, _+_, _≤_, min as lesser}
+use Prim.Native.Nat.{ℕ, _+_, _≤_}
 use mathlib.Core.Path.{_≡_, refl, sym, ap, ap₂, _∙_, subst}
-use mathlib.Core.Bool.{Bool, _&&_, cond}
-use mathlib.Core.List.{List, [], _∷_, _++_, append-nil}
+use mathlib.Core.Bool.{Bool, false, cond}
+use mathlib.Core.List.{List, [], _++_, append-nil}
 use native.Mathlib.Nat.{zero-add}
 use native.Mathlib.Omega.{arith}
-use borrow.Author.Tests.{eq-eqb}
-use lib.Dec.{T, eqb, leb→le, eqb→eq}
+use lib.Dec.{T}
 use lib.ListN.{length, take}
-use lib.Seq.{drop-at, length-take-le}
-use lib.Ieee.{Float, binary32, fits}
-use lib.Ieee.Bits.{toBits-lt}
-use lib.Ieee.Fits.{and-i, and-l, and-r}
-use Rattle.laws.proofs.Choice.{cond-true}
+use lib.Seq.{drop-at}
+use lib.Ieee.{Float}
+use lib.Ieee.Fits.{and-i}
+use Rattle.laws.proofs.Choice.{cond-true, cond-false}
 use Rattle.answer.specs.Numbers.{numberOf, isTaken}
 use Rattle.answer.specs.declared.Answer.{Answer}
 use Rattle.answer.specs.declared.Answer.the-variants as answer
 use Rattle.bitstream.specs.Fields.{farthest}
-use Rattle.formats.specs.Format.{Source, bitSource, keypadSource, Read, got, refused, andThen, Field, fieldBits, fieldWords, all}
+use Rattle.formats.specs.Format.{Source, bitSource, keypadSource, Read, got, refused, andThen, Field, fieldBits, fieldWords}
 use Rattle.formats.specs.Description.{format}
 use Rattle.formats.specs.declared.Fault.{Fault}
 use Rattle.formats.specs.declared.Fault.the-variants as fault
 use Rattle.formats.proofs.Gives.{Gives}
 use Rattle.formats.proofs.InBits.{bits-there}
 use Rattle.formats.proofs.InWords.{words-there, length-words}
-use Rattle.formats.proofs.Descriptions.{Raises, Every, Held, Fate, lawful-value, refused-value, law, fate}
-use Rattle.score_line.specs.LineFormat.{symbol, float, number, timed, when, label, Kind, instr, control, end, tempo, kind, labelled, body, counted, values, valuesOf, eventParts, kindOf, countOf, listOf, afterTime, Parts, parts, filled, partsOf, lineWith, padded, used, line, lawful}
+use Rattle.formats.proofs.Descriptions.{Fate, lawful-value, refused-value, law, fate}
+use Rattle.score_line.specs.LineFormat.{when, values, valuesOf, kindOf, countOf, listOf, Parts, parts, filled, partsOf, lineWith, padded, used, line, lawful}
 use Rattle.score_line.specs.Reading.{lineFrom, answerOf, refusedLine, lineRead, lineAt, lineInWords, wholeRun, keypadLine}
-use Rattle.score_line.specs.declared.When.{When}
-use Rattle.score_line.specs.declared.When.the-variants.{Timed, Untimed}
-use Rattle.score_line.specs.declared.Label.{Label}
-use Rattle.score_line.specs.declared.Label.the-variants.{Unlabelled, Labelled}
 use Rattle.score_line.specs.declared.Event.{Event}
 use Rattle.score_line.specs.declared.Event.the-variants.{Instr, Control, End, Tempo}
 use Rattle.score_line.specs.declared.Line.{Line}
 use Rattle.score_line.specs.declared.LineRead.{LineRead}
-use Rattle.score_line.specs.declared.Range.{Range}
-use Rattle.score_line.specs.declared.Range.the-variants as range
 use Rattle.line_writer.specs.Writing.{lineFields, lineBits, lineBefore, lineWords, lineFault}
 use Rattle.line_writer.specs.Claims.{taken, asRead, AnyRead, EveryLineRead, Meant, EveryMeant, FaultNumber, no-fault, out-of-range, too-many-values, FaultNumbers}
-use Rattle.line_writer.specs.Stored.{isSymbol, storedWhen, storedLabel, storedEvent, stored, meant}
-use Rattle.line_writer.proofs.LineLaw.{parts-proper, event-again, line-proper}
-use Rattle.line_writer.proofs.Proved.{length-line, before-append}
-
--- ---- a stored line is one that its fields hold
-
-symbol-held : (n : ℕ) → T (isSymbol n) → Held symbol n
-symbol-held n h = let m = leb→le n 65535 h in omega arith
-
-float-held : (r : Range) (x : Float) → T (fits binary32 x) → Held (float r) x
-unfolding float
-float-held r x h = (h, toBits-lt binary32 x h)
-
-when-held : (w : When) → T (storedWhen w) → Held when w
-unfolding when timed
-when-held Untimed h = (tt, tt)
-when-held (Timed late t) h = (tt, (tt, λ l. float-held range.Time t h))
-
-label-held : (l : Label) → T (storedLabel l) → Held label l
-unfolding label
-label-held Unlabelled h = (tt, tt)
-label-held (Labelled n) h = (tt, symbol-held n h)
-
-event-held : (e : Event) → T (storedEvent e) → Held (body (kindOf e)) (eventParts e .1)
-unfolding body labelled
-event-held (Instr l i d) h =
-    let r = and-r (storedLabel l) (isSymbol i && fits binary32 d) h in
-    (label-held l (and-l (storedLabel l) (isSymbol i && fits binary32 d) h), λ a. (symbol-held i (and-l (isSymbol i) (fits binary32 d) r), λ b. float-held range.Duration d (and-r (isSymbol i) (fits binary32 d) r)))
-event-held (Control l i d) h =
-    let r = and-r (isSymbol l) (isSymbol i && fits binary32 d) h in
-    (symbol-held l (and-l (isSymbol l) (isSymbol i && fits binary32 d) h), λ a. (symbol-held i (and-l (isSymbol i) (fits binary32 d) r), λ b. float-held range.Value d (and-r (isSymbol i) (fits binary32 d) r)))
-event-held End h = tt
-event-held (Tempo t) h = float-held range.Tempo t h
-
-floats-held : (n : ℕ) (xs : List Float) → T (all (fits binary32) xs) → Every (λ x. Held (float range.Value) x) (take n xs)
-floats-held zero xs h = tt
-floats-held (suc n) [] h = tt
-floats-held (suc n) (x ∷ xs) h = (float-held range.Value x (and-l (fits binary32 x) (all (fits binary32) xs) h), floats-held n xs (and-r (fits binary32 x) (all (fits binary32) xs) h))
-
-values-held : (k : Kind) (n : ℕ) (xs : List Float) → length xs ≡ 8 → T (all (fits binary32) xs) → Held (values k) (valuesOf k n xs)
-unfolding values counted number
-values-held instr n xs m h = ((tt, omega arith), λ l. (length-take-le n xs (omega (arith, leb→le (lesser n 255) 8 l)), floats-held n xs h))
-values-held control n xs m h = tt
-values-held end n xs m h = tt
-values-held tempo n xs m h = tt
-
-parts-held : (l : Line) → T (stored l) → Held parts (partsOf l)
-unfolding parts afterTime kind
-parts-held l h =
-    let v = eqb (length (l .values)) 8 && all (fits binary32) (l .values) in
-    let r = and-r (storedWhen (l .when)) (storedEvent (l .event) && v) h in
-    let t = and-r (storedEvent (l .event)) v r in (
-      when-held (l .when) (and-l (storedWhen (l .when)) (storedEvent (l .event) && v) h),
-      λ a. (
-        tt,
-        λ b. (
-          tt,
-          λ c. (
-            event-held (l .event) (and-l (storedEvent (l .event)) v r),
-            λ d. values-held (kindOf (l .event)) (l .count) (l .values) (eqb→eq (length (l .values)) 8 (and-l (eqb (length (l .values)) 8) (all (fits binary32) (l .values)) t)) (and-r (eqb (length (l .values)) 8) (all (fits binary32) (l .values)) t),
-          ),
-        ),
-      ),
-    )
+use Rattle.line_writer.specs.Stored.{stored, meant}
+use Rattle.line_writer.proofs.LineLaw.{parts-proper, event-again, line-proper, parts-held, Own, range-fault, values-fault, parts-raises}
+use Rattle.line_writer.proofs.Proved.{length-line, before-append, whole-run}
 
 -- ---- its faults are 3 and 5
-
-data Own : Fault → Type 0 where
-  range-fault : Own fault.OutOfRange
-  values-fault : Own fault.TooManyValues
-
-body-raises : (k : Kind) → Raises Own (body k)
-unfolding body labelled label float
-body-raises instr = (range-fault, λ l. (range-fault, λ i. range-fault))
-body-raises control = (range-fault, λ l. (range-fault, λ i. range-fault))
-body-raises end = tt
-body-raises tempo = range-fault
-
-values-raises : (k : Kind) → Raises Own (values k)
-unfolding values counted number float
-values-raises instr = (values-fault, λ n. range-fault)
-values-raises control = tt
-values-raises end = tt
-values-raises tempo = tt
-
-parts-raises : Raises Own parts
-unfolding parts afterTime kind when timed float
-parts-raises = ((tt, λ b. range-fault), λ w. (tt, λ b. (tt, λ k. (body-raises k, λ x. values-raises k))))
 
 own-number : (f : Fault) → Own f → FaultNumber (numberOf (answerOf f))
 unfolding answerOf
@@ -138,6 +47,11 @@ unfolding answerOf
 own-refuses f range-fault e = omega arith
 own-refuses f values-fault e = omega arith
 
+own-untaken : (f : Fault) → Own f → isTaken (answerOf f) ≡ false
+unfolding answerOf
+own-untaken f range-fault = refl
+own-untaken f values-fault = refl
+
 -- ---- what every source that gives its fields is answered
 
 values-meant : (e : Event) (n : ℕ) (xs : List Float) → listOf (kindOf e) (valuesOf (kindOf e) n xs) ≡ take (countOf (kindOf e) (valuesOf (kindOf e) n xs)) xs
@@ -147,11 +61,22 @@ values-meant End n xs = refl
 values-meant (Tempo t) n xs = refl
 
 meant-is : (l : Line) → lineWith (partsOf l) ≡ meant l
-meant-is l i = record { when = l .when; priority = l .priority; event = event-again (l .event) i; count = used l; values = padded (values-meant (l .event) (l .count) (l .values) i) }
+meant-is l i =
+    record {
+      when = l .when;
+      priority = l .priority;
+      event = event-again (l .event) i;
+      count = used l;
+      values = padded (values-meant (l .event) (l .count) (l .values) i);
+    }
+
+-- every source that gives its fields is answered so
+abbrev Answers : Line → (ℕ → Read Line) → Type 0
+Answers l result = (s : Source) (at p : ℕ) → Gives s at (lineFields l) p → lineFrom s at ≡ result p
 
 data Answered (l : Line) : Type 0 where
-  reads : Meant l → ((s : Source) (at p : ℕ) → Gives s at (lineFields l) p → lineFrom s at ≡ got (meant l) p) → Answered l
-  fails : (f : Fault) → Own f → ((s : Source) (at p : ℕ) → Gives s at (lineFields l) p → lineFrom s at ≡ refused f) → Answered l
+  reads : Meant l → Answers l (got (meant l)) → Answered l
+  fails : (f : Fault) → Own f → Answers l (λ p. refused f) → Answered l
 
 made-lawful : (x : Parts) → T (format parts .lawful x) → T (lawful (lineWith x))
 unfolding line
@@ -161,7 +86,8 @@ made-lawful x h =
 
 made-fields : (l : Line) → T (format parts .lawful (partsOf l)) → lineFields (meant l) ≡ lineFields l
 unfolding line
-made-fields l h = ap (λ (m : Line). format parts .fields (partsOf m) []) (sym (meant-is l)) ∙ ap (λ (x : Parts). format parts .fields x []) (line-proper .1 .back (partsOf l) h)
+made-fields l h =
+    ap (λ (m : Line). format parts .fields (partsOf m) []) (sym (meant-is l)) ∙ ap (λ (x : Parts). format parts .fields x []) (line-proper .1 .back (partsOf l) h)
 
 made-meant : (l : Line) → T (format parts .lawful (partsOf l)) → Meant l
 unfolding lineBits lineBefore lineWords
@@ -192,102 +118,59 @@ module _ (l : Line) where
       words-there (ws ++ after) (lineFields l) 0 (length ws) after (zero-add (length (lineFields l)) ∙ sym (length-words (lineFields l))) refl
 
   gives-alone : Gives (keypadSource (lineWords l)) 0 (lineFields l) (length (lineWords l))
-  gives-alone = subst (λ (ws : List ℕ). Gives (keypadSource ws) 0 (lineFields l) (length (lineWords l))) (append-nil (lineWords l)) (gives-words [])
+  gives-alone = rw append-nil at (gives-words [])
 
-  gives-bits : (before after : List Bool) → length before + length (lineBits l) ≤ farthest → Gives (bitSource (before ++ (lineBits l ++ after))) (length before) (lineFields l) (length before + length (lineBits l))
+  gives-bits : (before after : List Bool) → length before + length (lineBits l) ≤ farthest
+      → Gives (bitSource (before ++ (lineBits l ++ after))) (length before) (lineFields l) (length before + length (lineBits l))
   unfolding lineBefore
   gives-bits before after near =
-      bits-there (before ++ (lineBits l ++ after)) (lineFields l) (length before) (length before + length (lineBits l)) after near (ap (λ (k : ℕ). length before + k) (sym (length-line l)))
+      bits-there (before ++ (lineBits l ++ after)) (lineFields l) (length before) (length before + length (lineBits l)) after near
+      (ap (λ (k : ℕ). length before + k) (sym (length-line l)))
       (drop-at before (lineBits l ++ after) (length before) refl ∙ before-append l after) .0
 
-  words-run : (x : Read Line) → lineFrom (keypadSource (lineWords l)) 0 ≡ x → keypadLine (lineWords l) ≡ wholeRun (length (lineWords l)) (lineRead x)
-  unfolding keypadLine lineInWords
-  words-run x e = ap (λ (r : Read Line). wholeRun (length (lineWords l)) (lineRead r)) e
+  module _ (result : ℕ → Read Line) (k : Answers l result) where
+    words-run : keypadLine (lineWords l) ≡ wholeRun (length (lineWords l)) (lineRead (result (length (lineWords l))))
+    unfolding keypadLine lineInWords
+    words-run = ap (λ (r : Read Line). wholeRun (length (lineWords l)) (lineRead r)) (k (keypadSource (lineWords l)) 0 (length (lineWords l)) gives-alone)
 
-  words-taken : lineFrom (keypadSource (lineWords l)) 0 ≡ got (meant l) (length (lineWords l)) → keypadLine (lineWords l) ≡ taken (meant l) (length (lineWords l))
-  unfolding wholeRun lineRead
-  words-taken e = words-run (got (meant l) (length (lineWords l))) e ∙ rw (eq-eqb (length (lineWords l)) (length (lineWords l)) refl)
-
-  words-refused : (f : Fault) → Own f → lineFrom (keypadSource (lineWords l)) 0 ≡ refused f → keypadLine (lineWords l) ≡ refusedLine (answerOf f)
-  words-refused f o e = words-run (refused f) e ∙ go f o
-    where
-      go : (g : Fault) → Own g → wholeRun (length (lineWords l)) (lineRead (refused g)) ≡ refusedLine (answerOf g)
-      go g range-fault = unfold wholeRun lineRead refusedLine answerOf in refl
-      go g values-fault = unfold wholeRun lineRead refusedLine answerOf in refl
-
-  -- of a line that is read
-  module _ (k : (s : Source) (at p : ℕ) → Gives s at (lineFields l) p → lineFrom s at ≡ got (meant l) p) where
-    fault-none : lineFault l ≡ answer.Taken
-    unfolding lineFault
-    fault-none = ap (λ (r : LineRead). r .answer) (words-taken (k (keypadSource (lineWords l)) 0 (length (lineWords l)) gives-alone))
-
-    as-taken : (p : ℕ) → asRead l p ≡ taken (meant l) p
-    as-taken p = cond-true _ _ (ap isTaken fault-none)
-
-    any-taken : AnyRead l
-    any-taken =
+    any-read : wholeRun (length (lineWords l)) (lineRead (result (length (lineWords l)))) ≡ lineRead (result (length (lineWords l)))
+        → ((p : ℕ) → lineRead (result p) ≡ asRead l p) → AnyRead l
+    unfolding lineAt lineInWords
+    any-read whole same =
         record {
-          in-bits = λ before after near. bits before after near ∙ sym (as-taken (length before + length (lineBits l)));
-          in-words = λ after. words after ∙ sym (as-taken (length (lineWords l)));
-          alone = words-taken (k (keypadSource (lineWords l)) 0 (length (lineWords l)) gives-alone) ∙ sym (as-taken (length (lineWords l)));
+          in-bits = λ before after near. ap lineRead (k (bitSource (before ++ (lineBits l ++ after))) (length before) _ (gives-bits before after near)) ∙ same _;
+          in-words = λ after. ap lineRead (k (keypadSource (lineWords l ++ after)) 0 _ (gives-words after)) ∙ same _;
+          alone = words-run ∙ whole ∙ same _;
         }
-      where
-        bits : (before after : List Bool) → length before + length (lineBits l) ≤ farthest → lineAt (before ++ (lineBits l ++ after)) (length before) ≡ taken (meant l) (length before + length (lineBits l))
-        bits before after near = unfold lineAt lineRead in ap lineRead (k (bitSource (before ++ (lineBits l ++ after))) (length before) (length before + length (lineBits l)) (gives-bits before after near))
 
-        words : (after : List ℕ) → lineInWords (lineWords l ++ after) 0 ≡ taken (meant l) (length (lineWords l))
-        words after = unfold lineInWords lineRead in ap lineRead (k (keypadSource (lineWords l ++ after)) 0 (length (lineWords l)) (gives-words after))
+  fault-none : Answers l (got (meant l)) → lineFault l ≡ answer.Taken
+  unfolding lineFault lineRead
+  fault-none k = ap (λ (r : LineRead). r .answer) (words-run (got (meant l)) k ∙ whole-run (meant l) (length (lineWords l)))
 
-  -- of one that is refused
-  module _ (f : Fault) (o : Own f) (k : (s : Source) (at p : ℕ) → Gives s at (lineFields l) p → lineFrom s at ≡ refused f) where
-    fault-is : lineFault l ≡ answerOf f
-    unfolding lineFault refusedLine
-    fault-is = ap (λ (r : LineRead). r .answer) (words-refused f o (k (keypadSource (lineWords l)) 0 (length (lineWords l)) gives-alone))
-
-    as-refused : (p : ℕ) → asRead l p ≡ refusedLine (answerOf f)
-    as-refused p = ap (λ (a : Answer). cond (isTaken a) (taken (meant l) p) (refusedLine a)) fault-is ∙ go f o
-      where
-        go : (g : Fault) → Own g → cond (isTaken (answerOf g)) (taken (meant l) p) (refusedLine (answerOf g)) ≡ refusedLine (answerOf g)
-        go g range-fault = unfold answerOf in refl
-        go g values-fault = unfold answerOf in refl
-
-    any-refused : AnyRead l
-    any-refused =
-        record {
-          in-bits = λ before after near. bits before after near ∙ sym (as-refused (length before + length (lineBits l)));
-          in-words = λ after. words after ∙ sym (as-refused (length (lineWords l)));
-          alone = words-refused f o (k (keypadSource (lineWords l)) 0 (length (lineWords l)) gives-alone) ∙ sym (as-refused (length (lineWords l)));
-        }
-      where
-        bits : (before after : List Bool) → length before + length (lineBits l) ≤ farthest → lineAt (before ++ (lineBits l ++ after)) (length before) ≡ refusedLine (answerOf f)
-        bits before after near = unfold lineAt lineRead in ap lineRead (k (bitSource (before ++ (lineBits l ++ after))) (length before) (length before + length (lineBits l)) (gives-bits before after near))
-
-        words : (after : List ℕ) → lineInWords (lineWords l ++ after) 0 ≡ refusedLine (answerOf f)
-        words after = unfold lineInWords lineRead in ap lineRead (k (keypadSource (lineWords l ++ after)) 0 (length (lineWords l)) (gives-words after))
-
-    fault-number : FaultNumber (numberOf (lineFault l))
-    fault-number = go f o fault-is
-      where
-        go : (g : Fault) → Own g → lineFault l ≡ answerOf g → FaultNumber (numberOf (lineFault l))
-        go g o e = subst (λ (a : Answer). FaultNumber (numberOf a)) (sym e) (own-number g o)
+  fault-is : (f : Fault) → Own f → Answers l (λ p. refused f) → lineFault l ≡ answerOf f
+  unfolding lineFault lineRead refusedLine wholeRun
+  fault-is f o k = ap (λ (r : LineRead). r .answer) (words-run (λ p. refused f) k ∙ cond-false _ _ (own-untaken f o))
 
 pub every-line-read : EveryLineRead
 every-line-read l h = go (answered l h)
   where
     go : Answered l → AnyRead l
-    go (reads m k) = any-taken l k
-    go (fails f o k) = any-refused l f o k
+    go (reads m k) = unfold lineRead in any-read l (got (meant l)) k (whole-run (meant l) (length (lineWords l))) (λ p. sym (cond-true _ _ (ap isTaken (fault-none l k))))
+    go (fails f o k) =
+        unfold lineRead refusedLine wholeRun in
+        any-read l (λ p. refused f) k (cond-false _ _ (own-untaken f o))
+        (λ p. sym (ap (λ (a : Answer). cond (isTaken a) (taken (meant l) p) (refusedLine a)) (fault-is l f o k) ∙ cond-false _ _ (own-untaken f o)))
 
 pub fault-numbers : FaultNumbers
 fault-numbers l h = go (answered l h)
   where
     go : Answered l → FaultNumber (numberOf (lineFault l))
-    go (reads m k) = subst (λ (a : Answer). FaultNumber (numberOf a)) (sym (fault-none l k)) no-fault
-    go (fails f o k) = fault-number l f o k
+    go (reads m k) = rw (fault-none l k) no-fault
+    go (fails f o k) = rw (fault-is l f o k) (own-number f o)
 
 pub every-meant : EveryMeant
 every-meant l h e = go (answered l h)
   where
     go : Answered l → Meant l
     go (reads m k) = m
-    go (fails f o k) = absurd (own-refuses f o (ap numberOf (sym (fault-is l f o k)) ∙ e))
+    go (fails f o k) = absurd (own-refuses f o (rw (fault-is l f o k) at e))

@@ -1,27 +1,29 @@
 -- What the line's format asks for the laws of all formats, and what they say of it. Assumes nothing.
-use Prim.Native.Nat.{ℕ, zero, suc, _+_, _-_, _*_, _^_, _<_, _≤_, min as lesser}
-use mathlib.Core.Path.{_≡_, refl, sym, ap, ap₂, _∙_, subst}
+use Prim.Native.Nat.{ℕ, zero, suc, _+_, _-_, _*_, _≤_, min as lesser}
+use mathlib.Core.Path.{_≡_, refl, sym, ap, _∙_, subst}
 use mathlib.Core.Bool.{Bool, true, _&&_}
 use mathlib.Core.List.{List, [], _∷_, _++_}
-use mathlib.Core.Option.{Option, none, some}
+use mathlib.Core.Option.{none, some}
 use native.Mathlib.Nat.{suc-mul}
 use native.Mathlib.Omega.{arith}
 use borrow.Author.Tests.{leb-true}
 use lib.Dec.{T, eqb, leb, eqb→eq, leb→le}
 use lib.ListN.{length, take, drop, replicate, length-append, length-replicate, length-take, length-drop, take-append-drop}
-use lib.Seq.{take-at, drop-at}
+use lib.Seq.{take-at, drop-at, length-take-le}
 use lib.Ieee.{Float, binary32, fits, ofBits, toBits}
 use lib.Ieee.Bits.{ofBits-fits, ofBits-toBits, toBits-lt}
 use lib.Ieee.Fits.{and-i, and-l, and-r, eq→eqb}
 use Rattle.timebase.specs.Time.{finiteBits}
 use Rattle.timebase.proofs.Laws.{pattern-back, time-finite, duration-finite, tempo-finite}
-use Rattle.formats.specs.Format.{Format, named, all}
+use Rattle.formats.specs.Format.{Format, all}
 use Rattle.formats.specs.Format as F
 use Rattle.formats.specs.Description.{format}
 use Rattle.formats.specs.inside.Lengths.{timesLength, lengthOf}
+use Rattle.formats.specs.declared.Fault.{Fault}
+use Rattle.formats.specs.declared.Fault.the-variants as fault
 use Rattle.formats.proofs.Laws.{Law}
-use Rattle.formats.proofs.Descriptions.{Views, Proper, law}
-use Rattle.score_line.specs.LineFormat.{symbol, inRange, float, number, whenOf, whenParts, timed, when, labelOf, labelParts, label, Kind, instr, control, end, tempo, typeOf, kinds, kind, Body, labelled, body, counted, Values, values, Parts, afterTime, parts, eventOf, eventParts, countOf, listOf, valuesOf, zeroFloat, padded, lineWith, kindOf, partsOf, isZero, used, filled, line}
+use Rattle.formats.proofs.Descriptions.{Views, Proper, Raises, Every, Held, law}
+use Rattle.score_line.specs.LineFormat.{symbol, inRange, float, number, whenOf, whenParts, timed, when, labelOf, labelParts, label, Kind, instr, control, end, tempo, kind, Body, labelled, body, counted, Values, values, Parts, afterTime, parts, eventOf, eventParts, countOf, listOf, valuesOf, zeroFloat, padded, lineWith, kindOf, partsOf, isZero, used, filled, line}
 use Rattle.score_line.specs.declared.When.{When}
 use Rattle.score_line.specs.declared.When.the-variants.{Timed, Untimed}
 use Rattle.score_line.specs.declared.Label.{Label}
@@ -31,6 +33,7 @@ use Rattle.score_line.specs.declared.Event.the-variants.{Instr, Control, End, T
 use Rattle.score_line.specs.declared.Line.{Line}
 use Rattle.score_line.specs.declared.Range.{Range}
 use Rattle.score_line.specs.declared.Range.the-variants as range
+use Rattle.line_writer.specs.Stored.{isSymbol, storedWhen, storedLabel, storedEvent, stored}
 
 -- ---- one field
 
@@ -74,63 +77,38 @@ number-proper =
 same-view : {A B : Type 0} (into : A → B) (out : B → A) (f : Format A) → ((b : B) → into (out b) ≡ b) → ((a : A) → out (into a) ≡ a) → Views into out (λ b. true) f
 same-view into out f again back = record { again = λ b h k. again b; back = λ a h. back a; admits = λ a h. tt }
 
-when-again : (w : When) → whenOf (whenParts w) ≡ w
-when-again Untimed = refl
-when-again (Timed late t) = refl
-
-when-back : (x : Option (Bool × Float)) → whenParts (whenOf x) ≡ x
-when-back none = refl
-when-back (some x) = refl
-
 when-proper : Proper when
 unfolding when timed
-when-proper = ((tt, λ b. float-proper range.Time), same-view whenOf whenParts _ when-again when-back)
-
-label-again : (l : Label) → labelOf (labelParts l) ≡ l
-label-again Unlabelled = refl
-label-again (Labelled n) = refl
-
-label-back : (x : Option ℕ) → labelParts (labelOf x) ≡ x
-label-back none = refl
-label-back (some n) = refl
+when-proper = (
+  (tt, λ b. float-proper range.Time),
+  same-view whenOf whenParts _ (λ w. elim w [ Untimed ↦ refl | Timed late t ↦ refl ])
+      (λ x. elim x [ none ↦ refl | some y ↦ refl ]),
+)
 
 label-proper : Proper label
 unfolding label
-label-proper = (symbol-proper, same-view labelOf labelParts _ label-again label-back)
-
-type-below : (k : Kind) → typeOf k < 2 ^ 3
-type-below instr = omega arith
-type-below control = omega arith
-type-below end = omega arith
-type-below tempo = omega arith
-
-type-listed : (k : Kind) → named typeOf kinds (typeOf k) ≡ some k
-type-listed instr = refl
-type-listed control = refl
-type-listed end = refl
-type-listed tempo = refl
+label-proper = (symbol-proper, same-view labelOf labelParts _ (λ l. elim l [ Unlabelled ↦ refl | Labelled n ↦ refl ]) (λ x. elim x [ none ↦ refl | some n ↦ refl ]))
 
 kind-proper : Proper kind
 unfolding kind
-kind-proper = record { some-bits = omega arith; most-bits = omega arith; below = type-below; listed = type-listed }
+kind-proper =
+    record {
+      some-bits = omega arith;
+      most-bits = omega arith;
+      below = λ k. elim k [ instr ↦ omega arith | control ↦ omega arith | end ↦ omega arith | tempo ↦ omega arith ];
+      listed = λ k. elim k [ instr ↦ refl | control ↦ refl | end ↦ refl | tempo ↦ refl ];
+    }
 
-body-proper : (k : Kind) → Proper (body k)
-unfolding body labelled
-body-proper instr = (label-proper, λ l. (symbol-proper, λ i. float-proper range.Duration))
-body-proper control = (symbol-proper, λ l. (symbol-proper, λ v. float-proper range.Value))
-body-proper end = tt
-body-proper tempo = float-proper range.Tempo
-
-values-proper : (k : Kind) → Proper (values k)
-unfolding values counted
-values-proper instr = (number-proper, λ n. float-proper range.Value)
-values-proper control = tt
-values-proper end = tt
-values-proper tempo = tt
+kind-parts-proper : (k : Kind) → Proper (body k) × Proper (values k)
+unfolding body labelled values counted
+kind-parts-proper instr = ((label-proper, λ l. (symbol-proper, λ i. float-proper range.Duration)), (number-proper, λ n. float-proper range.Value))
+kind-parts-proper control = ((symbol-proper, λ l. (symbol-proper, λ v. float-proper range.Value)), tt)
+kind-parts-proper end = (tt, tt)
+kind-parts-proper tempo = (float-proper range.Tempo, tt)
 
 pub parts-proper : Proper parts
 unfolding parts afterTime
-parts-proper = (when-proper, λ w. (tt, λ b. (kind-proper, λ k. (body-proper k, λ x. values-proper k))))
+parts-proper = (when-proper, λ w. (tt, λ b. (kind-proper, λ k. (kind-parts-proper k .0, λ x. kind-parts-proper k .1))))
 
 -- ---- the places for values
 
@@ -147,7 +125,7 @@ zero-is x h =
 
 zeros-are : (xs : List Float) → T (all isZero xs) → xs ≡ replicate (length xs) zeroFloat
 zeros-are [] h = refl
-zeros-are (x ∷ xs) h = ap₂ (λ (y : Float) (ys : List Float). y ∷ ys) (zero-is x (and-l (isZero x) (all isZero xs) h)) (zeros-are xs (and-r (isZero x) (all isZero xs) h))
+zeros-are (x ∷ xs) h = λ i. zero-is x (and-l (isZero x) (all isZero xs) h) i ∷ zeros-are xs (and-r (isZero x) (all isZero xs) h) i
 
 -- the values in use, and the zeros behind them
 whole-values : (n : ℕ) (xs : List Float) → length xs ≡ 8 → T (all isZero (drop n xs)) → padded (take n xs) ≡ xs
@@ -156,9 +134,9 @@ whole-values n xs m z =
     let d : length (drop n xs) ≡ 8 - length (take n xs) = omega (arith, length-drop n xs, length-take n xs) in
     ap (λ (ys : List Float). take n xs ++ ys) (sym (zeros-are (drop n xs) z ∙ ap (λ (j : ℕ). replicate j zeroFloat) d)) ∙ take-append-drop n xs
 
-padded-long : (xs : List Float) → length xs ≤ 8 → length (padded xs) ≡ 8
+pub padded-long : (xs : List Float) → length xs ≤ 8 → length (padded xs) ≡ 8
 unfolding padded
-padded-long xs h = length-append xs (replicate (8 - length xs) zeroFloat) ∙ ap (λ (k : ℕ). length xs + k) (length-replicate (8 - length xs) zeroFloat) ∙ omega arith
+padded-long xs h = simp (length-append, length-replicate) (omega arith)
 
 -- ---- the line and its parts
 
@@ -170,27 +148,13 @@ record Few (n : ℕ) (xs : List Float) : Type 0 where
 values-few : (k : Kind) (v : Values k) → T (format (values k) .lawful v) → Few (countOf k v) (listOf k v)
 unfolding values counted number
 values-few instr v h =
-    let t = and-r (leb (lesser (v .0) 255) 8) (eqb (length (v .1)) (v .0) && all (format (float range.Value) .lawful) (v .1)) h in
-    record {
-      count = eqb→eq (length (v .1)) (v .0) (and-l (eqb (length (v .1)) (v .0)) (all (format (float range.Value) .lawful) (v .1)) t);
-      few = omega (arith, leb→le (lesser (v .0) 255) 8 (and-l (leb (lesser (v .0) 255) 8) (eqb (length (v .1)) (v .0) && all (format (float range.Value) .lawful) (v .1)) h));
-    }
+    let p = leb (lesser (v .0) 255) 8 in
+    let q = eqb (length (v .1)) (v .0) in
+    let r = all (format (float range.Value) .lawful) (v .1) in
+    record { count = eqb→eq (length (v .1)) (v .0) (and-l q r (and-r p (q && r) h)); few = omega (arith, leb→le (lesser (v .0) 255) 8 (and-l p (q && r) h)) }
 values-few control v h = record { count = refl; few = omega arith }
 values-few end v h = record { count = refl; few = omega arith }
 values-few tempo v h = record { count = refl; few = omega arith }
-
-values-back : (k : Kind) (v : Values k) → Few (countOf k v) (listOf k v) → valuesOf k (countOf k v) (padded (listOf k v)) ≡ v
-unfolding padded
-values-back instr v f = ap (λ (ys : List Float). (v .0, ys)) (take-at (v .1) (replicate (8 - length (v .1)) zeroFloat) (v .0) (f .count))
-values-back control v f = refl
-values-back end v f = refl
-values-back tempo v f = refl
-
-event-back : (k : Kind) (x : Body k) → eventParts (eventOf k x) ≡ (k, x)
-event-back instr x = refl
-event-back control x = refl
-event-back end x = refl
-event-back tempo x = refl
 
 pub event-again : (e : Event) → eventOf (eventParts e .0) (eventParts e .1) ≡ e
 event-again (Instr l i d) = refl
@@ -198,34 +162,28 @@ event-again (Control l v x) = refl
 event-again End = refl
 event-again (Tempo t) = refl
 
-module _ (w : When) (b : Bool) (k : Kind) (x : Body k) (v : Values k) (f : Few (countOf k v) (listOf k v)) where
-  abbrev made : Line
-  made = lineWith (w, (b, (k, (x, v))))
-
-  parts-back : partsOf made ≡ (w, (b, (k, (x, v))))
-  parts-back = go k x v f
-    where
-      go : (j : Kind) (y : Body j) (u : Values j) → Few (countOf j u) (listOf j u) → partsOf (lineWith (w, (b, (j, (y, u))))) ≡ (w, (b, (j, (y, u))))
-      go instr y u g = ap (λ (z : Values instr). (w, (b, (instr, (y, z))))) (values-back instr u g)
-      go control y u g = refl
-      go end y u g = refl
-      go tempo y u g = refl
-
-  used-is : used made ≡ countOf k v
-  used-is = go k x v
-    where
-      go : (j : Kind) (y : Body j) (u : Values j) → used (lineWith (w, (b, (j, (y, u))))) ≡ countOf j u
-      go instr y u = refl
-      go control y u = refl
-      go end y u = refl
-      go tempo y u = refl
-
-  parts-filled : T (filled made)
+module _ (w : When) (b : Bool) where
+  parts-back : (k : Kind) (x : Body k) (v : Values k) → Few (countOf k v) (listOf k v) → partsOf (lineWith (w, (b, (k, (x, v))))) ≡ (w, (b, (k, (x, v))))
   unfolding padded
-  parts-filled =
-      and-i (eqb (length (made .values)) 8) (eqb (made .count) (used made) && all isZero (drop (used made) (made .values))) (eq→eqb (padded-long (listOf k v) (omega (arith, f .count, f .few))))
-      (and-i (eqb (made .count) (used made)) (all isZero (drop (used made) (made .values))) (eq→eqb (sym used-is))
-      (subst (λ (y : List Float). T (all isZero y)) (sym (ap (λ (n : ℕ). drop n (made .values)) used-is ∙ drop-at (listOf k v) (replicate (8 - length (listOf k v)) zeroFloat) (countOf k v) (f .count))) (zeros-lawful (8 - length (listOf k v)))))
+  parts-back instr x v f = ap (λ (ys : List Float). (w, (b, (instr, (x, (v .0, ys)))))) (take-at (v .1) (replicate (8 - length (v .1)) zeroFloat) (v .0) (f .count))
+  parts-back control x v f = refl
+  parts-back end x v f = refl
+  parts-back tempo x v f = refl
+
+  used-is : (k : Kind) (x : Body k) (v : Values k) → used (lineWith (w, (b, (k, (x, v))))) ≡ countOf k v
+  used-is instr x v = refl
+  used-is control x v = refl
+  used-is end x v = refl
+  used-is tempo x v = refl
+
+  parts-filled : (k : Kind) (x : Body k) (v : Values k) → Few (countOf k v) (listOf k v) → T (filled (lineWith (w, (b, (k, (x, v))))))
+  unfolding padded
+  parts-filled k x v f =
+      let m = lineWith (w, (b, (k, (x, v)))) in
+      let z = all isZero (drop (used m) (m .values)) in
+      let d = ap (λ (n : ℕ). drop n (m .values)) (used-is k x v) ∙ drop-at (listOf k v) (replicate (8 - length (listOf k v)) zeroFloat) (countOf k v) (f .count) in
+      and-i (eqb (length (m .values)) 8) (eqb (m .count) (used m) && z) (eq→eqb (padded-long (listOf k v) (omega (arith, f .count, f .few))))
+      (and-i (eqb (m .count) (used m)) z (eq→eqb (sym (used-is k x v))) (subst (λ (y : List Float). T (all isZero y)) (sym d) (zeros-lawful (8 - length (listOf k v)))))
 
 parts-few : (x : Parts) → T (format parts .lawful x) → Few (countOf (x .1 .1 .0) (x .1 .1 .1 .1)) (listOf (x .1 .1 .0) (x .1 .1 .1 .1))
 unfolding parts afterTime
@@ -234,10 +192,12 @@ parts-few x h =
     let v = format (values k) .lawful (x .1 .1 .1 .1) in
     let c = format (body k) .lawful (x .1 .1 .1 .0) && v in
     let t = format kind .lawful k && c in
-    values-few k (x .1 .1 .1 .1) (and-r (format (body k) .lawful (x .1 .1 .1 .0)) v (and-r (format kind .lawful k) c (and-r (F.flag .lawful (x .1 .0)) t (and-r (format when .lawful (x .0)) (F.flag .lawful (x .1 .0) && t) h))))
+    values-few k (x .1 .1 .1 .1) (and-r (format (body k) .lawful (x .1 .1 .1 .0)) v
+    (and-r (format kind .lawful k) c (and-r (F.flag .lawful (x .1 .0)) t (and-r (format when .lawful (x .0)) (F.flag .lawful (x .1 .0) && t) h))))
 
 -- the values of a line whose other places are zero
-values-again : (e : Event) (n : ℕ) (xs : List Float) → length xs ≡ 8 → T (all isZero (drop (countOf (kindOf e) (valuesOf (kindOf e) n xs)) xs)) → padded (listOf (kindOf e) (valuesOf (kindOf e) n xs)) ≡ xs
+values-again : (e : Event) (n : ℕ) (xs : List Float) → length xs ≡ 8 → T (all isZero (drop (countOf (kindOf e) (valuesOf (kindOf e) n xs)) xs))
+    → padded (listOf (kindOf e) (valuesOf (kindOf e) n xs)) ≡ xs
 values-again (Instr l i d) n xs m z = whole-values n xs m z
 values-again (Control l i d) n xs m z = whole-values 0 xs m z
 values-again End n xs m z = whole-values 0 xs m z
@@ -245,14 +205,16 @@ values-again (Tempo t) n xs m z = whole-values 0 xs m z
 
 line-again : (l : Line) → T (filled l) → lineWith (partsOf l) ≡ l
 line-again l h i =
-    let r = and-r (eqb (length (l .values)) 8) (eqb (l .count) (used l) && all isZero (drop (used l) (l .values))) h in
+    let p = eqb (length (l .values)) 8 in
+    let q = eqb (l .count) (used l) in
+    let z = all isZero (drop (used l) (l .values)) in
+    let r = and-r p (q && z) h in
     record {
       when = l .when;
       priority = l .priority;
       event = event-again (l .event) i;
-      count = sym (eqb→eq (l .count) (used l) (and-l (eqb (l .count) (used l)) (all isZero (drop (used l) (l .values))) r)) i;
-      values = values-again (l .event) (l .count) (l .values) (eqb→eq (length (l .values)) 8 (and-l (eqb (length (l .values)) 8) (eqb (l .count) (used l) && all isZero (drop (used l) (l .values))) h))
-          (and-r (eqb (l .count) (used l)) (all isZero (drop (used l) (l .values))) r) i;
+      count = sym (eqb→eq (l .count) (used l) (and-l q z r)) i;
+      values = values-again (l .event) (l .count) (l .values) (eqb→eq (length (l .values)) 8 (and-l p (q && z) h)) (and-r q z r) i;
     }
 
 pub line-proper : Proper line
@@ -268,6 +230,80 @@ line-proper = (
 
 pub line-law : Law (format line)
 line-law = law line line-proper
+
+-- ---- a stored line is one that its fields hold
+
+symbol-held : (n : ℕ) → T (isSymbol n) → Held symbol n
+symbol-held n h = let m = leb→le n 65535 h in omega arith
+
+float-held : (r : Range) (x : Float) → T (fits binary32 x) → Held (float r) x
+unfolding float
+float-held r x h = (h, toBits-lt binary32 x h)
+
+when-held : (w : When) → T (storedWhen w) → Held when w
+unfolding when timed
+when-held Untimed h = (tt, tt)
+when-held (Timed late t) h = (tt, (tt, λ l. float-held range.Time t h))
+
+label-held : (l : Label) → T (storedLabel l) → Held label l
+unfolding label
+label-held Unlabelled h = (tt, tt)
+label-held (Labelled n) h = (tt, symbol-held n h)
+
+event-held : (e : Event) → T (storedEvent e) → Held (body (kindOf e)) (eventParts e .1)
+unfolding body labelled
+event-held (Instr l i d) h =
+    let r = and-r (storedLabel l) (isSymbol i && fits binary32 d) h in
+    let m = label-held l (and-l (storedLabel l) (isSymbol i && fits binary32 d) h) in
+    (m, λ a. (symbol-held i (and-l (isSymbol i) (fits binary32 d) r), λ b. float-held range.Duration d (and-r (isSymbol i) (fits binary32 d) r)))
+event-held (Control l i d) h =
+    let r = and-r (isSymbol l) (isSymbol i && fits binary32 d) h in
+    let m = symbol-held l (and-l (isSymbol l) (isSymbol i && fits binary32 d) h) in
+    (m, λ a. (symbol-held i (and-l (isSymbol i) (fits binary32 d) r), λ b. float-held range.Value d (and-r (isSymbol i) (fits binary32 d) r)))
+event-held End h = tt
+event-held (Tempo t) h = float-held range.Tempo t h
+
+floats-held : (n : ℕ) (xs : List Float) → T (all (fits binary32) xs) → Every (λ x. Held (float range.Value) x) (take n xs)
+floats-held zero xs h = tt
+floats-held (suc n) [] h = tt
+floats-held (suc n) (x ∷ xs) h =
+    (float-held range.Value x (and-l (fits binary32 x) (all (fits binary32) xs) h), floats-held n xs (and-r (fits binary32 x) (all (fits binary32) xs) h))
+
+values-held : (k : Kind) (n : ℕ) (xs : List Float) → length xs ≡ 8 → T (all (fits binary32) xs) → Held (values k) (valuesOf k n xs)
+unfolding values counted number
+values-held instr n xs m h = ((tt, omega arith), λ l. (length-take-le n xs (omega (arith, leb→le (lesser n 255) 8 l)), floats-held n xs h))
+values-held control n xs m h = tt
+values-held end n xs m h = tt
+values-held tempo n xs m h = tt
+
+pub parts-held : (l : Line) → T (stored l) → Held parts (partsOf l)
+unfolding parts afterTime kind
+parts-held l h =
+    let n = eqb (length (l .values)) 8 in
+    let v = all (fits binary32) (l .values) in
+    let r = and-r (storedWhen (l .when)) (storedEvent (l .event) && (n && v)) h in
+    let t = and-r (storedEvent (l .event)) (n && v) r in
+    let w = when-held (l .when) (and-l (storedWhen (l .when)) (storedEvent (l .event) && (n && v)) h) in
+    let e = event-held (l .event) (and-l (storedEvent (l .event)) (n && v) r) in
+    let x = values-held (kindOf (l .event)) (l .count) (l .values) (eqb→eq (length (l .values)) 8 (and-l n v t)) (and-r n v t) in
+    (w, λ a. (tt, λ b. (tt, λ c. (e, λ d. x))))
+
+-- ---- the faults that its fields raise
+
+pub data Own : Fault → Type 0 where
+  range-fault : Own fault.OutOfRange
+  values-fault : Own fault.TooManyValues
+
+kind-parts-raise : (k : Kind) → Raises Own (body k) × Raises Own (values k)
+unfolding body labelled label float values counted number
+kind-parts-raise instr = ((range-fault, λ l. (range-fault, λ i. range-fault)), (values-fault, λ n. range-fault))
+kind-parts-raise control = ((range-fault, λ l. (range-fault, λ i. range-fault)), tt)
+kind-parts-raise end = (tt, tt)
+kind-parts-raise tempo = (range-fault, tt)
+
+pub parts-raises : Raises Own parts
+unfolding parts afterTime kind when timed float
+parts-raises = ((tt, λ b. range-fault), λ w. (tt, λ b. (tt, λ k. (kind-parts-raise k .0, λ x. kind-parts-raise k .1))))
 
 -- ---- how long a line is, each field counted by its width
 

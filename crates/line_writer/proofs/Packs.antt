@@ -1,6 +1,6 @@
 -- Fields put into the code's arrays, one after the other. Assumes nothing.
 use Prim.Native.Nat.{ℕ, suc, _+_, _-_, _<_, _≤_, min as lesser}
-use mathlib.Core.Path.{_≡_, refl, sym, ap, ap₂, _∙_, subst}
+use mathlib.Core.Path.{_≡_, refl, sym, ap, _∙_, subst}
 use mathlib.Core.Bool.{Bool, true, false, not, true≢false}
 use mathlib.Core.List.{List, [], _∷_, _++_, append-assoc, append-nil, map}
 use native.Mathlib.Nat.{add-assoc, min-eq-left, min-eq-right}
@@ -12,6 +12,7 @@ use lib.ListN.{length, take, getD, set, replicate, length-append}
 use lib.Seq.{set-at, take-suc, take-all}
 use lib.Ieee.{Float, nan, inf, fin, binary32, toBits, isNan, eq, ne}
 use lib.Ieee.Compare.{differs-from-itself}
+use Rattle.laws.proofs.Lists.{map-append}
 use Rattle.bitstream.specs.Bits.{digit}
 use Rattle.score_line.specs.declared.Line.{Line}
 use Rattle.score_line.specs.declared.When.{When}
@@ -42,7 +43,7 @@ no-nan (fin s m d) e = tt
 
 pub nan-bits : (x : Float) → eq x x ≡ false → 0x7fc0_0000 ≡ toBits binary32 x
 unfolding ne toBits
-nan-bits x e = ap (toBits binary32) (sym (differs-from-itself x (subst (λ (b : Bool). T (not b)) (sym e) tt)))
+nan-bits x e = ap (toBits binary32) (sym (differs-from-itself x (rw e tt)))
 
 -- ---- one field more
 
@@ -76,7 +77,13 @@ eighteen-set l n v e h =
     ∙ sym (append-assoc l (v ∷ []) (replicate (18 - length (l ++ (v ∷ []))) 0) ∙ ap (λ (j : ℕ). l ++ (v ∷ replicate (18 - j) 0)) m)
 
 pushed : (fs : List Field) (w v : ℕ) → length fs < 18
-    → record { count = length fs + 1; bits = widths fs + w; widths = set (toEighteen (fieldWidths fs)) (length fs) w; values = set (toEighteen (fieldWords fs)) (length fs) v } ≡ packed (fs ++ (of w v ∷ []))
+    → record {
+      count = length fs + 1;
+      bits = widths fs + w;
+      widths = set (toEighteen (fieldWidths fs)) (length fs) w;
+      values = set (toEighteen (fieldWords fs))
+          (length fs) v;
+    } ≡ packed (fs ++ (of w v ∷ []))
 unfolding packed
 pushed fs w v h i = record {
   count = sym (length-append fs (of w v ∷ [])) i;
@@ -122,41 +129,40 @@ module _ (f r : Fields) where
   pub when-timed : (a b : Fields) (w : When) (late : Bool) (t : Float) (d p : ℕ) → w ≡ Timed late t → d ≡ digit late → p ≡ toBits binary32 t
       → Joined f (of 1 1 ∷ []) 1 a → Joined a (of 1 d ∷ []) 1 b → Joined b (of 32 p ∷ []) 1 r → Joined f (whenBefore w []) 3 r
   unfolding when timed small real
-  when-timed a b w late t d p e h k x y z =
-      also (ap₂ (λ (m n : ℕ). of 1 1 ∷ (of 1 m ∷ (of 32 n ∷ []))) h k ∙ ap (λ (u : When). whenBefore u []) (sym e)) (both x (both y z))
+  when-timed a b w late t d p e h k x y z = rw (e, ← h, ← k) (both x (both y z))
 
   pub when-untimed : (w : When) → w ≡ Untimed → Joined f (of 1 0 ∷ []) 1 r → Joined f (whenBefore w []) 3 r
   unfolding when timed small real
-  when-untimed w e x = also (ap (λ (u : When). whenBefore u []) (sym e)) (wider (omega arith) x)
+  when-untimed w e x = rw e (wider (omega arith) x)
 
   pub labelled : (a : Fields) (l : Label) (n : ℕ) → l ≡ Labelled n → Joined f (of 1 1 ∷ []) 1 a → Joined a (of 16 n ∷ []) 1 r → Joined f (labelBefore l []) 2 r
   unfolding label small
-  labelled a l n e x y = also (ap (λ (u : Label). labelBefore u []) (sym e)) (both x y)
+  labelled a l n e x y = rw e (both x y)
 
   pub unlabelled : (l : Label) → l ≡ Unlabelled → Joined f (of 1 0 ∷ []) 1 r → Joined f (labelBefore l []) 2 r
   unfolding label small
-  unlabelled l e x = also (ap (λ (u : Label). labelBefore u []) (sym e)) (wider (omega arith) x)
+  unlabelled l e x = rw e (wider (omega arith) x)
 
   pub event-instr : (a b c : Fields) (v : Event) (l : Label) (i : ℕ) (d : Float) (p : ℕ) → v ≡ Instr l i d → p ≡ toBits binary32 d
       → Joined f (of 3 0 ∷ []) 1 a → Joined a (labelBefore l []) 2 b → Joined b (of 16 i ∷ []) 1 c → Joined c (of 32 p ∷ []) 1 r → Joined f (eventBefore v []) 5 r
   unfolding kind body labelled·format small real
   event-instr a b c v l i d p e h x y z u =
-      also (ap (λ (m : ℕ). of 3 0 ∷ (labelBefore l [] ++ (of 16 i ∷ (of 32 m ∷ [])))) h ∙ ap (λ (s : List Field). of 3 0 ∷ s) (append label l [] (of 16 i ∷ (float d ∷ []))) ∙ ap (λ (s : Event). eventBefore s []) (sym e))
-      (both x (both y (both z u)))
+      rw e (also (ap (λ (s : List Field). of 3 0 ∷ s) (append label l [] (of 16 i ∷ (float d ∷ [])))) (rw (← h) (both x (both y (both z u)))))
 
   pub event-control : (a b c g : Fields) (v : Event) (l i : ℕ) (d : Float) (p : ℕ) → v ≡ Control l i d → p ≡ toBits binary32 d
-      → Joined f (of 3 1 ∷ []) 1 a → Joined a (of 1 1 ∷ []) 1 b → Joined b (of 16 l ∷ []) 1 c → Joined c (of 16 i ∷ []) 1 g → Joined g (of 32 p ∷ []) 1 r → Joined f (eventBefore v []) 5 r
+      → Joined f (of 3 1 ∷ []) 1 a → Joined a (of 1 1 ∷ []) 1 b → Joined b (of 16 l ∷ []) 1 c → Joined c (of 16 i ∷ []) 1 g → Joined g (of 32 p ∷ []) 1 r
+      → Joined f (eventBefore v []) 5 r
   unfolding kind body labelled·format small real
-  event-control a b c g v l i d p e h x y z u t =
-      also (ap (λ (m : ℕ). of 3 1 ∷ (of 1 1 ∷ (of 16 l ∷ (of 16 i ∷ (of 32 m ∷ []))))) h ∙ ap (λ (s : Event). eventBefore s []) (sym e)) (both x (both y (both z (both u t))))
+  event-control a b c g v l i d p e h x y z u t = rw (e, ← h) (both x (both y (both z (both u t))))
 
   pub event-end : (v : Event) → v ≡ End → Joined f (of 3 4 ∷ []) 1 r → Joined f (eventBefore v []) 5 r
   unfolding kind body labelled·format small real
-  event-end v e x = also (ap (λ (s : Event). eventBefore s []) (sym e)) (wider (omega arith) x)
+  event-end v e x = rw e (wider (omega arith) x)
 
-  pub event-tempo : (a : Fields) (v : Event) (t : Float) (p : ℕ) → v ≡ Tempo t → p ≡ toBits binary32 t → Joined f (of 3 5 ∷ []) 1 a → Joined a (of 32 p ∷ []) 1 r → Joined f (eventBefore v []) 5 r
+  pub event-tempo : (a : Fields) (v : Event) (t : Float) (p : ℕ) → v ≡ Tempo t → p ≡ toBits binary32 t → Joined f (of 3 5 ∷ []) 1 a → Joined a (of 32 p ∷ []) 1 r
+      → Joined f (eventBefore v []) 5 r
   unfolding kind body labelled·format small real
-  event-tempo a v t p e h x y = also (ap (λ (m : ℕ). of 3 5 ∷ (of 32 m ∷ [])) h ∙ ap (λ (s : Event). eventBefore s []) (sym e)) (wider (omega arith) (both x y))
+  event-tempo a v t p e h x y = rw (e, ← h) (wider (omega arith) (both x y))
 
 -- ---- the loop over the values
 
@@ -171,21 +177,18 @@ pub record Collected (f : Fields) (n : ℕ) (values : List Float) (r : Fields) (
 pub floats-start : (f : Fields) (n : ℕ) (values : List Float) → Room f 8 → Collected f n values f 0
 floats-start f n values h = record { within = omega arith; room = h; joined = none-more f 8 h }
 
-map-snoc : (xs : List Float) (x : Float) → map float (xs ++ (x ∷ [])) ≡ map float xs ++ (float x ∷ [])
-map-snoc [] x = refl
-map-snoc (y ∷ xs) x = ap (λ (l : List Field). float y ∷ l) (map-snoc xs x)
-
 pub floats-room : (f : Fields) (n count : ℕ) (values : List Float) (r : Fields) (i : ℕ) → n ≡ lesser count 8 → Collected f n values r i → i < n → Room r 1
 floats-room f n count values r i e c h = record { room = omega (arith, c .joined .count, c .room .room); few = c .joined .few }
 
-pub floats-again : (f : Fields) (n count : ℕ) (values : List Float) (r q : Fields) (i p : ℕ) (d : Float) → n ≡ lesser count 8 → length values ≡ 8 → Collected f n values r i → i < n
+pub floats-again : (f : Fields) (n count : ℕ) (values : List Float) (r q : Fields) (i p : ℕ) (d : Float) → n ≡ lesser count 8 → length values ≡ 8
+    → Collected f n values r i → i < n
     → p ≡ toBits binary32 (getD values i d) → Joined r (of 32 p ∷ []) 1 q → Collected f n values q (i + 1)
 floats-again f n count values r q i p d m l c h e j =
     let t : take (i + 1) values ≡ take i values ++ (getD values i d ∷ []) = ap (λ (k : ℕ). take k values) (add-one i) ∙ take-suc values i d (omega arith) in
     record {
       within = omega arith;
       room = c .room;
-      joined = also (sym (ap (map float) t ∙ map-snoc (take i values) (getD values i d))) (both (c .joined) (also (ap (λ (k : ℕ). of 32 k ∷ []) e) j));
+      joined = also (sym (ap (map float) t ∙ map-append float (take i values) (getD values i d ∷ []))) (both (c .joined) (also (ap (λ (k : ℕ). of 32 k ∷ []) e) j));
     }
 
 take-eight : (count : ℕ) (values : List Float) → length values ≡ 8 → take (lesser count 8) values ≡ take count values
@@ -215,19 +218,11 @@ module _ (f : Fields) (count : ℕ) (values : List Float) where
       → Joined f (of 8 n ∷ []) 1 a → Joined a (map float (take count values)) 8 r → Joined f (valueFields v count values) 9 r
   unfolding values·format counted number
   values-instr a r v l i d n e h x y =
-      also (ap₂ (λ (k : ℕ) (fs : List Field). of 8 k ∷ fs) h (floats-are (take count values)) ∙ ap (λ (u : Event). valueFields u count values) (sym e)) (both x y)
+      rw (e, ← h) (also (ap (λ (fs : List Field). of 8 n ∷ fs) (floats-are (take count values))) (both x y))
 
-  pub values-control : (v : Event) (l i : ℕ) (d : Float) → v ≡ Control l i d → Room f 9 → Joined f (valueFields v count values) 9 f
-  unfolding values·format counted number
-  values-control v l i d e h = also (ap (λ (u : Event). valueFields u count values) (sym e)) (wider (omega arith) (none-more f 9 h))
-
-  pub values-end : (v : Event) → v ≡ End → Room f 9 → Joined f (valueFields v count values) 9 f
-  unfolding values·format counted number
-  values-end v e h = also (ap (λ (u : Event). valueFields u count values) (sym e)) (wider (omega arith) (none-more f 9 h))
-
-  pub values-tempo : (v : Event) (t : Float) → v ≡ Tempo t → Room f 9 → Joined f (valueFields v count values) 9 f
-  unfolding values·format counted number
-  values-tempo v t e h = also (ap (λ (u : Event). valueFields u count values) (sym e)) (wider (omega arith) (none-more f 9 h))
+  -- the other kinds have none
+  pub values-none : (v u : Event) → v ≡ u → valueFields u count values ≡ [] → Room f 9 → Joined f (valueFields v count values) 9 f
+  values-none v u e n h = rw (e, n) (wider (omega arith) (none-more f 9 h))
 
 event-before : (e : Event) (rest : List Field) → eventBefore e [] ++ rest ≡ eventBefore e rest
 unfolding kind
@@ -240,9 +235,7 @@ none-yet f e = ap (λ (g : Fields). g .count) e
 pub room-first : (f : Fields) → f ≡ packed [] → Room f 3
 unfolding packed
 room-first f e =
-    let n : f .count ≡ 0 = ap (λ (g : Fields). g .count) e in
-    let b : f .bits ≡ 0 = ap (λ (g : Fields). g .bits) e in
-    record { room = omega arith; few = omega arith }
+    record { room = omega (arith, none-yet f e); few = omega (arith, ap (λ (g : Fields). g .bits) e) }
 
 module _ (f a : Fields) (xs : List Field) (e : f ≡ packed []) (j : Joined f xs 3 a) where
   pub room-field : Room a 1
@@ -261,4 +254,5 @@ unfolding line parts afterTime small
 line-packed l f a b c r d e w h p v x =
     let t = valueFields (l .event) (l .count) (l .values) in
     both w (both (also (ap (λ (k : ℕ). of 1 k ∷ []) h) p) (both v x)) .joins [] e
-    ∙ ap packed (ap (λ (s : List Field). whenBefore (l .when) [] ++ (flag (l .priority) ∷ s)) (event-before (l .event) t) ∙ append when (l .when) [] (flag (l .priority) ∷ eventBefore (l .event) t))
+    ∙ ap packed (ap (λ (s : List Field). whenBefore (l .when) [] ++ (flag (l .priority) ∷ s)) (event-before (l .event) t) ∙ append when (l .when) []
+    (flag (l .priority) ∷ eventBefore (l .event) t))

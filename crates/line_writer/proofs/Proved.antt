@@ -1,13 +1,13 @@
 -- The round trips of a line. Assumes nothing.
 use Prim.Native.Nat.{ℕ, _+_, _^_, _<_, _≤_}
-use mathlib.Core.Path.{_≡_, refl, sym, ap, ap₂, _∙_, subst}
+use mathlib.Core.Path.{_≡_, refl, sym, ap, ap₂, _∙_}
 use mathlib.Core.Bool.{Bool, true, false, _&&_, cond}
 use mathlib.Core.List.{List, [], _++_, append-nil}
 use native.Mathlib.Nat.{add-zero, zero-add}
 use native.Mathlib.Omega.{arith}
 use borrow.Author.Tests.{eqb-true, eq-eqb}
 use lib.Dec.{T, eqb, eqb→eq}
-use lib.ListN.{length, getD, take, drop, length-drop, take-append-drop}
+use lib.ListN.{length, getD, drop, length-drop, take-append-drop}
 use lib.Seq.{drop-at, drop-length}
 use lib.Ieee.Fits.{and-l}
 use Rattle.answer.specs.Numbers.{isTaken}
@@ -21,7 +21,6 @@ use Rattle.formats.specs.declared.Fault.the-variants as fault
 use Rattle.formats.proofs.Gives.{Gives, Bounded}
 use Rattle.formats.proofs.InBits.{bits-bounded, bits-there, bits-back, length-bits, bits-append}
 use Rattle.formats.proofs.InWords.{words-bounded, words-there, words-back, length-words}
-use Rattle.formats.proofs.Laws.{Back, Holds}
 use Rattle.formats.proofs.Descriptions.{sum-widths, sum-count, adds}
 use Rattle.score_line.specs.LineFormat.{isZero, used, filled, partsOf, parts, line, lawful}
 use Rattle.score_line.specs.Reading.{lineFrom, answerOf, refusedLine, lineRead, lineAt, lineInWords, wholeRun, keypadLine}
@@ -36,20 +35,20 @@ use Rattle.line_writer.proofs.LineLaw.{line-law, line-most}
 pub read-taken : (x : Read Line) (l : Line) (p : ℕ) → lineRead x ≡ taken l p → x ≡ got l p
 unfolding lineRead refusedLine
 read-taken (got m q) l p e = ap₂ (λ (y : Line) (z : ℕ). got y z) (ap (λ (r : LineRead). r .line) e) (ap (λ (r : LineRead). r .next) e)
-read-taken (refused f) l p e = absurd (none f (ap (λ (r : LineRead). r .answer) e))
+read-taken (refused f) l p e = none f (ap (λ (r : LineRead). r .answer) e)
   where
-    none : (g : Fault) → answerOf g ≡ answer.Taken → ⊥
-    none fault.CutShort k = unfold answerOf in let z : _≡_ {A = ℕ} 0 1 = cc in omega arith
-    none fault.NotCarried k = unfold answerOf in let z : _≡_ {A = ℕ} 0 1 = cc in omega arith
-    none fault.OutOfRange k = unfold answerOf in let z : _≡_ {A = ℕ} 0 1 = cc in omega arith
-    none fault.TooManyValues k = unfold answerOf in let z : _≡_ {A = ℕ} 0 1 = cc in omega arith
+    none : (g : Fault) → answerOf g ≡ answer.Taken → refused f ≡ got l p
+    none fault.CutShort k = unfold answerOf in cc
+    none fault.NotCarried k = unfold answerOf in cc
+    none fault.OutOfRange k = unfold answerOf in cc
+    none fault.TooManyValues k = unfold answerOf in cc
 
 -- where a source gives a lawful line's fields, that line is read
 line-there : (s : Source) (at p : ℕ) (l : Line) → T (lawful l) → Gives s at (lineFields l) p → lineFrom s at ≡ got l p
-line-there s at p l h g = let f = line-law .there s at p l [] h g in f .is ∙ ap (λ (q : ℕ). got l q) (f .then)
+line-there s at p l h g = let f = line-law .there s at p l [] h g in cc
 
 line-back : (s : Source) → Bounded s → (at : ℕ) (l : Line) (p : ℕ) → lineFrom s at ≡ got l p → T (lawful l) × Gives s at (lineFields l) p
-line-back s b at l p e = let k = subst (Holds (Back (format line) s at)) e (line-law .back s b at) in (k .is-lawful, k .gives [] p refl)
+line-back s b at l p e = let k = rw e at (line-law .back s b at) in (k .is-lawful, k .gives [] p refl)
 
 -- ---- lengths
 
@@ -69,15 +68,13 @@ line-few l h =
 -- a lawful line has eight places for values
 pub values-long : (l : Line) → T (lawful l) → length (l .values) ≡ 8
 unfolding line
-values-long l h = eqb→eq (length (l .values)) 8 (and-l (eqb (length (l .values)) 8) (eqb (l .count) (used l) && all isZero (drop (used l) (l .values))) (and-l (filled l) (format parts .lawful (partsOf l)) h))
+values-long l h =
+    eqb→eq (length (l .values)) 8 (and-l (eqb (length (l .values)) 8) (eqb (l .count) (used l) && all isZero (drop (used l) (l .values)))
+    (and-l (filled l) (format parts .lawful (partsOf l)) h))
 
 pub length-line : (l : Line) → length (lineBits l) ≡ widths (lineFields l)
 unfolding lineBits lineBefore
 length-line l = length-bits (lineFields l) [] ∙ add-zero (widths (lineFields l))
-
-pub length-before : (l : Line) (rest : List Bool) → length (lineBefore l rest) ≡ length (lineBits l) + length rest
-unfolding lineBefore
-length-before l rest = length-bits (lineFields l) rest ∙ ap (λ (k : ℕ). k + length rest) (sym (length-line l))
 
 -- a line is at least 1 bit long, a lawful one at most 367
 pub line-long : (l : Line) → T (lawful l) → (0 < length (lineBits l)) × (length (lineBits l) ≤ 367)
@@ -110,9 +107,8 @@ line-back-here bits at l p e =
     let b = line-back (bitSource bits) (bits-bounded bits) at l p (read-taken (lineFrom (bitSource bits) at) l p e) in
     let k = bits-back bits (lineFields l) at p (line-law .small l [] (b .0) tt) (b .1) in
     let w = line-wide l (values-long l (b .0)) in
-    let n : length (drop at bits) ≡ widths (lineFields l) + length (drop p bits) = ap length (k .here) ∙ length-bits (lineFields l) (drop p bits) in
-    let m : at ≤ length bits = omega (arith, length-drop at bits, w .0) in
-    record { is-lawful = b .0; within = k .room m; past = k .next ∙ ap (λ (x : ℕ). at + x) (sym (length-line l)); here = k .here }
+    let m : at ≤ length bits = omega (arith, length-drop at bits, ap length (k .here), length-bits (lineFields l) (drop p bits), w .0) in
+    record { is-lawful = b .0; within = k .room m; past = cc (length-line l); here = k .here }
 
 pub bits-read-back : BitsReadBack
 bits-read-back l before after h near =
@@ -121,12 +117,7 @@ bits-read-back l before after h near =
 pub bits-written-back : BitsWrittenBack
 bits-written-back bits at l p e =
     let k = line-back-here bits at l p e in
-    record {
-      is-lawful = k .is-lawful;
-      within = k .within;
-      past = k .past;
-      bits-are = sym (take-append-drop at bits) ∙ ap (λ (x : List Bool). take at bits ++ x) (k .here ∙ sym (before-append l (drop p bits)));
-    }
+    record { is-lawful = k .is-lawful; within = k .within; past = k .past; bits-are = cc (take-append-drop at bits, before-append l (drop p bits)) }
 
 pub bits-tell-lines : BitsTellLines
 bits-tell-lines a b r t ha hb e =
@@ -134,14 +125,15 @@ bits-tell-lines a b r t ha hb e =
     let lb = line-long b hb in
     let x = line-here (lineBefore a r) 0 a r ha (omega (arith, la .1)) refl in
     let y = line-here (lineBefore a r) 0 b t hb (omega (arith, lb .1)) e in
-    let same : taken a (0 + length (lineBits a)) ≡ taken b (0 + length (lineBits b)) = sym (x .0) ∙ y .0 in
-    let n : 0 + length (lineBits a) ≡ 0 + length (lineBits b) = ap (λ (z : LineRead). z .next) same in
-    (ap (λ (z : LineRead). z .line) same, sym (x .1) ∙ ap (λ (k : ℕ). drop k (lineBefore a r)) n ∙ y .1)
+    let same = sym (x .0) ∙ y .0 in
+    let n = ap (λ (z : LineRead). z .next) same in
+    (ap (λ (z : LineRead). z .line) same, cc)
 
 -- ---- keypad numbers
 
 -- a lawful line's numbers, and whatever follows them, are read as that line
-pub words-here : (words : List ℕ) (at : ℕ) (l : Line) (rest : List ℕ) → T (lawful l) → drop at words ≡ lineWords l ++ rest → lineInWords words at ≡ taken l (at + length (lineWords l))
+pub words-here : (words : List ℕ) (at : ℕ) (l : Line) (rest : List ℕ) → T (lawful l) → drop at words ≡ lineWords l ++ rest
+    → lineInWords words at ≡ taken l (at + length (lineWords l))
 unfolding lineInWords lineRead lineWords
 words-here words at l rest h d =
     ap lineRead (line-there (keypadSource words) at (at + length (fieldWords (lineFields l))) l h
@@ -153,17 +145,17 @@ unfolding lineInWords lineWords
 words-back-here words at l p h e =
     let b = line-back (keypadSource words) (words-bounded words h) at l p (read-taken (lineFrom (keypadSource words) at) l p e) in
     let k = words-back words (lineFields l) at p (line-law .small l [] (b .0) tt) (b .1) in
-    (b .0, k .0, k .1 ∙ ap (λ (x : ℕ). at + x) (sym (length-words (lineFields l))))
+    (b .0, k .0, cc (length-words (lineFields l)))
+
+pub whole-run : (l : Line) (n : ℕ) → wholeRun n (taken l n) ≡ taken l n
+unfolding wholeRun
+whole-run l n = rw (eq-eqb n n refl)
 
 pub words-read-back : WordsReadBack
-unfolding keypadLine wholeRun
+unfolding keypadLine
 words-read-back l h =
-    let r = words-here (lineWords l) 0 l [] h (sym (append-nil (lineWords l))) in
-    let n : 0 + length (lineWords l) ≡ length (lineWords l) = zero-add (length (lineWords l)) in
-    ap (wholeRun (length (lineWords l))) (r ∙ ap (taken l) n) ∙ whole l (length (lineWords l))
-  where
-    whole : (m : Line) (k : ℕ) → wholeRun k (taken m k) ≡ taken m k
-    whole m k = unfold wholeRun in rw (eq-eqb k k refl)
+    let n = length (lineWords l) in
+    cc (words-here (lineWords l) 0 l [] h (sym (append-nil (lineWords l))), zero-add n, whole-run l n)
 
 -- a run that was taken whole
 whole-taken : (n : ℕ) (r : LineRead) (l : Line) (p : ℕ) → wholeRun n r ≡ taken l p → (r ≡ taken l p) × (p ≡ n)
@@ -176,11 +168,12 @@ whole-taken n r l p e = go (isTaken (r .answer)) refl e
 
     go : (t : Bool) → isTaken (r .answer) ≡ t → cond t (cond (eqb (r .next) n) r (refusedLine answer.LeftOver)) r ≡ taken l p → (r ≡ taken l p) × (p ≡ n)
     go true f k = inner (eqb (r .next) n) refl k
-    go false f k = absurd (let z : isTaken (r .answer) ≡ true = ap (λ (x : LineRead). isTaken (x .answer)) k in let y : true ≡ false = sym z ∙ f in mathlib.Core.Bool.true≢false y)
+    go false f k =
+        absurd (let z : isTaken (r .answer) ≡ true = ap (λ (x : LineRead). isTaken (x .answer)) k in let y : true ≡ false = sym z ∙ f in mathlib.Core.Bool.true≢false y)
 
 pub words-written-back : WordsWrittenBack
 unfolding keypadLine
 words-written-back words l p h e =
     let w = whole-taken (length words) (lineInWords words 0) l p e in
     let k = words-back-here words 0 l p h (w .0) in
-    (k .0, sym (k .1 ∙ ap (λ (x : List ℕ). lineWords l ++ x) (ap (λ (j : ℕ). drop j words) (w .1) ∙ drop-length words) ∙ append-nil (lineWords l)))
+    (k .0, cc (drop-length words, append-nil (lineWords l)))

@@ -1,7 +1,7 @@
 -- Fields written one after the other, and the line that they make. Assumes nothing.
 use Prim.Native.Nat.{ℕ, zero, suc, _+_, _-_, _*_, _/_, _<_, _≤_}
-use mathlib.Core.Path.{_≡_, refl, sym, ap, ap₂, _∙_, subst}
-use mathlib.Core.Bool.{Bool, true, false, _&&_, true≢false}
+use mathlib.Core.Path.{_≡_, refl, sym, ap, ap₂, _∙_}
+use mathlib.Core.Bool.{Bool, true, false}
 use mathlib.Core.List.{List, [], _∷_, _++_, append-assoc, append-nil}
 use native.Mathlib.Nat.{add-zero, lt-of-not-le}
 use native.Mathlib.Numerals.{add-one}
@@ -9,16 +9,17 @@ use native.Mathlib.Decide.{decLe}
 use native.Mathlib.Omega.{arith}
 use borrow.Author.Tests.{le-leb, lt-leb, leb-true}
 use lib.Dec.{leb}
-use lib.ListN.{length, take, drop, getD, replicate, length-append}
+use lib.ListN.{length, take, getD, replicate, length-append, take-append-drop}
 use lib.Seq.{take-at}
 use mir.Val.{Fits}
 use mir.Syntax.{w64}
+use Rattle.laws.proofs.Choice.{both-true}
 use Rattle.answer.specs.declared.Answer.{Answer}
 use Rattle.bitstream.specs.Bits.{bitsOf, field}
 use Rattle.bitstream.specs.Fields.{farthest, over, put}
 use Rattle.bitstream.specs.inside.Fields.{written}
 use Rattle.bitstream.proofs.Laws.{length-field, length-bitsOf}
-use Rattle.bitstream.proofs.Fields.{over-over, written-over}
+use Rattle.bitstream.proofs.Fields.{length-over, over-over, written-over}
 use Rattle.score_line.specs.Reading.{keypadLine}
 use Rattle.score_line.specs.declared.Line.{Line}
 use Rattle.formats.specs.Format.{Field, of, fieldBits, fieldWords}
@@ -51,11 +52,7 @@ module _ (bits at n : ℕ) where
 
   pub fit-back : bitsFit bits at n ≡ true → (at + n ≤ farthest) × (at + n ≤ bits)
   unfolding bitsFit
-  fit-back e = go (leb (at + n) farthest) refl e
-    where
-      go : (t : Bool) → leb (at + n) farthest ≡ t → (t && leb (at + n) bits) ≡ true → (at + n ≤ farthest) × (at + n ≤ bits)
-      go true h k = (leb-true (at + n) farthest h, leb-true (at + n) bits k)
-      go false h k = absurd (true≢false (sym k))
+  fit-back e = let t = both-true (leb (at + n) farthest) (leb (at + n) bits) e in (leb-true (at + n) farthest (t .0), leb-true (at + n) bits (t .1))
 
 pub fit-bytes : (bytes at n : ℕ) → at + n ≤ farthest → leb ((at + n + 7) / 8) bytes ≡ bitsFit (8 * bytes) at n
 fit-bytes bytes at n h = go (decLe (at + n) (8 * bytes))
@@ -84,82 +81,68 @@ unfolding fieldBits
 bits-snoc [] w v = append-nil (field w v)
 bits-snoc (of a b ∷ fs) w v = ap (put a b) (bits-snoc fs w v) ∙ sym (append-assoc (field a b) (fieldBits fs []) (field w v))
 
-module _ (bits at n : ℕ) (ws vs : List ℕ) (old : List Bool) where
+nothing-over : (l : List Bool) (at : ℕ) → l ≡ over l at []
+nothing-over l at = cc (add-zero at, take-append-drop at l)
+
+module _ (at n : ℕ) (ws vs first : List ℕ) where
   -- i fields are written, up to p
-  pub record Writing (new : List Bool) (p i : ℕ) : Type 0 where
+  pub record Loop (s : List ℕ) (p i : ℕ) : Type 0 where
+    pub same : length s ≡ length first
     pub upto : i ≤ n
-    pub wrote : Wrote old at (fieldsIn i ws vs) new p
+    pub wrote : Wrote (bitsOf first) at (fieldsIn i ws vs) (bitsOf s) p
 
-  pub writes-start : Writing old at 0
+  pub loop-start : Loop first at 0
   unfolding fieldBits
-  writes-start = record { upto = omega arith; wrote = record { past = omega arith; stands = start old at } }
-    where
-      start : (l : List Bool) (j : ℕ) → l ≡ over l j []
-      start l j = sym (ap (λ (k : ℕ). take j l ++ drop k l) (add-zero j) ∙ lib.ListN.take-append-drop j l)
+  loop-start = record { same = refl; upto = omega arith; wrote = record { past = omega arith; stands = nothing-over (bitsOf first) at } }
 
-  module _ (h : Writable bits at n ws vs) (hw : length ws ≡ 18) (hv : length vs ≡ 18) (ho : length old ≡ bits) where
+  module _ (h : Writable (8 * length first) at n ws vs) (hw : length ws ≡ 18) (hv : length vs ≡ 18) where
     more : (i : ℕ) → i < n → fieldsIn (i + 1) ws vs ≡ fieldsIn i ws vs ++ (of (getD ws i 0) (getD vs i 0) ∷ [])
     more i l = ap (λ (k : ℕ). fieldsIn k ws vs) (add-one i) ∙ fields-more ws vs i (omega (arith, h .few)) (omega (arith, h .few))
 
     -- the next field is within
-    next-fits : (i : ℕ) → i < n → (at + widths (fieldsIn i ws vs) + getD ws i 0 ≤ farthest) × (at + widths (fieldsIn i ws vs) + getD ws i 0 ≤ bits)
+    next-fits : (i : ℕ) → i < n → (at + widths (fieldsIn i ws vs) + getD ws i 0 ≤ farthest) × (at + widths (fieldsIn i ws vs) + getD ws i 0 ≤ 8 * length first)
     next-fits i l =
-        let e : widths (fieldsIn (i + 1) ws vs) ≡ widths (fieldsIn i ws vs) + getD ws i 0 = ap widths (more i l) ∙ sum-snoc (fieldsIn i ws vs) (getD ws i 0) (getD vs i 0) in
-        let g : widths (fieldsIn (i + 1) ws vs) ≤ widths (fieldsIn n ws vs) = widths-grow ws vs (i + 1) n (omega arith) in
+        let e = ap widths (more i l) ∙ sum-snoc (fieldsIn i ws vs) (getD ws i 0) (getD vs i 0) in
+        let g = widths-grow ws vs (i + 1) n (omega arith) in
         (omega (arith, h .near), omega (arith, h .within))
 
-    pub writes-again : (new next : List Bool) (p i : ℕ) → Writing new p i → i < n → next ≡ written new p (getD ws i 0) (getD vs i 0) → Writing next (p + getD ws i 0) (i + 1)
-    writes-again new next p i c l e =
+    pub loop-more : (s t : List ℕ) (p i : ℕ) → Loop s p i → i < n → length t ≡ length s → bitsOf t ≡ written (bitsOf s) p (getD ws i 0) (getD vs i 0)
+        → Loop t (p + getD ws i 0) (i + 1)
+    loop-more s t p i c l same e =
         let w = getD ws i 0 in
         let v = getD vs i 0 in
         let fs = fieldsIn i ws vs in
         let b = fieldBits fs [] in
         let f = next-fits i l in
+        let past = c .wrote .past in
         let k : length b ≡ widths fs = length-bits fs [] ∙ add-zero (widths fs) in
-        let p-is : p ≡ at + length b = c .wrote .past ∙ ap (λ (x : ℕ). at + x) (sym k) in
-        let m : at + length b ≤ length old = omega (arith, f .1) in
-        let lf : length (field w v) ≡ w = length-field w v in
-        let mw : at + length b + length (field w v) ≤ length old = omega (arith, f .1) in
-        let ln : length new ≡ length old = ap length (c .wrote .stands) ∙ Rattle.bitstream.proofs.Fields.length-over old at b m in
-        let pf : p ≤ farthest = omega (arith, f .0, c .wrote .past) in
-        let pb : p + w ≤ length new = omega (arith, f .1, c .wrote .past) in
+        let p-is : p ≡ at + length b = omega arith in
+        let size = length-bitsOf first in
+        let m : at + length b ≤ length (bitsOf first) = omega (arith, f .1) in
+        let mw : at + length b + length (field w v) ≤ length (bitsOf first) = omega (arith, f .1, length-field w v) in
+        let ln : length (bitsOf s) ≡ length (bitsOf first) = ap length (c .wrote .stands) ∙ length-over (bitsOf first) at b m in
         record {
+          same = same ∙ c .same;
           upto = omega arith;
           wrote = record {
-            past = omega (arith, c .wrote .past, ap widths (more i l) ∙ sum-snoc fs w v);
+            past = omega (arith, ap widths (more i l), sum-snoc fs w v);
             stands =
-                e ∙ written-over new p w v (h .narrow i) pf pb
-                ∙ ap₂ (λ (x : List Bool) (j : ℕ). over x j (field w v)) (c .wrote .stands) p-is
-                ∙ over-over old at b m (field w v) mw
-                ∙ ap (over old at) (sym (ap (λ (gs : List Field). fieldBits gs []) (more i l) ∙ bits-snoc fs w v));
+                cc (
+                  written-over (bitsOf s) p w v (h .narrow i) (omega (arith, f .0)) (omega (arith, f .1)),
+                  c .wrote .stands,
+                  over-over (bitsOf first) at b m (field w v)
+                      mw,
+                  more i l,
+                  bits-snoc fs w v,
+                );
           };
         }
 
-    pub writes-fit : (new : List Bool) (p i : ℕ) → Writing new p i → i < n → p + getD ws i 0 ≤ farthest
-    writes-fit new p i c l = omega (arith, next-fits i l .0, c .wrote .past)
-
-  pub writes-end : (new : List Bool) (p i : ℕ) → Writing new p i → n ≤ i → Wrote old at (fieldsIn n ws vs) new p
-  writes-end new p i c l = let e : i ≡ n = omega (arith, c .upto) in subst (λ (k : ℕ). Wrote old at (fieldsIn k ws vs) new p) e (c .wrote)
-
--- the same on bytes
-module _ (at n : ℕ) (ws vs first : List ℕ) where
-  pub record Loop (s : List ℕ) (p i : ℕ) : Type 0 where
-    pub same : length s ≡ length first
-    pub writing : Writing (8 * length first) at n ws vs (bitsOf first) (bitsOf s) p i
-
-  pub loop-start : Loop first at 0
-  loop-start = record { same = refl; writing = writes-start (8 * length first) at n ws vs (bitsOf first) }
-
-  pub loop-more : (s t : List ℕ) (p i : ℕ) → Writable (8 * length first) at n ws vs → length ws ≡ 18 → length vs ≡ 18 → Loop s p i → i < n → length t ≡ length s
-      → bitsOf t ≡ written (bitsOf s) p (getD ws i 0) (getD vs i 0) → Loop t (p + getD ws i 0) (i + 1)
-  loop-more s t p i h hw hv c l k e =
-      record { same = k ∙ c .same; writing = writes-again (8 * length first) at n ws vs (bitsOf first) h hw hv (length-bitsOf first) (bitsOf s) (bitsOf t) p i (c .writing) l e }
-
-  pub loop-fits : (s : List ℕ) (p i : ℕ) → Writable (8 * length first) at n ws vs → length ws ≡ 18 → length vs ≡ 18 → Loop s p i → i < n → Fits w64 (p + getD ws i 0)
-  loop-fits s p i h hw hv c l = record { fits = omega (arith, writes-fit (8 * length first) at n ws vs (bitsOf first) h hw hv (length-bitsOf first) (bitsOf s) p i (c .writing) l) }
+    pub loop-fits : (s : List ℕ) (p i : ℕ) → Loop s p i → i < n → Fits w64 (p + getD ws i 0)
+    loop-fits s p i c l = record { fits = omega (arith, next-fits i l .0, c .wrote .past) }
 
   pub loop-end : (s : List ℕ) (p i : ℕ) → Loop s p i → n ≤ i → Wrote (bitsOf first) at (fieldsIn n ws vs) (bitsOf s) p
-  loop-end s p i c l = writes-end (8 * length first) at n ws vs (bitsOf first) (bitsOf s) p i (c .writing) l
+  loop-end s p i c l = let e : i ≡ n = omega (arith, c .upto) in rw e at (c .wrote)
 
 -- ---- a line's fields in the arrays
 
@@ -182,7 +165,8 @@ zip-back (of w v ∷ fs) = ap (λ (l : List Field). of w v ∷ l) (zip-back fs)
 pub fields-back : (fs : List Field) → fieldsIn (length fs) (toEighteen (fieldWidths fs)) (toEighteen (fieldWords fs)) ≡ fs
 unfolding toEighteen
 fields-back fs =
-    ap₂ zipped (take-at (fieldWidths fs) (replicate (18 - length (fieldWidths fs)) 0) (length fs) (length-widths fs)) (take-at (fieldWords fs) (replicate (18 - length (fieldWords fs)) 0) (length fs) (length-words fs))
+    ap₂ zipped (take-at (fieldWidths fs) (replicate (18 - length (fieldWidths fs)) 0) (length fs) (length-widths fs))
+    (take-at (fieldWords fs) (replicate (18 - length (fieldWords fs)) 0) (length fs) (length-words fs))
     ∙ zip-back fs
 
 -- ---- the line written
@@ -203,29 +187,30 @@ module _ (f : Fields) (l : Line) (e : f ≡ packed (lineFields l)) where
   pub count-within : f .count ≤ length (f .values)
   unfolding packed toEighteen
   count-within =
-      let n : f .count ≡ length (lineFields l) = ap (λ (g : Fields). g .count) e in
-      let ws = fieldWords (lineFields l) in
-      let m : length (f .values) ≡ length ws + length (replicate {A = ℕ} (18 - length ws) 0) =
-      ap (λ (g : Fields). length (g .values)) e ∙ length-append ws (replicate (18 - length ws) 0) in
+      let n = ap (λ (g : Fields). g .count) e in
+      let m = simp length-append at (ap (λ (g : Fields). length (g .values)) e) in
       omega (arith, length-words (lineFields l))
 
   pub fault-is : {a : Answer} → a ≡ (keypadLine (take (f .count) (f .values))) .answer → a ≡ lineFault l
   unfolding packed lineFault lineWords toEighteen
   fault-is y =
-      y ∙ ap (λ (g : Fields). (keypadLine (take (g .count) (g .values))) .answer) e
-      ∙ ap (λ (ws : List ℕ). (keypadLine ws) .answer) (take-at (fieldWords (lineFields l)) (replicate (18 - length (fieldWords (lineFields l))) 0) (length (lineFields l)) (length-words (lineFields l)))
+      let ws = fieldWords (lineFields l) in
+      cc (
+        ap (λ (g : Fields). g .count) e,
+        ap (λ (g : Fields). g .values) e,
+        take-at ws (replicate (18 - length ws) 0) (length (lineFields l))
+            (length-words (lineFields l)),
+      )
 
-  few : length (f .values) ≡ 18 → f .count ≤ 18
-  few h = omega (arith, count-within)
-
-  pub line-writable : (s : List ℕ) (at : ℕ) {b : Bool} → length (f .values) ≡ 18 → b ≡ bitsFit (8 * length s) at (f .bits) → b ≡ true → Writable (8 * length s) at (f .count) (f .widths) (f .values)
+  pub line-writable : (s : List ℕ) (at : ℕ) {b : Bool} → length (f .values) ≡ 18 → b ≡ bitsFit (8 * length s) at (f .bits) → b ≡ true
+      → Writable (8 * length s) at (f .count) (f .widths) (f .values)
   unfolding packed toEighteen
   line-writable s at h g k =
       let w : widths (fieldsIn (f .count) (f .widths) (f .values)) ≡ f .bits = ap widths fields-are ∙ sym (ap (λ (x : Fields). x .bits) e) in
       let y = fit-back (8 * length s) at (f .bits) (sym g ∙ k) in
       record {
-        few = few h;
-        narrow = λ i. subst (λ (x : Fields). getD (x .widths) i 0 ≤ 32) (sym e) (narrow-at (lineFields l) (18 - length (fieldWidths (lineFields l))) i (narrow line line-proper l [] tt));
+        few = omega (arith, count-within);
+        narrow = λ i. rw e (narrow-at (lineFields l) (18 - length (fieldWidths (lineFields l))) i (narrow line line-proper l [] tt));
         near = omega (arith, y .0);
         within = omega (arith, y .1);
       }
@@ -233,15 +218,12 @@ module _ (f : Fields) (l : Line) (e : f ≡ packed (lineFields l)) where
   pub line-unwritten : (s : List ℕ) (at : ℕ) {b : Bool} → b ≡ bitsFit (8 * length s) at (f .bits) → b ≡ false → LineWritten (bitsOf s) at l (bitsOf s) at
   unfolding pastLine lineOver
   line-unwritten s at g k =
-      let y : bitsFit (length (bitsOf s)) at (length (lineBits l)) ≡ false = ap₂ (λ (x z : ℕ). bitsFit x at z) (length-bitsOf s) (sym bits-are) ∙ sym g ∙ k in
+      let y : bitsFit (length (bitsOf s)) at (length (lineBits l)) ≡ false = cc (length-bitsOf s, bits-are) in
       record { past = sym (rw y); leaves = sym (rw y) }
 
   pub line-written : (s t : List ℕ) (at p : ℕ) {b : Bool} → b ≡ bitsFit (8 * length s) at (f .bits) → b ≡ true
       → Wrote (bitsOf s) at (fieldsIn (f .count) (f .widths) (f .values)) (bitsOf t) p → LineWritten (bitsOf s) at l (bitsOf t) p
   unfolding pastLine lineOver lineBits lineBefore
   line-written s t at p g k w =
-      let y : bitsFit (length (bitsOf s)) at (length (lineBits l)) ≡ true = ap₂ (λ (x z : ℕ). bitsFit x at z) (length-bitsOf s) (sym bits-are) ∙ sym g ∙ k in
-      record {
-        past = w .past ∙ ap (λ (x : ℕ). at + x) (ap widths fields-are ∙ sym (length-line l)) ∙ sym (rw y);
-        leaves = w .stands ∙ ap (λ (x : List Field). over (bitsOf s) at (fieldBits x [])) fields-are ∙ sym (rw y);
-      }
+      let y : bitsFit (length (bitsOf s)) at (length (lineBits l)) ≡ true = cc (length-bitsOf s, bits-are) in
+      record { past = rw y (cc (w .past, fields-are, length-line l)); leaves = rw y (cc (w .stands, fields-are)) }

@@ -1,6 +1,6 @@
 -- A list of names: what it spells is read, what is read is spelled, and there is one reading. Assumes nothing.
 use Prim.Native.Nat.{ℕ, zero, suc, _+_, _-_, _<_, _≤_}
-use mathlib.Core.Path.{_≡_, refl, sym, ap, ap₂, _∙_}
+use mathlib.Core.Path.{_≡_, refl, sym, ap, _∙_}
 use mathlib.Core.Bool.{Bool, true, false, cond}
 use mathlib.Core.List.{List, [], _∷_, _++_}
 use mathlib.Core.Option.{Option, none, some}
@@ -13,9 +13,6 @@ use Rattle.laws.proofs.Choice.{cond-true, cond-false}
 use Rattle.names.specs.Form.{Names, listBytes}
 use Rattle.names.specs.inside.Asking.{before, entries, listOf, nameAmong, nameIn}
 use Rattle.names.specs.Claims.{ListRead, ListSpelled, OneList, NameInList, NoNameInOther}
-
-some-inj : (x y : Names) → some x ≡ some y → x ≡ y
-some-inj x y e = cc
 
 -- ---- enough steps
 
@@ -55,38 +52,34 @@ list-here [] = list-none
 list-here (name ∷ names) =
     let r = listBytes names in
     let l : length (name ++ r) ≡ length name + length r = length-append name r in
-    list-entry (length name) (name ++ r) (omega arith)
-    ∙ ap₂ before (take-at name r (length name) refl) (ap listOf (drop-at name r (length name) refl) ∙ list-here names)
+    cc (list-entry (length name) (name ++ r) (omega arith), take-at name r (length name) refl, drop-at name r (length name) refl, list-here names)
 
 pub list-read : ListRead
 list-read bytes names e = sym (ap listOf e) ∙ list-here names
 
 pub one-list : OneList
-one-list names others e = some-inj names others (sym (list-here names) ∙ ap listOf e ∙ list-here others)
+one-list names others e = cc (list-here names, list-here others)
 
 -- what is read stands there
 back : (k : ℕ) (s : List ℕ) (names : Names) → entries k s ≡ some names → listBytes names ≡ s
 unfolding entries listBytes
-back zero [] names e = ap listBytes (some-inj names [] (sym e))
-back (suc k) [] names e = ap listBytes (some-inj names [] (sym e))
+back zero [] names e = cc
+back (suc k) [] names e = cc
 back zero (b ∷ s) names e = go (leb b (length s)) e
   where
     go : (t : Bool) → cond t none none ≡ some names → listBytes names ≡ b ∷ s
-    go true f = let z : _≡_ {A = ℕ} 0 1 = cc in absurd (omega arith)
-    go false f = let z : _≡_ {A = ℕ} 0 1 = cc in absurd (omega arith)
+    go true f = cc
+    go false f = cc
 back (suc k) (b ∷ s) names e = go (λ others f. back k (drop b s) others f) (leb b (length s)) refl
   where
     found : ((others : Names) → entries k (drop b s) ≡ some others → listBytes others ≡ drop b s)
         → (o : Option Names) → entries k (drop b s) ≡ o → b ≤ length s → before (take b s) o ≡ some names → listBytes names ≡ b ∷ s
-    found ih none f h g = let z : _≡_ {A = ℕ} 0 1 = cc in absurd (omega arith)
-    found ih (some others) f h g =
-        ap listBytes (some-inj names (take b s ∷ others) (sym g))
-        ∙ ap₂ (λ (x : ℕ) (y : List ℕ). x ∷ (take b s ++ y)) (length-take-le b s h) (ih others f)
-        ∙ ap (λ (y : List ℕ). b ∷ y) (take-append-drop b s)
+    found ih none f h g = cc
+    found ih (some others) f h g = cc (length-take-le b s h, ih others f, take-append-drop b s)
 
     go : ((others : Names) → entries k (drop b s) ≡ some others → listBytes others ≡ drop b s) → (t : Bool) → leb b (length s) ≡ t → listBytes names ≡ b ∷ s
     go ih true f = found ih (entries k (drop b s)) refl (leb-true _ _ f) (sym (cond-true _ _ f) ∙ e)
-    go ih false f = let g : none ≡ some names = sym (cond-false _ _ f) ∙ e in let z : _≡_ {A = ℕ} 0 1 = cc in absurd (omega arith)
+    go ih false f = let g : none ≡ some names = sym (cond-false _ _ f) ∙ e in cc
 
 pub list-spelled : ListSpelled
 unfolding listOf

@@ -3,7 +3,7 @@
 use Prim.Native.Nat.{ℕ, zero, suc, _+_, _-_, _*_, _/_, _%_, _^_, _≤_, _<_, compare, Ordering, Ordering·lt, Ordering·eq, Ordering·gt}
 use mathlib.Core.Path.{_≡_, sym, ap, _∙_, subst}
 use mathlib.Core.Bool.{not}
-use native.Mathlib.Nat.{div-add-mod', mod-lt, mul-le-mul-right, add-zero, suc-mul, mul-one, one-mul, mul-zero, mul-suc, mul-assoc, mul-right-comm, add-mul, pow-suc}
+use native.Mathlib.Nat.{div-add-mod', mod-lt, mul-le-mul-right, mul-one, mul-zero, mul-suc, pow-suc}
 use native.Mathlib.Omega.{arith}
 use lib.Arith.{lt-of-le-ne}
 use lib.Dec.{T, isLe, isEq, eqb, leb→le, nleb→lt, eqb→eq, eqb-refl}
@@ -37,10 +37,10 @@ half-at a b q r Ordering·lt e l h = record { within = omega arith; tie = λ t. 
 half-at a b q r Ordering·eq e l h = even (q % 2) (mod-lt q (omega arith))
   where
     even : (t : ℕ) → t < 2 → Half a b r ((q + t) * b)
-    even zero k = subst (λ (x : ℕ). Half a b r (x * b)) (sym (add-zero q)) (record { within = omega arith; tie = λ t. h })
-    even (suc zero) k = subst (Half a b r) (sym (add-mul q 1 b)) (record { within = omega arith; tie = λ t. h })
+    even zero k = record { within = omega arith; tie = λ t. h }
+    even (suc zero) k = record { within = omega arith; tie = λ t. h }
     even (suc (suc t)) k = absurd (let z : suc (suc t) < 2 = k in omega arith)
-half-at a b q r Ordering·gt e l h = subst (Half a b r) (sym (suc-mul q b)) (record { within = omega arith; tie = λ t. omega arith })
+half-at a b q r Ordering·gt e l h = record { within = omega arith; tie = λ t. omega arith }
 
 pub half : (a b : ℕ) → 0 < b → Half a b (a % b) (closest a b * b)
 half a b B = half-at a b (a / b) (a % b) (compare (a % b * 2) b) (div-add-mod' a b) (mod-lt a B) (cmp (a % b * 2) b)
@@ -50,15 +50,12 @@ pub nearest-whole : (a b y : ℕ) → 0 < b → (a % b * 2 ≡ b → ⊥) → (c
 nearest-whole a b y B t n = go (closest a b) (half a b B) n (compare (closest a b) y) (cmp (closest a b) y)
   where
     step : (x y : ℕ) → x < y → x * b + b ≤ y * b
-    step x y h = subst (λ (z : ℕ). z ≤ y * b) (suc-mul x b) (mul-le-mul-right b h)
+    step x y h = omega (arith, mul-le-mul-right b h)
 
     go : (z : ℕ) → Half a b (a % b) (z * b) → (z ≡ y → ⊥) → (o : Ordering) → Cmp o z y → gap a (z * b) < gap a (y * b)
     go z h n Ordering·lt l = let s : gap a (z * b) * 2 < b = lt-of-le-ne (h .within) (λ e. t (h .tie e)) in omega (arith, step z y l)
     go z h n Ordering·eq l = absurd (n l)
     go z h n Ordering·gt l = let s : gap a (z * b) * 2 < b = lt-of-le-ne (h .within) (λ e. t (h .tie e)) in omega (arith, step y z l)
-
-pub odd-times : (q y : ℕ) → (q * 2 + 1) * y ≡ q * y * 2 + y
-odd-times q y = add-mul (q * 2) 1 y ∙ (λ i. mul-right-comm q 2 y i + one-mul y i)
 
 -- no tie: an odd number past n divides no n * 2 ^ j but 0
 pub no-half : (j n q y : ℕ) → 0 < n → n ≤ q * 2 → (q * 2 + 1) * y ≡ n * 2 ^ j → ⊥
@@ -67,7 +64,6 @@ no-half zero n q (suc y) N h e = let f : (q * 2 + 1) * y + (q * 2 + 1) ≡ n = s
 no-half (suc j) n q y N h e =
     let a = n * 2 ^ j in
     let b = q * y in
-    let f : (q * 2 + 1) * y ≡ a * 2 = e ∙ ap (λ (x : ℕ). n * x) (pow-suc 2 j) ∙ sym (mul-assoc n (2 ^ j) 2) in
-    let z : y ≡ (a - b) * 2 = omega (arith, odd-times q y) in
-    let w : b ≡ q * (a - b) * 2 = ap (λ (x : ℕ). q * x) z ∙ sym (mul-assoc q (a - b) 2) in
-    no-half j n q (a - b) N h (odd-times q (a - b) ∙ ap (λ (x : ℕ). x + (a - b)) (sym w) ∙ omega arith)
+    let f : (q * 2 + 1) * y ≡ a * 2 = omega (arith, ap (λ (x : ℕ). n * x) (pow-suc 2 j)) in
+    let z : y ≡ (a - b) * 2 = omega (arith, f) in
+    no-half j n q (a - b) N h (omega (arith, ap (λ (x : ℕ). q * x) z))

@@ -1,6 +1,6 @@
 -- The decimal digits of a number: they make it, and digits of which the first is not 0 are those of the number that they make. Assumes nothing.
 use Prim.Native.Nat.{ℕ, zero, suc, _+_, _*_, _/_, _%_, _^_, _≤_, _<_}
-use native.Mathlib.Nat.{le-of-suc-le-suc, eq-or-lt-of-le, zero-mul, zero-add, mul-comm, add-mul, add-assoc, add-zero, one-mul, mul-one, mul-assoc, mul-le-mul-right, mod-lt, mod-one, mod-eq-of-lt, le-div-iff-mul-le, div-lt-iff-lt-mul, pow-suc, pow-succ', pow-le-pow-right}
+use native.Mathlib.Nat.{le-of-suc-le-suc, eq-or-lt-of-le, mul-comm, add-zero, mul-one, mul-le-mul-right, mod-lt, mod-one, mod-eq-of-lt, le-div-iff-mul-le, div-lt-iff-lt-mul, pow-suc, pow-succ', pow-le-pow-right}
 use native.Mathlib.Omega.{arith}
 use mathlib.Core.Path.{_≡_, refl, sym, ap, _∙_, subst}
 use mathlib.Core.Logic.{inl, inr}
@@ -30,24 +30,20 @@ unfolding valueFrom
 value-split a [] = sym (add-zero (a * 1) ∙ mul-one a)
 value-split a (v ∷ vs) =
     let p = 10 ^ length vs in
-    let w = valueFrom 0 vs in
     let e : 10 ^ suc (length vs) ≡ p * 10 = pow-suc 10 (length vs) in
-    let f : a * (p * 10) ≡ a * p * 10 = sym (mul-assoc a p 10) in
-    let g : valueFrom (0 * 10 + v) vs ≡ (0 * 10 + v) * p + w = value-split (0 * 10 + v) vs in
-    let h : (a * 10 + v) * p + w ≡ a * (p * 10) + ((0 * 10 + v) * p + w) = omega arith in
-    value-split (a * 10 + v) vs ∙ h ∙ sym (λ i. a * e i + g i)
+    omega (arith, value-split (a * 10 + v) vs, value-split (0 * 10 + v) vs, ap (λ (z : ℕ). a * z) e)
 
 -- the first digit, and the others
 first-of : (v : ℕ) (vs : List ℕ) → valueFrom 0 (v ∷ vs) ≡ v * 10 ^ length vs + valueFrom 0 vs
 unfolding valueFrom
-first-of v vs = value-split (0 * 10 + v) vs ∙ ap (λ (z : ℕ). z * 10 ^ length vs + valueFrom 0 vs) (let z : 0 * 10 + v ≡ v = omega arith in z)
+first-of v vs = omega (arith, value-split (0 * 10 + v) vs)
 
 pub value-below : (vs : List ℕ) → Digits vs → valueFrom 0 vs < 10 ^ length vs
 unfolding valueFrom Digits
 value-below [] d = omega arith
 value-below (v ∷ vs) d =
-    subst (λ (z : ℕ). valueFrom 0 (v ∷ vs) < z) (sym (pow-succ' 10 (length vs)))
-    (subst (λ (z : ℕ). z < 10 * 10 ^ length vs) (sym (first-of v vs)) (digits-lt (d .0) (value-below vs (d .1))))
+    let l : v * 10 ^ length vs + valueFrom 0 vs < 10 * 10 ^ length vs = digits-lt (d .0) (value-below vs (d .1)) in
+    omega (arith, first-of v vs, pow-succ' 10 (length vs))
 
 -- the k lowest digits behind a number
 pub lowest-value : (k a n : ℕ) → valueFrom a (lowest k n) ≡ a * 10 ^ k + n % 10 ^ k
@@ -58,8 +54,7 @@ lowest-value (suc k) a n =
     let v = n / p % 10 in
     let q : 10 ^ suc k ≡ 10 * p = pow-suc 10 k ∙ mul-comm p 10 in
     let e : n % 10 ^ suc k ≡ v * p + n % p = ap (λ (z : ℕ). n % z) q ∙ mod-mul n {m = 10} {c = p} (omega arith) (ten-pos k) in
-    let f : (a * 10 + v) * p ≡ a * 10 ^ suc k + v * p = add-mul (a * 10) v p ∙ ap (λ (z : ℕ). z + v * p) (mul-assoc a 10 p ∙ ap (λ (z : ℕ). a * z) (sym q)) in
-    lowest-value k (a * 10 + v) n ∙ ap (λ (z : ℕ). z + n % p) f ∙ add-assoc (a * 10 ^ suc k) (v * p) (n % p) ∙ ap (λ (z : ℕ). a * 10 ^ suc k + z) (sym e)
+    omega (arith, lowest-value k (a * 10 + v) n, ap (λ (z : ℕ). a * z) q)
 
 -- digits are the lowest ones of the number that they make
 pub lowest-back : (a : ℕ) (vs : List ℕ) → Digits vs → lowest (length vs) (valueFrom a vs) ≡ vs
@@ -108,7 +103,7 @@ decimal-digits n = lowest-digits (widthOf n) n
 
 pub decimal-value : (n : ℕ) → n < 100000000 → valueFrom 0 (decimal n) ≡ n
 unfolding decimal
-decimal-value n h = lowest-value (widthOf n) 0 n ∙ ap (λ (z : ℕ). z + n % 10 ^ widthOf n) (zero-mul (10 ^ widthOf n)) ∙ zero-add (n % 10 ^ widthOf n) ∙ mod-eq-of-lt (wide n h .room)
+decimal-value n h = omega (arith, lowest-value (widthOf n) 0 n, mod-eq-of-lt (wide n h .room))
 
 -- a number has one width
 wide-one : (n w k : ℕ) → Wide n w → 10 ^ k ≤ n → n < 10 ^ suc k → w ≡ suc k
@@ -123,9 +118,7 @@ unfolding decimal
 decimal-back v vs d h l =
     let n = valueFrom 0 (v ∷ vs) in
     let p = 10 ^ length vs in
-    let a : 1 * p ≤ v * p = mul-le-mul-right p h in
-    let b : p ≤ v * p + valueFrom 0 vs = omega arith in
-    let c : p ≤ n = subst (λ (z : ℕ). p ≤ z) (sym (first-of v vs)) b in
+    let c : p ≤ n = let a : 1 * p ≤ v * p = mul-le-mul-right p h in omega (arith, first-of v vs) in
     ap (λ (w : ℕ). lowest w n) (wide-one n (widthOf n) (length vs) (wide n l) c (value-below (v ∷ vs) d)) ∙ lowest-back 0 (v ∷ vs) d
 
 -- the first digit of a number that is not 0
@@ -134,6 +127,6 @@ unfolding startsWith digitBytes lowest
 not-zero n zero after f h = absurd (let z : 1 ≤ 0 = f .some in omega arith)
 not-zero n (suc k) after f h =
     let p = 10 ^ k in
-    let a : 1 ≤ n / p = le-div-iff-mul-le (ten-pos k) .1 (subst (λ (z : ℕ). z ≤ n) (sym (one-mul p)) (powers-within n (suc k) f h k (omega arith))) in
-    let b : n / p < 10 = div-lt-iff-lt-mul (ten-pos k) .1 (subst (λ (z : ℕ). n < z) (pow-succ' 10 k) (f .room)) in
+    let a : 1 ≤ n / p = le-div-iff-mul-le (ten-pos k) .1 (omega (arith, powers-within n (suc k) f h k (omega arith))) in
+    let b : n / p < 10 = div-lt-iff-lt-mul (ten-pos k) .1 (omega (arith, f .room, pow-succ' 10 k)) in
     ne-eqb (48 + n / p % 10) 48 (λ (e : 48 + n / p % 10 ≡ 48). let m : n / p % 10 ≡ n / p = mod-eq-of-lt b in omega arith)

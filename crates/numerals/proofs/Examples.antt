@@ -4,7 +4,8 @@ use Prim.Native.Char.{code}
 use Prim.Native.String.{String, [] as empty, _∷_ as _before_}
 use mathlib.Core.Path.{_≡_, refl}
 use mathlib.Core.Bool.{true, false}
-use mathlib.Core.List.{List, [], _∷_}
+use mathlib.Core.List.{List, [], _∷_, map}
+use lib.ListN.{replicate}
 use Rattle.numerals.specs.Numeral.{floatOf}
 use Rattle.numerals.specs.inside.Reading.{got, refused, numberFrom, nameFrom}
 
@@ -15,57 +16,23 @@ bytes (c before s) = code c ∷ bytes s
 
 -- ---- numbers
 
--- below 2 ^ 24, with the point left out too
+-- below 2 ^ 24; leading zeros are none, and those behind the point are decimals
 largest : numberFrom (bytes "16777215 end") ≡ got (floatOf false 16777215 0) (bytes " end")
 unfolding numberFrom
 largest = refl
 
-too-large : numberFrom (bytes "16777216 end") ≡ refused
-unfolding numberFrom
-too-large = refl
-
-too-many-digits : numberFrom (bytes "1677721.6 end") ≡ refused
-unfolding numberFrom
-too-many-digits = refl
-
--- leading zeros are none, and those behind the point are decimals: three, not four
 three-decimals : numberFrom (bytes "-00016777.210") ≡ got (floatOf true 16777210 3) []
 unfolding numberFrom
 three-decimals = refl
 
-four-decimals : numberFrom (bytes "0.1250") ≡ refused
+-- too large, with the point left out too; four decimals; no digit before the point, and none behind it; a plus, and two signs
+no-numbers : map (λ (t : String). numberFrom (bytes t)) ("16777216 end" ∷ "1677721.6 end" ∷ "0.1250" ∷ ".5" ∷ "5. end" ∷ "+5" ∷ "--5" ∷ []) ≡ replicate 7 refused
 unfolding numberFrom
-four-decimals = refl
-
--- a digit stands before the point, and one behind it
-no-digit : numberFrom (bytes ".5") ≡ refused
-unfolding numberFrom
-no-digit = refl
-
-no-decimal : numberFrom (bytes "5. end") ≡ refused
-unfolding numberFrom
-no-decimal = refl
-
--- one sign, and it is a minus
-plus : numberFrom (bytes "+5") ≡ refused
-unfolding numberFrom
-plus = refl
-
-two-signs : numberFrom (bytes "--5") ≡ refused
-unfolding numberFrom
-two-signs = refl
+no-numbers = refl
 
 -- ---- names
 
-last-name : nameFrom (bytes "s65535:") ≡ got 65535 (bytes ":")
+-- the last one, and no name; the name of 0 ends behind its 0
+names : map (λ (t : String). nameFrom (bytes t)) ("s65535:" ∷ "s65536:" ∷ "s01" ∷ []) ≡ got 65535 (bytes ":") ∷ refused ∷ got 0 (bytes "1") ∷ []
 unfolding nameFrom
-last-name = refl
-
-no-name : nameFrom (bytes "s65536:") ≡ refused
-unfolding nameFrom
-no-name = refl
-
--- the name of 0 ends behind its 0
-zero-name : nameFrom (bytes "s01") ≡ got 0 (bytes "1")
-unfolding nameFrom
-zero-name = refl
+names = refl

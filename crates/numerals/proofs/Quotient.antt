@@ -1,8 +1,8 @@
 -- One division of two whole numbers, both exact as floats, gives what a number in text means. Assumes nothing.
 use Prim.Native.Nat.{ℕ, _*_, _^_, _≤_, _<_}
-use mathlib.Core.Path.{_≡_, sym, ap, _∙_, subst}
+use mathlib.Core.Path.{_≡_, ap}
 use mathlib.Core.Bool.{true, false, true≢false}
-use native.Mathlib.Nat.{le-of-lt, zero-lt-suc, one-le-pow, pow-le-pow-right, mul-one, mul-comm, mul-assoc, mul-pos}
+use native.Mathlib.Nat.{le-of-lt, zero-lt-suc, one-le-pow, pow-le-pow-right, mul-pos}
 use native.Mathlib.Omega.{arith}
 use borrow.Author.Tests.{ne-eqb}
 use lib.IntN.{pos}
@@ -23,15 +23,12 @@ div-at (fin false m e) nan a b B h k = absurd k
 div-at (fin false m e) (inf s) a b B h k = absurd k
 div-at (fin false m e) (fin true n g) a b B h k = absurd (true≢false (k .0))
 div-at (fin false m e) (fin false n g) a b B h k =
-    let some : 0 < n = first-pos n (up g) (first-pos (n * up g) 1 (subst (λ (z : ℕ). 0 < z) (sym (k .1)) (mul-pos B (down-pos g)))) in
+    let some : 0 < n = first-pos n (up g) (first-pos (n * up g) 1 (omega (arith, k .1, mul-pos B (down-pos g)))) in
     let ne : n ≡ 0 → ⊥ = λ z. omega arith in
-    let p : m * up e ≡ a * down e = sym (mul-one (m * up e)) ∙ h .1 in
-    let q : n * up g ≡ b * down g = sym (mul-one (n * up g)) ∙ k .1 in
-    let l : m * up e * down g * b ≡ a * down e * (down g * b) = ap (λ (z : ℕ). z * down g * b) p ∙ mul-assoc (a * down e) (down g) b in
-    let r : a * (n * up g * down e) ≡ a * (b * down g * down e) = ap (λ (z : ℕ). a * (z * down e)) q in
-    let c : a * down e * (down g * b) ≡ a * (b * down g * down e) =
-    mul-assoc a (down e) (down g * b) ∙ ap (λ (z : ℕ). a * z) (mul-comm (down e) (down g * b) ∙ ap (λ (z : ℕ). z * down e) (mul-comm (down g) b)) in
-    rw (ne-eqb n 0 ne) (round-same binary32 false (m * up e * down g) (n * up g * down e) a b (mul-pos (mul-pos some (up-pos g)) (down-pos e)) B (l ∙ c ∙ sym r))
+    let p : m * up e ≡ a * down e = omega (arith, h .1) in
+    let q : n * up g ≡ b * down g = omega (arith, k .1) in
+    rw (ne-eqb n 0 ne) (round-same binary32 false (m * up e * down g) (n * up g * down e) a b (mul-pos (mul-pos some (up-pos g)) (down-pos e)) B
+    (omega (arith, ap (λ (z : ℕ). z * down g * b) p, ap (λ (z : ℕ). a * (z * down e)) q)))
 
 pub ten-pos : (d : ℕ) → 0 < 10 ^ d
 ten-pos d = one-le-pow d 10 (zero-lt-suc 9)

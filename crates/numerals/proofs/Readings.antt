@@ -23,24 +23,14 @@ pub record Found {X A : Type 0} (bytes : X → List ℕ) (Law : X → Type 0) (m
   pub spells : bs ≡ bytes one ++ after
   pub says : a ≡ means one
 
-isGot : {A : Type 0} → Read A → Bool
-isGot (got a r) = true
-isGot refused = false
-
 pub not-got : {A P : Type 0} {a : A} {r : List ℕ} → refused ≡ got a r → P
-unfolding isGot
-not-got e = absurd (true≢false (sym (ap isGot e)))
+not-got e = absurd (let z : _≡_ {A = ℕ} 0 1 = cc in omega arith)
 
 -- what went through was read in two steps
-pub record Then {A B : Type 0} (m : Read A) (k : A → List ℕ → Read B) (b : B) (r : List ℕ) : Type 0 where
-  pub first : A
-  pub between : List ℕ
-  pub reads : m ≡ got first between
-  pub then : k first between ≡ got b r
-
-pub then-back : {A B : Type 0} (m : Read A) (k : A → List ℕ → Read B) {b : B} {r : List ℕ} → andThen m k ≡ got b r → Then m k b r
-then-back (got a q) k e = record { first = a; between = q; reads = refl; then = e }
-then-back refused k e = not-got e
+pub then-got : {A B P : Type 0} (m : Read A) {k : A → List ℕ → Read B} {b : B} {r : List ℕ} → andThen m k ≡ got b r
+    → ((a : A) (q : List ℕ) → m ≡ got a q → k a q ≡ got b r → P) → P
+then-got (got a q) e f = f a q refl e
+then-got refused e f = not-got e
 
 -- a test that a reading passed
 pub test-back : {A : Type 0} (t : Bool) (m : Read A) {a : A} {r : List ℕ} → cond t m refused ≡ got a r → (t ≡ true) × (m ≡ got a r)
@@ -58,9 +48,6 @@ is-digit : (v : ℕ) → v < 10 → isDigit (zeroDigit + v) ≡ true
 unfolding isDigit
 is-digit v h = rw (le-leb 48 (48 + v) (omega arith), le-leb (48 + v) 57 (omega arith))
 
-its-value : (v : ℕ) → zeroDigit + v - zeroDigit ≡ v
-its-value v = omega arith
-
 -- a number only grows
 grows : (n : ℕ) (vs : List ℕ) → n ≤ valueFrom n vs
 unfolding valueFrom
@@ -77,72 +64,57 @@ digits-end most n k (b ∷ bs) h = cond-false _ _ h
 
 digit-step : (most n k v : ℕ) (bs : List ℕ) → v < 10 → n * 10 + v < most → digitsFrom most n k ((zeroDigit + v) ∷ bs) ≡ digitsFrom most (n * 10 + v) (suc k) bs
 unfolding digitsFrom
-digit-step most n k v bs h l = rw (is-digit v h, its-value v, lt-ltb (n * 10 + v) most l)
+digit-step most n k v bs h l = let e : 48 + v - 48 ≡ v = omega arith in rw (is-digit v h, e, lt-ltb (n * 10 + v) most l)
 
 digits-complete : (most n k : ℕ) (vs after : List ℕ) → Digits vs → valueFrom n vs < most → startsDigit after ≡ false
     → digitsFrom most n k (digitBytes vs ++ after) ≡ got (run (valueFrom n vs) (k + length vs)) after
 unfolding digitBytes valueFrom Digits
-digits-complete most n k [] after d l h = digits-end most n k after h ∙ ap (λ (c : ℕ). got (run n c) after) (sym (add-zero k))
+digits-complete most n k [] after d l h = cc (digits-end most n k after h, add-zero k)
 digits-complete most n k (v ∷ vs) after d l h =
     let m = n * 10 + v in
     let e : suc k + length vs ≡ k + suc (length vs) = omega arith in
-    digit-step most n k v (digitBytes vs ++ after) (d .0) (lt-of-le-of-lt (grows m vs) l)
-    ∙ digits-complete most m (suc k) vs after (d .1) l h ∙ ap (λ (c : ℕ). got (run (valueFrom m vs) c) after) e
+    cc (digit-step most n k v (digitBytes vs ++ after) (d .0) (lt-of-le-of-lt (grows m vs) l), digits-complete most m (suc k) vs after (d .1) l h)
 
--- the digits that were read
-record Ran (most n k : ℕ) (bs : List ℕ) (r : Run) (after : List ℕ) : Type 0 where
-  digits : List ℕ
-  lawful : Digits digits
-  spells : bs ≡ digitBytes digits ++ after
-  number : r .number ≡ valueFrom n digits
-  count : r .count ≡ k + length digits
-  below : valueFrom n digits < most
-
-no-digits : (most n k : ℕ) (bs : List ℕ) {r : Run} {after : List ℕ} → n < most → got (run n k) bs ≡ got r after → Ran most n k bs r after
-unfolding digitBytes valueFrom Digits
-no-digits most n k bs {r} l e = let c : r .count ≡ k = cc in record { digits = []; lawful = tt; spells = cc; number = cc; count = c ∙ sym (add-zero k); below = l }
-
-one-more : (most n k b : ℕ) (bs : List ℕ) {r : Run} {after : List ℕ} → isDigit b ≡ true → Ran most (n * 10 + (b - zeroDigit)) (suc k) bs r after → Ran most n k (b ∷ bs) r after
-unfolding isDigit digitBytes valueFrom Digits
-one-more most n k b bs d r =
-    let t = both-true (leb zeroDigit b) (leb b 57) d in
-    let low : 48 ≤ b = leb-true 48 b (t .0) in
-    let high : b ≤ 57 = leb-true b 57 (t .1) in
-    let e : b ≡ 48 + (b - 48) = omega arith in
-    let v : b - 48 < 10 = omega arith in
-    let c : suc k + length (r .digits) ≡ k + suc (length (r .digits)) = omega arith in
-    record { digits = (b - 48) ∷ r .digits; lawful = (v, r .lawful); spells = λ i. e i ∷ r .spells i; number = r .number; count = r .count ∙ c; below = r .below }
-
-digits-sound : (most n k : ℕ) (bs : List ℕ) {r : Run} {after : List ℕ} → n < most → digitsFrom most n k bs ≡ got r after → Ran most n k bs r after
+-- digits were read
+digits-sound : {P : Type 0} (most n k : ℕ) (bs : List ℕ) {r : Run} {after : List ℕ} → n < most → digitsFrom most n k bs ≡ got r after
+    → ((ds : List ℕ) → Digits ds → bs ≡ digitBytes ds ++ after → r .number ≡ valueFrom n ds → r .count ≡ k + length ds → valueFrom n ds < most → P) → P
 unfolding digitsFrom digitBytes valueFrom Digits
-digits-sound most n k [] l e = no-digits most n k [] l e
-digits-sound most n k (b ∷ bs) l e =
-    let m = n * 10 + (b - zeroDigit) in
+digits-sound most n k [] l e f = f [] tt (cc) (cc) (cc (add-zero k)) l
+digits-sound most n k (b ∷ bs) l e f =
     either-way (isDigit b) e
-    (λ d f. let t = test-back (ltb m most) (digitsFrom most m (suc k) bs) f in one-more most n k b bs d (digits-sound most m (suc k) bs (ltb-true m most (t .0)) (t .1)))
-    (λ d f. no-digits most n k (b ∷ bs) l f)
+    (λ d g.
+    let m = n * 10 + (b - zeroDigit) in
+    let t = test-back (ltb m most) (digitsFrom most m (suc k) bs) g in
+    let c = both-true (leb zeroDigit b) (leb b 57) d in
+    let low = leb-true 48 b (c .0) in
+    let high = leb-true b 57 (c .1) in
+    let q : b ≡ 48 + (b - 48) = omega arith in
+    digits-sound most m (suc k) bs (ltb-true m most (t .0)) (t .1) (λ ds h i j o p. f ((b - 48) ∷ ds) (omega arith, h) (λ x. q x ∷ i x) j (omega arith) p))
+    (λ d g. f [] tt (cc) (cc) (cc (add-zero k)) l)
 
 -- ---- a number
 
-module _ (minus : Bool) (ds es after : List ℕ) (d : Digits ds) (some : 0 < length ds) (f : Digits es) (few : length es ≤ mostDecimals)
-    (below : valueFrom (valueFrom 0 ds) es < mostNumber) (no-digit : startsDigit after ≡ false) where
-  digits-first : (bs : List ℕ) → startsDigit bs ≡ false → digitsFrom mostNumber 0 0 (digitBytes ds ++ bs) ≡ got (run (valueFrom 0 ds) (0 + length ds)) bs
-  digits-first bs h = digits-complete mostNumber 0 0 ds bs d (lt-of-le-of-lt (grows (valueFrom 0 ds) es) below) h
+abbrev numeral : Bool → List ℕ → List ℕ → Numeral
+numeral minus ds es = record { minus = minus; digits = ds; decimals = es }
 
-  decimals-then : 0 < length es → decimalsFrom minus (valueFrom 0 ds) (digitBytes es ++ after) ≡ got (floatOf minus (valueFrom (valueFrom 0 ds) es) (length es)) after
-  unfolding decimalsFrom
-  decimals-then h =
-      rw (digits-complete mostNumber (valueFrom 0 ds) 0 es after f below no-digit, zero-add (length es), le-leb 1 (length es) h, le-leb (length es) 3 few)
-
-unsigned-complete : (minus : Bool) (ds es after : List ℕ) → Digits ds → 0 < length ds → Digits es → length es ≤ mostDecimals → valueFrom (valueFrom 0 ds) es < mostNumber
-    → startsDigit after ≡ false → startsWith point after ≡ false
-    → unsignedFrom minus (digitBytes ds ++ (decimalBytes es ++ after)) ≡ got (floatOf minus (valueFrom (valueFrom 0 ds) es) (length es)) after
-unfolding unsignedFrom decimalBytes valueFrom startsDigit
-unsigned-complete minus ds [] after d some f few below h p =
-    rw (digits-first minus ds [] after d some f few below h after h, zero-add (length ds), le-leb 1 (length ds) some, p, withoutPoint)
-unsigned-complete minus ds (e ∷ es) after d some f few below h p =
-    rw (digits-first minus ds (e ∷ es) after d some f few below h (decimalBytes (e ∷ es) ++ after) refl, zero-add (length ds), le-leb 1 (length ds) some)
-    (decimals-then minus ds (e ∷ es) after d some f few below h (let z : 1 ≤ suc (length es) = omega arith in z))
+unsigned-complete : (minus : Bool) (ds es after : List ℕ) → Lawful (numeral minus ds es) → startsDigit after ≡ false → startsWith point after ≡ false
+    → unsignedFrom minus (digitBytes ds ++ (decimalBytes es ++ after)) ≡ got (meaning (numeral minus ds es)) after
+unfolding unsignedFrom decimalBytes startsDigit meaning wholeOf
+unsigned-complete minus ds [] after l h p = rw (digits-complete mostNumber 0 0 ds after (l .digits) (l .below) h, zero-add (length ds), le-leb 1 (length ds) (l .some), p)
+unsigned-complete minus ds (e ∷ es) after l h p =
+    let n = valueFrom 0 ds in
+    let some : 1 ≤ suc (length es) = omega arith in
+    rw (
+      digits-complete mostNumber 0 0 ds (decimalBytes (e ∷ es) ++ after) (l .digits) (lt-of-le-of-lt (grows n (e ∷ es)) (l .below)) refl,
+      zero-add (length ds),
+      le-leb 1
+          (length ds) (l .some),
+      digits-complete mostNumber n 0 (e ∷ es) after (l .decimals) (l .below) h,
+      zero-add (suc (length es)),
+      le-leb 1 (suc (length es)) some,
+      le-leb (suc (length es)) 3
+          (l .few),
+    )
 
 -- digits begin with a digit, a number with a minus or a digit
 digits-start : (b : ℕ) (ds bs : List ℕ) → Digits ds → 0 < length ds → isDigit b ≡ false → startsWith b (digitBytes ds ++ bs) ≡ false
@@ -157,7 +129,8 @@ no-minus ds bs d h = digits-start minusSign ds bs d h refl
 -- a number, taken apart
 apart : (x : Numeral) (bs : List ℕ) → spelled x ++ bs ≡ signBytes (x .minus) ++ (digitBytes (x .digits) ++ (decimalBytes (x .decimals) ++ bs))
 unfolding spelled
-apart x bs = append-assoc (signBytes (x .minus)) _ bs ∙ ap (λ (c : List ℕ). signBytes (x .minus) ++ c) (append-assoc (digitBytes (x .digits)) (decimalBytes (x .decimals)) bs)
+apart x bs =
+    append-assoc (signBytes (x .minus)) _ bs ∙ ap (λ (c : List ℕ). signBytes (x .minus) ++ c) (append-assoc (digitBytes (x .digits)) (decimalBytes (x .decimals)) bs)
 
 pub number-starts : (b : ℕ) (x : Numeral) (bs : List ℕ) → Lawful x → isDigit b ≡ false → eqb minusSign b ≡ false → startsWith b (spelled x ++ bs) ≡ false
 number-starts b x bs l h m = ap (startsWith b) (apart x bs) ∙ go (x .minus)
@@ -166,135 +139,68 @@ number-starts b x bs l h m = ap (startsWith b) (apart x bs) ∙ go (x .minus)
     go true = unfold startsWith signBytes in m
     go false = unfold signBytes in digits-start b (x .digits) _ (l .digits) (l .some) h
 
-pub number-complete : (x : Numeral) (after : List ℕ) → Lawful x → startsDigit after ≡ false → startsWith point after ≡ false → numberFrom (spelled x ++ after) ≡ got (meaning x) after
-unfolding numberFrom signBytes meaning wholeOf
-number-complete x after l h p = ap numberFrom (apart x after) ∙ go (x .minus)
-  where
-    bytes : List ℕ
-    bytes = digitBytes (x .digits) ++ (decimalBytes (x .decimals) ++ after)
+signed-complete : (m : Bool) (ds es after : List ℕ) → Lawful (numeral m ds es) → startsDigit after ≡ false → startsWith point after ≡ false
+    → numberFrom (signBytes m ++ (digitBytes ds ++ (decimalBytes es ++ after))) ≡ got (meaning (numeral m ds es)) after
+unfolding numberFrom signBytes
+signed-complete true ds es after l h p = unsigned-complete true ds es after l h p
+signed-complete false ds es after l h p = cond-false _ _ (no-minus ds _ (l .digits) (l .some)) ∙ unsigned-complete false ds es after l h p
 
-    unsigned : (m : Bool) → unsignedFrom m bytes ≡ got (floatOf m (wholeOf x) (length (x .decimals))) after
-    unsigned m = unsigned-complete m (x .digits) (x .decimals) after (l .digits) (l .some) (l .decimals) (l .few) (l .below) h p
-
-    go : (m : Bool) → numberFrom (signBytes m ++ bytes) ≡ got (floatOf m (wholeOf x) (length (x .decimals))) after
-    go true = unsigned true
-    go false = cond-false _ _ (no-minus (x .digits) _ (l .digits) (l .some)) ∙ unsigned false
-
-abbrev numeral : Bool → List ℕ → List ℕ → Numeral
-numeral minus ds es = record { minus = minus; digits = ds; decimals = es }
-
--- behind a sign
-record Unsigned (minus : Bool) (bs : List ℕ) (v : Float) (after : List ℕ) : Type 0 where
-  digits : List ℕ
-  decimals : List ℕ
-  lawful : Lawful (numeral minus digits decimals)
-  spells : bs ≡ digitBytes digits ++ (decimalBytes decimals ++ after)
-  says : v ≡ meaning (numeral minus digits decimals)
+pub number-complete : (x : Numeral) (after : List ℕ) → Lawful x → startsDigit after ≡ false → startsWith point after ≡ false
+    → numberFrom (spelled x ++ after) ≡ got (meaning x) after
+number-complete x after l h p = ap numberFrom (apart x after) ∙ signed-complete (x .minus) (x .digits) (x .decimals) after l h p
 
 pub starts : (b : ℕ) (bs : List ℕ) → startsWith b bs ≡ true → bs ≡ b ∷ rest bs
 unfolding startsWith rest
 starts b [] e = absurd (true≢false (sym e))
 starts b (c ∷ cs) e = ap (λ (z : ℕ). z ∷ cs) (eqb-true c b e)
 
--- one to three decimals
-record Decimals (minus : Bool) (n : ℕ) (bs : List ℕ) (v : Float) (after : List ℕ) : Type 0 where
-  first : ℕ
-  others : List ℕ
-  lawful : Digits (first ∷ others)
-  few : length (first ∷ others) ≤ mostDecimals
-  spells : bs ≡ digitBytes (first ∷ others) ++ after
-  below : valueFrom n (first ∷ others) < mostNumber
-  says : v ≡ floatOf minus (valueFrom n (first ∷ others)) (length (first ∷ others))
+point-first : (es after : List ℕ) → 1 ≤ length es → decimalBytes es ++ after ≡ point ∷ (digitBytes es ++ after)
+unfolding decimalBytes
+point-first [] after h = absurd (let z : 1 ≤ 0 = h in omega arith)
+point-first (v ∷ vs) after h = refl
 
-decimals-sound : (minus : Bool) (n : ℕ) (bs : List ℕ) (v : Float) (after : List ℕ) → n < mostNumber → decimalsFrom minus n bs ≡ got v after → Decimals minus n bs v after
-unfolding decimalsFrom
-decimals-sound minus n bs v after h e =
-    let t = then-back (digitsFrom mostNumber n 0 bs) _ e in
-    let r = t .first in
-    let between = t .between in
-    let ran = digits-sound mostNumber n 0 bs h (t .reads) in
-    let c = test-back (leb 1 (r .count) && leb (r .count) mostDecimals) (got (floatOf minus (r .number) (r .count)) between) (t .then) in
-    let d = both-true (leb 1 (r .count)) (leb (r .count) mostDecimals) (c .0) in
-    go (r .number) (r .count) between (ran .digits) (ran .lawful) (ran .spells) (ran .number) (ran .count ∙ zero-add _) (ran .below) (leb-true 1 (r .count) (d .0)) (leb-true (r .count) mostDecimals (d .1)) (c .1)
-  where
-    go : (m k : ℕ) (between vs : List ℕ) → Digits vs → bs ≡ digitBytes vs ++ between → m ≡ valueFrom n vs → k ≡ length vs → valueFrom n vs < mostNumber → 1 ≤ k → k ≤ mostDecimals
-        → got (floatOf minus m k) between ≡ got v after → Decimals minus n bs v after
-    go m k between [] d s q c b low high f = absurd (let z : k ≡ 0 = c in omega arith)
-    go m k between (w ∷ ws) d s q c b low high f =
-        record {
-          first = w;
-          others = ws;
-          lawful = d;
-          few = subst (λ (z : ℕ). z ≤ mostDecimals) c high;
-          spells = s ∙ ap (λ (z : List ℕ). digitBytes (w ∷ ws) ++ z) (cc);
-          below = b;
-          says = let z : v ≡ floatOf minus m k = cc in z ∙ (λ i. floatOf minus (q i) (c i));
-        }
-
-module _ (minus : Bool) (bs : List ℕ) (v : Float) (after between : List ℕ) (r : Run) (ran : Ran mostNumber 0 0 bs r between) (some : leb 1 (r .count) ≡ true) where
-  some-digits : 0 < length (ran .digits)
-  some-digits = let h = leb-true 1 (r .count) some in omega (arith, ran .count)
-
-  without : withoutPoint minus r between ≡ got v after → Unsigned minus bs v after
-  unfolding withoutPoint decimalBytes meaning wholeOf Digits
-  without e =
-      record {
-        digits = ran .digits;
-        decimals = [];
-        lawful = record { digits = ran .lawful; some = some-digits; decimals = tt; few = omega arith; below = ran .below };
-        spells = ran .spells ∙ ap (λ (z : List ℕ). digitBytes (ran .digits) ++ z) (cc);
-        says = let z : v ≡ floatOf minus (r .number) 0 = cc in z ∙ ap (λ (n : ℕ). floatOf minus n 0) (ran .number);
-      }
-
-  with-point : startsWith point between ≡ true → decimalsFrom minus (r .number) (rest between) ≡ got v after → Unsigned minus bs v after
-  unfolding decimalBytes meaning wholeOf
-  with-point p e =
-      let h : r .number < mostNumber = subst (λ (n : ℕ). n < mostNumber) (sym (ran .number)) (ran .below) in
-      let d = decimals-sound minus (r .number) (rest between) v after h e in
-      record {
-        digits = ran .digits;
-        decimals = d .first ∷ d .others;
-        lawful = record {
-          digits = ran .lawful;
-          some = some-digits;
-          decimals = d .lawful;
-          few = d .few;
-          below = subst (λ (n : ℕ). valueFrom n (d .first ∷ d .others) < mostNumber) (ran .number) (d .below);
-        };
-        spells = ran .spells ∙ ap (λ (z : List ℕ). digitBytes (ran .digits) ++ z) (starts point between p ∙ ap (λ (z : List ℕ). point ∷ z) (d .spells));
-        says = d .says ∙ ap (λ (n : ℕ). floatOf minus (valueFrom n (d .first ∷ d .others)) (length (d .first ∷ d .others))) (ran .number);
-      }
-
-unsigned-sound : (minus : Bool) (bs : List ℕ) (v : Float) (after : List ℕ) → unsignedFrom minus bs ≡ got v after → Unsigned minus bs v after
-unfolding unsignedFrom
-unsigned-sound minus bs v after e =
-    let t = then-back (digitsFrom mostNumber 0 0 bs) _ e in
-    let r = t .first in
-    let between = t .between in
-    let ran = digits-sound mostNumber 0 0 bs (omega arith) (t .reads) in
-    let c = test-back (leb 1 (r .count)) (cond (startsWith point between) (decimalsFrom minus (r .number) (rest between)) (withoutPoint minus r between)) (t .then) in
-    either-way (startsWith point between) (c .1) (λ p f. with-point minus bs v after between r ran (c .0) p f) (λ p f. without minus bs v after between r ran (c .0) f)
+-- behind a sign: digits, and no decimals or one to three
+unsigned-sound : (minus : Bool) (cs bs : List ℕ) {v : Float} {after : List ℕ} → cs ≡ signBytes minus ++ bs → unsignedFrom minus bs ≡ got v after
+    → Found spelled Lawful meaning cs v after
+unfolding unsignedFrom meaning wholeOf decimalBytes Digits
+unsigned-sound minus cs bs {after = after} q e =
+    then-got (digitsFrom mostNumber 0 0 bs) e (λ r between a g. digits-sound mostNumber 0 0 bs (omega arith) a (λ ds d₁ d₂ d₃ d₄ d₅.
+    let c = test-back (leb 1 (r .count)) (cond (startsWith point between) (decimalsFrom minus (r .number) (rest between)) (withoutPoint minus r between)) g in
+    let low = leb-true 1 (r .count) (c .0) in
+    either-way (startsWith point between) (c .1)
+    (λ p f. then-got (digitsFrom mostNumber (r .number) 0 (rest between)) f
+    (λ s o b h. digits-sound mostNumber (r .number) 0 (rest between) (omega arith) b (λ es e₁ e₂ e₃ e₄ e₅.
+    let d = test-back (leb 1 (s .count) && leb (s .count) mostDecimals) (got (floatOf minus (s .number) (s .count)) o) h in
+    let i = both-true (leb 1 (s .count)) (leb (s .count) mostDecimals) (d .0) in
+    let least = leb-true 1 (s .count) (i .0) in
+    let most = leb-true (s .count) mostDecimals (i .1) in
+    let x = numeral minus ds es in
+    record {
+      one = x;
+      lawful = record { digits = d₁; some = omega arith; decimals = e₁; few = omega arith; below = rw d₃ at e₅ };
+      spells = cc (apart x after, starts point between p, point-first es after (omega arith));
+      says = cc (zero-add (length es));
+    })))
+    (λ p f. let x = numeral minus ds [] in record {
+      one = x;
+      lawful = record { digits = d₁; some = omega arith; decimals = tt; few = omega arith; below = d₅ };
+      spells =
+          cc (apart x after);
+      says = cc;
+    })))
 
 pub number-sound : (bs : List ℕ) (v : Float) (after : List ℕ) → numberFrom bs ≡ got v after → Found spelled Lawful meaning bs v after
 unfolding numberFrom signBytes
 number-sound bs v after e =
-    either-way (startsWith minusSign bs) e (λ p f. signed true (rest bs) (starts minusSign bs p) (unsigned-sound true (rest bs) v after f)) (λ p f. signed false bs refl (unsigned-sound false bs v after f))
-  where
-    signed : (m : Bool) (cs : List ℕ) → bs ≡ signBytes m ++ cs → Unsigned m cs v after → Found spelled Lawful meaning bs v after
-    signed m cs q u =
-        record {
-          one = numeral m (u .digits) (u .decimals);
-          lawful = u .lawful;
-          spells = q ∙ ap (λ (z : List ℕ). signBytes m ++ z) (u .spells) ∙ sym (apart (numeral m (u .digits) (u .decimals)) after);
-          says = u .says;
-        }
+    either-way (startsWith minusSign bs) e (λ p f. unsigned-sound true bs (rest bs) (starts minusSign bs p) f) (λ p f. unsigned-sound false bs bs refl f)
 
 -- ---- a name
 
 abbrev symbolBytes : ℕ → List ℕ
 symbolBytes n = digitBytes (decimal n)
 
-digits-symbol : (n : ℕ) (vs after : List ℕ) → Digits vs → valueFrom 0 vs ≡ n → n ≤ mostSymbol → 0 < length vs → startsWith zeroDigit (digitBytes vs ++ after) ≡ false → startsDigit after ≡ false
+digits-symbol : (n : ℕ) (vs after : List ℕ) → Digits vs → valueFrom 0 vs ≡ n → n ≤ mostSymbol → 0 < length vs → startsWith zeroDigit (digitBytes vs ++ after) ≡ false
+    → startsDigit after ≡ false
     → symbolFrom (digitBytes vs ++ after) ≡ got n after
 unfolding symbolFrom
 digits-symbol n vs after d v l some z h =
@@ -308,33 +214,25 @@ symbol-complete (suc m) after l h =
     let n = suc m in
     let b : n < 100000000 = omega arith in
     let w = wide n b in
-    digits-symbol n (decimal n) after (decimal-digits n) (decimal-value n b) l (subst (λ (k : ℕ). 0 < k) (sym (lowest-length (widthOf n) n)) (w .some)) (not-zero n (widthOf n) after w (omega arith)) h
+    digits-symbol n (decimal n) after (decimal-digits n) (decimal-value n b) l (subst (λ (k : ℕ). 0 < k) (sym (lowest-length (widthOf n) n)) (w .some))
+    (not-zero n (widthOf n) after w (omega arith)) h
 
-symbol-read : (bs : List ℕ) (n : ℕ) (after : List ℕ) (r : Run) (between vs : List ℕ) → startsWith zeroDigit bs ≡ false → Digits vs → bs ≡ digitBytes vs ++ between
-    → r .number ≡ valueFrom 0 vs → r .count ≡ length vs → valueFrom 0 vs < suc mostSymbol → 1 ≤ r .count → got (r .number) between ≡ got n after
-    → Found symbolBytes (λ k. k ≤ mostSymbol) (λ k. k) bs n after
+-- digits of which the first is none are those of their number
+digits-back : (vs bs : List ℕ) → startsWith zeroDigit (digitBytes vs ++ bs) ≡ false → Digits vs → 1 ≤ length vs → valueFrom 0 vs < suc mostSymbol
+    → decimal (valueFrom 0 vs) ≡ vs
 unfolding startsWith digitBytes
-symbol-read bs n after r between [] z d s m c b some f = absurd (let z : r .count ≡ 0 = c in omega arith)
-symbol-read bs n after r between (v ∷ vs) z d s m c b some f =
-    let k = valueFrom 0 (v ∷ vs) in
-    let e : eqb (48 + v) 48 ≡ false = sym (ap (startsWith zeroDigit) s) ∙ z in
-    let h : ¬ (48 + v ≡ 48) = eqb-false (48 + v) 48 e in
-    let q : decimal k ≡ v ∷ vs = decimal-back v vs d (omega arith) (omega arith) in
-    let t : between ≡ after = cc in
-    let y : n ≡ r .number = cc in
-    record { one = k; lawful = omega arith; spells = s ∙ (λ i. digitBytes (sym q i) ++ t i); says = y ∙ m }
+digits-back [] bs z d some b = absurd (let z : 1 ≤ 0 = some in omega arith)
+digits-back (v ∷ vs) bs z d some b = let h = eqb-false (48 + v) 48 z in decimal-back v vs d (omega arith) (omega arith)
 
 symbol-sound : (bs : List ℕ) (n : ℕ) (after : List ℕ) → symbolFrom bs ≡ got n after → Found symbolBytes (λ k. k ≤ mostSymbol) (λ k. k) bs n after
 unfolding symbolFrom decimal digitBytes
 symbol-sound bs n after e =
-    either-way (startsWith zeroDigit bs) e
-    (λ z f. record { one = 0; lawful = omega arith; spells = starts zeroDigit bs z ∙ ap (λ (y : List ℕ). zeroDigit ∷ y) (cc); says = cc })
-    (λ z f.
-    let t = then-back (digitsFrom (suc mostSymbol) 0 0 bs) _ f in
-    let r = t .first in
-    let ran = digits-sound (suc mostSymbol) 0 0 bs (omega arith) (t .reads) in
-    let c = test-back (leb 1 (r .count)) (got (r .number) (t .between)) (t .then) in
-    symbol-read bs n after r (t .between) (ran .digits) z (ran .lawful) (ran .spells) (ran .number) (ran .count ∙ zero-add _) (ran .below) (leb-true 1 (r .count) (c .0)) (c .1))
+    either-way (startsWith zeroDigit bs) e (λ z f. record { one = 0; lawful = omega arith; spells = cc (starts zeroDigit bs z); says = cc })
+    (λ z f. then-got (digitsFrom (suc mostSymbol) 0 0 bs) f (λ r between a g. digits-sound (suc mostSymbol) 0 0 bs (omega arith) a (λ vs d₁ d₂ d₃ d₄ d₅.
+    let c = test-back (leb 1 (r .count)) (got (r .number) between) g in
+    let low = leb-true 1 (r .count) (c .0) in
+    let q = digits-back vs between (rw d₂ at z) d₁ (omega arith) d₅ in
+    record { one = valueFrom 0 vs; lawful = omega arith; spells = cc; says = cc })))
 
 pub name-complete : (n : ℕ) (after : List ℕ) → n ≤ mostSymbol → startsDigit after ≡ false → nameFrom (nameBytes n ++ after) ≡ got n after
 unfolding nameFrom nameBytes startsWith rest
@@ -345,7 +243,7 @@ unfolding nameFrom nameBytes
 name-sound bs n after e =
     let t = test-back (startsWith nameLetter bs) (symbolFrom (rest bs)) e in
     let f = symbol-sound (rest bs) n after (t .1) in
-    record { one = f .one; lawful = f .lawful; spells = starts nameLetter bs (t .0) ∙ ap (λ (z : List ℕ). nameLetter ∷ z) (f .spells); says = f .says }
+    record { one = f .one; lawful = f .lawful; spells = cc (starts nameLetter bs (t .0)); says = f .says }
 
 -- ---- one spelling
 
@@ -354,7 +252,8 @@ pub record Same {X : Type 0} (x y : X) (r q : List ℕ) : Type 0 where
   pub one : x ≡ y
   pub after : r ≡ q
 
-pub name-one : (m n : ℕ) (r q : List ℕ) → m ≤ mostSymbol → n ≤ mostSymbol → startsDigit r ≡ false → startsDigit q ≡ false → nameBytes m ++ r ≡ nameBytes n ++ q → Same m n r q
+pub name-one : (m n : ℕ) (r q : List ℕ) → m ≤ mostSymbol → n ≤ mostSymbol → startsDigit r ≡ false → startsDigit q ≡ false → nameBytes m ++ r ≡ nameBytes n ++ q
+    → Same m n r q
 name-one m n r q l k h g e =
     let f : got m r ≡ got n q = sym (name-complete m r l h) ∙ ap nameFrom e ∙ name-complete n q k g in
     record { one = cc; after = cc }

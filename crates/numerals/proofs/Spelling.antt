@@ -2,8 +2,8 @@
 use Prim.Native.Nat.{ℕ, zero, suc, _+_, _-_, _/_, _^_, _≤_, _<_}
 use mathlib.Core.Path.{_≡_, refl, sym, ap, _∙_, subst}
 use mathlib.Core.Bool.{Bool, true, false}
-use mathlib.Core.List.{List, [], _∷_, _++_}
-use native.Mathlib.Nat.{le-trans, le-antisymm, le-of-suc-le-suc, lt-of-not-le, not-le-of-lt, lt-of-le-of-lt, lt-of-lt-of-le, le-of-eq, mul-comm, pow-suc, mod-eq-of-lt, div-add-mod', div-le-self, div-lt-iff-lt-mul, le-div-iff-mul-le, one-mul}
+use mathlib.Core.List.{List, [], _∷_}
+use native.Mathlib.Nat.{le-antisymm, le-of-suc-le-suc, lt-of-not-le, not-le-of-lt, lt-of-le-of-lt, lt-of-lt-of-le, le-of-eq, pow-suc, mod-eq-of-lt, div-add-mod', div-le-self, div-lt-iff-lt-mul, le-div-iff-mul-le}
 use native.Mathlib.Omega.{arith}
 use lib.ListN.{length, length-append}
 use lib.Pow.{pow-add}
@@ -33,8 +33,9 @@ not-both x n d s t = t n d (s .below) (s .few) (s .reads)
 decimal-length : (k n : ℕ) → 0 < k → k ≤ 8 → n < 10 ^ k → length (decimal n) ≤ k
 unfolding decimal
 decimal-length k n p l h =
-    subst (λ (z : ℕ). z ≤ k) (sym (lowest-length (widthOf n) n))
-    (no-less (λ g. not-le-of-lt h (wide n (lt-of-lt-of-le h (ten-mono l)) .least k p g)))
+    let w = wide n (lt-of-lt-of-le h (ten-mono l)) in
+    let g : ¬ (k < widthOf n) = λ g. not-le-of-lt h (w .least k p g) in
+    omega (arith, lowest-length (widthOf n) n)
 
 pub no-leading-zeros : (n : ℕ) → n < 100000000 → NoLeadingZeros (decimal n)
 unfolding lowest decimal
@@ -45,9 +46,9 @@ no-leading-zeros n h = go (widthOf n) (wide n h)
     go (suc zero) s = tt
     go (suc (suc w)) s =
         let k = suc w in
-        let a : n / 10 ^ k < 10 = div-lt-iff-lt-mul (ten-pos k) .1 (lt-of-lt-of-le (s .room) (le-of-eq (pow-suc 10 k ∙ mul-comm (10 ^ k) 10))) in
-        let b : 1 ≤ n / 10 ^ k = le-div-iff-mul-le (ten-pos k) .1 (le-trans (le-of-eq (one-mul (10 ^ k))) (s .least k (omega arith) (omega arith))) in
-        subst (λ (z : ℕ). 0 < z) (sym (mod-eq-of-lt a)) b
+        let a : n / 10 ^ k < 10 = div-lt-iff-lt-mul (ten-pos k) .1 (omega (arith, s .room, pow-suc 10 k)) in
+        let b : 1 ≤ n / 10 ^ k = le-div-iff-mul-le (ten-pos k) .1 (omega (arith, s .least k (omega arith) (omega arith))) in
+        omega (arith, mod-eq-of-lt a)
 
 -- ---- a number with decimals
 small : (n d : ℕ) → n < mostNumber → n / 10 ^ d < 100000000
@@ -64,10 +65,10 @@ lawful-numeral s n d h k =
     let q = n / 10 ^ d in
     record {
       digits = lowest-digits (widthOf q) q;
-      some = subst (λ (z : ℕ). 0 < z) (sym (lowest-length (widthOf q) q)) (wide q (small n d h) .some);
+      some = omega (arith, lowest-length (widthOf q) q, wide q (small n d h) .some);
       decimals = lowest-digits d n;
-      few = subst (λ (z : ℕ). z ≤ mostDecimals) (sym (lowest-length d n)) k;
-      below = subst (λ (z : ℕ). z < mostNumber) (sym (whole-back s n d h)) h;
+      few = omega (arith, lowest-length d n);
+      below = omega (arith, whole-back s n d h);
     }
 
 pub numeral-means : (s : Bool) (n d : ℕ) → n < mostNumber → meaning (numeralOf s n d) ≡ floatOf s n d
@@ -103,17 +104,15 @@ unfolding spelled numeralOf
 number-length s n d h k =
     let q = n / 10 ^ d in
     let e : 8 - d + d ≡ 8 = omega arith in
-    let r : q < 10 ^ (8 - d) = div-lt-iff-lt-mul (ten-pos d) .1 (subst (λ (z : ℕ). n < z) (ap (λ (z : ℕ). 10 ^ z) (sym e) ∙ pow-add 10 (8 - d) d) (omega arith)) in
-    omega (
+    let r : q < 10 ^ (8 - d) = div-lt-iff-lt-mul (ten-pos d) .1 (omega (arith, ap (λ (z : ℕ). 10 ^ z) e, pow-add 10 (8 - d) d)) in
+    simp length-append (omega (
       arith,
       sign-length s,
       bytes-length (decimal q),
       decimal-length (8 - d) q (omega arith) (omega arith) r,
       decimals-length (lowest d n),
       lowest-length d n,
-      length-append (signBytes s) (digitBytes (decimal q) ++ decimalBytes (lowest d n)),
-      length-append (digitBytes (decimal q)) (decimalBytes (lowest d n)),
-    )
+    ))
 
 pub name-length : (symbol : ℕ) → symbol ≤ mostSymbol → length (nameBytes symbol) ≤ 6
 unfolding nameBytes

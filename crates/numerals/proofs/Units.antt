@@ -3,7 +3,7 @@
 use Prim.Native.Nat.{ℕ, zero, suc, _+_, _-_, _*_, _/_, _%_, _^_, _≤_, _<_}
 use mathlib.Core.Path.{_≡_, refl, sym, ap, _∙_, subst}
 use mathlib.Core.Bool.{Bool, true, _&&_}
-use native.Mathlib.Nat.{le-trans, le-of-eq, le-of-suc-le-suc, lt-of-le-of-lt, lt-of-lt-of-le, lt-of-not-le, not-le-of-lt, zero-mul, mul-one, mul-comm, mul-assoc, mul-le-mul-left, mul-le-mul-right, mul-lt-mul-of-pos-right, lt-of-mul-lt-mul-right, le-div-iff-mul-le, suc-mul, mul-pos}
+use native.Mathlib.Nat.{le-trans, le-of-eq, le-of-suc-le-suc, lt-of-le-of-lt, lt-of-lt-of-le, lt-of-not-le, not-le-of-lt, zero-mul, mul-one, mul-assoc, mul-le-mul-left, mul-le-mul-right, mul-lt-mul-of-pos-right, lt-of-mul-lt-mul-right, le-div-iff-mul-le, suc-mul, mul-pos}
 use native.Mathlib.Omega.{arith}
 use lib.Dec.{T, lit≤, eqb, ltb, leb, ltb→lt, leb→le}
 use lib.Pow.{pow-add, pow-pos, pow-lt}
@@ -29,15 +29,14 @@ fine-at n c zero z f e g = lt-of-le-of-lt (le-trans (le-of-eq (mul-one c)) (f .m
 fine-at n c (suc k) z f e g =
     let a : 2 ^ (23 + suc k) ≤ n * 2 ^ 149 / c = size-reaches (n * 2 ^ 149 / c) (23 + suc k) (subst (λ (x : ℕ). 23 + suc k < x) (sym e) (all-but z k g)) in
     let b : 2 ^ (23 + suc k) * c ≤ n * 2 ^ 149 = le-div-iff-mul-le (f .some) .0 a in
-    let h : c * 2 ^ suc k * 2 ^ 23 ≡ 2 ^ (23 + suc k) * c =
-    mul-assoc c (2 ^ suc k) (2 ^ 23) ∙ mul-comm c (2 ^ suc k * 2 ^ 23) ∙ ap (λ (x : ℕ). x * c) (mul-comm (2 ^ suc k) (2 ^ 23) ∙ sym (pow-add 2 23 (suc k))) in
+    let h : c * 2 ^ suc k * 2 ^ 23 ≡ 2 ^ (23 + suc k) * c = omega (arith, ap (λ (x : ℕ). x * c) (pow-add 2 23 (suc k))) in
     lt-of-mul-lt-mul-right (2 ^ 23) (lt-of-le-of-lt (le-trans (le-of-eq h) b) (mul-lt-mul-of-pos-right (f .below) (pow-pos 149)))
   where
     all-but : (z k : ℕ) → z - 24 ≡ suc k → 23 + suc k < z
     all-but z k e = omega arith
 
 pub swap : (q c k : ℕ) → q * (c * 2 ^ k) ≡ q * 2 ^ k * c
-swap q c k = ap (λ (x : ℕ). q * x) (mul-comm c (2 ^ k)) ∙ sym (mul-assoc q (2 ^ k) c)
+swap q c k = omega arith
 
 pinch : (w b a p r : ℕ) → Half a b r w → b < p * 2 → (w < a + p) × (a < w + p)
 pinch w b a p r h l = (omega (arith, h .within), omega (arith, h .within))

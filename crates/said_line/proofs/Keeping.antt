@@ -1,7 +1,6 @@
 -- Values kept one by one, and what the stick's rules make of them. Assumes nothing.
-use Prim.Native.Nat.{ℕ, suc, _+_, _-_, _≤_, _<_}
-use Prim.Native.Nat.{min as lesser}
-use mathlib.Core.Path.{_≡_, refl, sym, ap, ap₂, _∙_}
+use Prim.Native.Nat.{ℕ, suc, _+_, _-_, _≤_, _<_, min as lesser}
+use mathlib.Core.Path.{_≡_, refl, sym, ap, _∙_}
 use mathlib.Core.Bool.{Bool, true, false}
 use mathlib.Core.List.{List, [], _∷_, _++_, map}
 use native.Mathlib.Omega.{arith}
@@ -33,9 +32,8 @@ set-next : (ws : List ℕ) (b : ℕ) → length ws < 8 → set (eight ws) (lengt
 unfolding eight
 set-next ws b h =
     let e : 8 - length ws ≡ suc (8 - suc (length ws)) = omega arith in
-    let n : suc (length ws) ≡ length (ws ++ (b ∷ [])) = (let z : suc (length ws) ≡ length ws + 1 = omega arith in z) ∙ sym (length-append ws (b ∷ [])) in
-    ap (λ (j : ℕ). set (ws ++ replicate j 0) (length ws) b) e ∙ set-at ws 0 (replicate (8 - suc (length ws)) 0) b (length ws) refl
-    ∙ ap (λ (j : ℕ). ws ++ (b ∷ replicate (8 - j) 0)) n ∙ sym (append-snoc ws b (replicate (8 - length (ws ++ (b ∷ []))) 0))
+    let n : suc (length ws) ≡ length (ws ++ (b ∷ [])) = omega (arith, length-append ws (b ∷ [])) in
+    cc (set-at ws 0 (replicate (8 - suc (length ws)) 0) b (length ws) refl, append-snoc ws b (replicate (8 - length (ws ++ (b ∷ []))) 0))
 
 module _ (vs : List Float) (x : Float) where
   long : length (map bits (vs ++ (x ∷ []))) ≡ length vs + 1
@@ -50,8 +48,7 @@ module _ (vs : List Float) (x : Float) where
       let t : take 8 ws ≡ ws = take-all 8 ws (omega arith) in
       let u : take 8 (map bits (vs ++ (x ∷ []))) ≡ ws ++ (bits x ∷ []) = take-all 8 (map bits (vs ++ (x ∷ []))) (omega (arith, long)) ∙ map-append bits vs (x ∷ []) in
       let d : lesser (length vs) 9 + 1 ≡ lesser (length (vs ++ (x ∷ []))) 9 = omega (arith, length-append vs (x ∷ [])) in
-      let b : set (eight (take 8 ws)) (lesser (length vs) 9) (bits x) ≡ eight (take 8 (map bits (vs ++ (x ∷ [])))) =
-      ap₂ (λ (l : List ℕ) (j : ℕ). set (eight l) j (bits x)) t (c ∙ sym n) ∙ set-next ws (bits x) (omega arith) ∙ ap eight (sym u) in
+      let b : set (eight (take 8 ws)) (lesser (length vs) 9) (bits x) ≡ eight (take 8 (map bits (vs ++ (x ∷ [])))) = cc (set-next ws (bits x) (omega arith)) in
       cond-true _ _ (lt-ltb (lesser (length vs) 9) 8 (omega arith)) ∙ (λ i. record { count = d i; bits = b i })
 
   many : 8 ≤ length vs → withValue (keptOf vs) x ≡ keptOf (vs ++ (x ∷ []))

@@ -27,73 +27,53 @@ use Rattle.said_line.specs.Judged.{judgedAt, eight, keptOf, instrNumbers
 
 -- ---- an instr line of too many values, from any source
 
-record Headed (s : Source) (t : ℕ) (priority : Bool) (x : Read Label) : Type 0 where
+record Headed (s : Source) (t : ℕ) (priority : Bool) (x : Read Label) (y : Read ℕ) (d c q r : ℕ) : Type 0 where
   has-time : smallFrom s 1 1 0 ≡ got 1 1
   late : smallFrom s 1 1 1 ≡ got 0 2
   time : numberFrom s 32 2 ≡ got t 3
   first : smallFrom s 1 1 3 ≡ got (flag priority) 4
   type : numberFrom s 3 4 ≡ got 0 5
   label-is : labelFrom s 5 ≡ x
-
-record Bodied (s : Source) (y : Read ℕ) (d c q r : ℕ) : Type 0 where
+  at-label : (L : Label) (p : ℕ) → x ≡ got L p → p ≡ q
   name-is : smallFrom s 16 65535 q ≡ y
+  at-name : (name p : ℕ) → y ≡ got name p → p ≡ r
   duration : numberFrom s 32 r ≡ got d (r + 1)
   count : numberFrom s 8 (r + 1) ≡ got c (r + 2)
-  many : 8 < c
-
-module _ (s : Source) (t : ℕ) (priority : Bool) (x : Read Label) (h : Headed s t priority x) where
-  no-time : timeBits t ≡ false → lineFrom s 0 ≡ refused OutOfRange
-  unfolding line parts when timed float inRange
-  no-time e = rw (h .has-time, h .late, h .time, e)
-
-  module _ (e : timeBits t ≡ true) where
-    no-label : (f : Fault) → x ≡ refused f → lineFrom s 0 ≡ refused f
-    unfolding line parts when timed float inRange afterTime kind body
-    no-label f g = rw (h .has-time, h .late, h .time, e, h .first, h .type, h .label-is, g)
-
-    module _ (L : Label) (y : Read ℕ) (d c q r : ℕ) (g : x ≡ got L q) (k : Bodied s y d c q r) where
-      no-name : (f : Fault) → y ≡ refused f → lineFrom s 0 ≡ refused f
-      unfolding line parts when timed float inRange afterTime kind body
-      no-name f o = rw (h .has-time, h .late, h .time, e, h .first, h .type, h .label-is, g, k .name-is, o)
-
-      module _ (name : ℕ) (o : y ≡ got name r) where
-        no-duration : durationBits d ≡ false → lineFrom s 0 ≡ refused OutOfRange
-        unfolding line parts when timed float inRange afterTime kind body
-        no-duration v = rw (h .has-time, h .late, h .time, e, h .first, h .type, h .label-is, g, k .name-is, o, k .duration, v)
-
-        too-many : durationBits d ≡ true → lineFrom s 0 ≡ refused TooManyValues
-        unfolding line parts when timed float inRange afterTime kind body values counted number
-        too-many v = rw (h .has-time, h .late, h .time, e, h .first, h .type, h .label-is, g, k .name-is, o, k .duration, v, k .count, lt-leb c 8 (k .many))
 
 -- the first fault, whatever the values are
 abbrev fault-in : ℕ → ℕ → Read Label → Read ℕ → Read Line
 fault-in t d x y = cond (timeBits t) (andThen x (λ L q. andThen y (λ name r. cond (durationBits d) (refused TooManyValues) (refused OutOfRange)))) (refused OutOfRange)
 
-record Whole (s : Source) (t : ℕ) (priority : Bool) (x : Read Label) (y : Read ℕ) (d c q r : ℕ) : Type 0 where
-  headed : Headed s t priority x
-  bodied : Bodied s y d c q r
-  at-label : (L : Label) (p : ℕ) → x ≡ got L p → p ≡ q
-  at-name : (name p : ℕ) → y ≡ got name p → p ≡ r
+too-many : (s : Source) (t : ℕ) (priority : Bool) (L : Label) (name d c q r : ℕ) → 8 < c → Headed s t priority (got L q) (got name r) d c q r → timeBits t ≡ true
+    → durationBits d ≡ true
+    → lineFrom s 0 ≡ refused TooManyValues
+unfolding line parts when timed float inRange afterTime kind body values counted number
+too-many s t priority L name d c q r many h e v =
+    rw (h .has-time, h .late, h .time, e, h .first, h .type, h .label-is, h .name-is, h .duration, v, h .count, lt-leb c 8 many)
 
-module _ (s : Source) (t : ℕ) (priority : Bool) (x : Read Label) (y : Read ℕ) (d c q r : ℕ) (w : Whole s t priority x y d c q r) where
-  refuses : lineFrom s 0 ≡ fault-in t d x y
-  refuses = by-time (timeBits t) refl
-    where
-      by-duration : timeBits t ≡ true → (L : Label) (name : ℕ) → x ≡ got L q → y ≡ got name r → (b : Bool) → durationBits d ≡ b → lineFrom s 0 ≡ cond b (refused TooManyValues) (refused OutOfRange)
-      by-duration e L name g o true v = too-many s t priority x (w .headed) e L y d c q r g (w .bodied) name o v
-      by-duration e L name g o false v = no-duration s t priority x (w .headed) e L y d c q r g (w .bodied) name o v
+refuses : (s : Source) (t : ℕ) (priority : Bool) (x : Read Label) (y : Read ℕ) (d c q r : ℕ) → 8 < c → Headed s t priority x y d c q r → lineFrom s 0 ≡ fault-in t d x y
+unfolding line parts when timed float inRange afterTime kind body
+refuses s t priority x y d c q r many h = by-time (timeBits t) refl
+  where
+    by-duration : timeBits t ≡ true → (L : Label) (name : ℕ) → x ≡ got L q → y ≡ got name r → (b : Bool) → durationBits d ≡ b
+        → lineFrom s 0 ≡ cond b (refused TooManyValues) (refused OutOfRange)
+    by-duration e L name g o true v = too-many s t priority L name d c q r many (rw (g, o) at h) e v
+    by-duration e L name g o false v = rw (h .has-time, h .late, h .time, e, h .first, h .type, h .label-is, g, h .name-is, o, h .duration, v)
 
-      by-name : timeBits t ≡ true → (L : Label) → x ≡ got L q → (z : Read ℕ) → y ≡ z → lineFrom s 0 ≡ andThen z (λ name p. cond (durationBits d) (refused TooManyValues) (refused OutOfRange))
-      by-name e L g (got name p) o = by-duration e L name g (o ∙ ap (got name) (w .at-name name p o)) (durationBits d) refl
-      by-name e L g (refused f) o = no-name s t priority x (w .headed) e L y d c q r g (w .bodied) f o
+    by-name : timeBits t ≡ true → (L : Label) → x ≡ got L q → (z : Read ℕ) → y ≡ z
+        → lineFrom s 0 ≡ andThen z (λ name p. cond (durationBits d) (refused TooManyValues) (refused OutOfRange))
+    by-name e L g (got name p) o = by-duration e L name g (o ∙ ap (got name) (h .at-name name p o)) (durationBits d) refl
+    by-name e L g (refused f) o = rw (h .has-time, h .late, h .time, e, h .first, h .type, h .label-is, g, h .name-is, o)
 
-      by-label : timeBits t ≡ true → (z : Read Label) → x ≡ z → lineFrom s 0 ≡ andThen z (λ L p. andThen y (λ name p. cond (durationBits d) (refused TooManyValues) (refused OutOfRange)))
-      by-label e (got L p) g = by-name e L (g ∙ ap (got L) (w .at-label L p g)) y refl
-      by-label e (refused f) g = no-label s t priority x (w .headed) e f g
+    by-label : timeBits t ≡ true → (z : Read Label) → x ≡ z
+        → lineFrom s 0 ≡ andThen z (λ L p. andThen y (λ name p. cond (durationBits d) (refused TooManyValues) (refused OutOfRange)))
+    by-label e (got L p) g = by-name e L (g ∙ ap (got L) (h .at-label L p g)) y refl
+    by-label e (refused f) g = rw (h .has-time, h .late, h .time, e, h .first, h .type, h .label-is, g)
 
-      by-time : (b : Bool) → timeBits t ≡ b → lineFrom s 0 ≡ cond b (andThen x (λ L p. andThen y (λ name p. cond (durationBits d) (refused TooManyValues) (refused OutOfRange)))) (refused OutOfRange)
-      by-time true e = by-label e x refl
-      by-time false e = no-time s t priority x (w .headed) e
+    by-time : (b : Bool) → timeBits t ≡ b
+        → lineFrom s 0 ≡ cond b (andThen x (λ L p. andThen y (λ name p. cond (durationBits d) (refused TooManyValues) (refused OutOfRange)))) (refused OutOfRange)
+    by-time true e = by-label e x refl
+    by-time false e = rw (h .has-time, h .late, h .time, e)
 
 -- ---- the same from keypad numbers
 
@@ -117,7 +97,7 @@ small-past most v p name q e = go (leb v most) e
   where
     go : (b : Bool) → cond b (got v p) (refused OutOfRange) ≡ got name q → q ≡ p
     go true e = cc
-    go false e = absurd (let z : _≡_ {A = ℕ} 0 1 = cc in omega arith)
+    go false e = cc
 
 abbrev labelled-in : ℕ → Read Label
 labelled-in l = andThen (small-in 65535 l 7) (λ n p. got (Labelled n) p)
@@ -127,7 +107,7 @@ labelled-past l L p e = go (leb l 65535) e
   where
     go : (b : Bool) → andThen (cond b (got l 7) (refused OutOfRange)) (λ n p. got (Labelled n) p) ≡ got L p → p ≡ 7
     go true e = cc
-    go false e = absurd (let z : _≡_ {A = ℕ} 0 1 = cc in omega arith)
+    go false e = cc
 
 abbrev plain-words : ℕ → Bool → ℕ → ℕ → List ℕ → List ℕ
 plain-words t priority name d vs = 1 ∷ (0 ∷ (t ∷ (flag priority ∷ (0 ∷ (0 ∷ (name ∷ (d ∷ vs)))))))
@@ -140,48 +120,38 @@ module _ (t name d : ℕ) (priority : Bool) (c : ℕ) (many : 8 < c) (vs : List 
   unfolding label
   plain-many =
       let ws = plain-words t priority name d (c ∷ vs) in
-      refuses (keypadSource ws) t priority (got Unlabelled 6) (small-in 65535 name 7) d c 6 7
+      refuses (keypadSource ws) t priority (got Unlabelled 6) (small-in 65535 name 7) d c 6 7 many
       (record {
-        headed = record {
-          has-time = small-at ws 1 1 0 (omega arith);
-          late = small-at ws 1 1 1 (omega arith);
-          time = number-at ws 32 2 (omega arith);
-          first = small-at ws 1 1 3 (omega arith) ∙ flag-small priority;
-          type = number-at ws 3 4 (omega arith);
-          label-is = rw (small-at ws 1 1 5 (omega arith));
-        };
-        bodied = record {
-          name-is = small-at ws 16 65535 6 (omega arith);
-          duration = number-at ws 32 7 (omega arith);
-          count = number-at ws 8 8 (omega arith);
-          many = many;
-        };
+        has-time = small-at ws 1 1 0 (omega arith);
+        late = small-at ws 1 1 1 (omega arith);
+        time = number-at ws 32 2 (omega arith);
+        first = small-at ws 1 1 3 (omega arith) ∙ flag-small priority;
+        type = number-at ws 3 4 (omega arith);
+        label-is = rw (small-at ws 1 1 5 (omega arith));
         at-label = λ L p e. cc;
+        name-is = small-at ws 16 65535 6 (omega arith);
         at-name = λ m p e. small-past 65535 name 7 m p e;
+        duration = number-at ws 32 7 (omega arith);
+        count = number-at ws 8 8 (omega arith);
       })
 
   labelled-many : (l : ℕ) → lineFrom (keypadSource (labelled-words t priority l name d (c ∷ vs))) 0 ≡ fault-in t d (labelled-in l) (small-in 65535 name 8)
   unfolding label
   labelled-many l =
       let ws = labelled-words t priority l name d (c ∷ vs) in
-      refuses (keypadSource ws) t priority (labelled-in l) (small-in 65535 name 8) d c 7 8
+      refuses (keypadSource ws) t priority (labelled-in l) (small-in 65535 name 8) d c 7 8 many
       (record {
-        headed = record {
-          has-time = small-at ws 1 1 0 (omega arith);
-          late = small-at ws 1 1 1 (omega arith);
-          time = number-at ws 32 2 (omega arith);
-          first = small-at ws 1 1 3 (omega arith) ∙ flag-small priority;
-          type = number-at ws 3 4 (omega arith);
-          label-is = rw (small-at ws 1 1 5 (omega arith), small-at ws 16 65535 6 (omega arith)) (some-label (leb l 65535));
-        };
-        bodied = record {
-          name-is = small-at ws 16 65535 7 (omega arith);
-          duration = number-at ws 32 8 (omega arith);
-          count = number-at ws 8 9 (omega arith);
-          many = many;
-        };
+        has-time = small-at ws 1 1 0 (omega arith);
+        late = small-at ws 1 1 1 (omega arith);
+        time = number-at ws 32 2 (omega arith);
+        first = small-at ws 1 1 3 (omega arith) ∙ flag-small priority;
+        type = number-at ws 3 4 (omega arith);
+        label-is = rw (small-at ws 1 1 5 (omega arith), small-at ws 16 65535 6 (omega arith)) (some-label (leb l 65535));
         at-label = λ L p e. labelled-past l L p e;
+        name-is = small-at ws 16 65535 7 (omega arith);
         at-name = λ m p e. small-past 65535 name 8 m p e;
+        duration = number-at ws 32 8 (omega arith);
+        count = number-at ws 8 9 (omega arith);
       })
     where
       some-label : (b : Bool)
@@ -199,7 +169,7 @@ module _ (priority : Bool) (time : Float) (name : ℕ) (x : Float) (vs : List Fl
   few-kept h =
       let n : length (map bits vs) ≡ length vs = length-map vs bits in
       let c : lesser (length vs) 9 ≡ length vs = omega arith in
-      ap₂ (λ (j : ℕ) (l : List ℕ). take j (l ++ replicate (8 - length l) 0)) c (take-all 8 (map bits vs) (omega arith)) ∙ take-at (map bits vs) (replicate (8 - length (map bits vs)) 0) (length vs) n
+      cc (take-all 8 (map bits vs) (omega arith), take-at (map bits vs) (replicate (8 - length (map bits vs)) 0) (length vs) n)
 
   few : (l : Option ℕ) → length vs ≤ 8 → instrWords priority time l name x (keptOf vs) ≡ wordsOf (saidAt priority time (said.instr l name x vs))
   unfolding instrWords instrNumbers keptOf wordsOf
@@ -208,7 +178,8 @@ module _ (priority : Bool) (time : Float) (name : ℕ) (x : Float) (vs : List Fl
       ap₂ (λ (j : ℕ) (ws : List ℕ). 1 ∷ (0 ∷ (bits time ∷ (flag priority ∷ (0 ∷ (labelWords l ++ (name ∷ (bits x ∷ (j ∷ ws))))))))) c (few-kept h)
 
   -- more than 8
-  many : (l : Option ℕ) → 8 < length vs → lineFrom (keypadSource (instrWords priority time l name x (keptOf vs))) 0 ≡ lineSaid (saidAt priority time (said.instr l name x vs))
+  many : (l : Option ℕ) → 8 < length vs
+      → lineFrom (keypadSource (instrWords priority time l name x (keptOf vs))) 0 ≡ lineSaid (saidAt priority time (said.instr l name x vs))
   unfolding instrWords instrNumbers keptOf lineSaid wordsOf
   many none h =
       let c : 8 < lesser (lesser (length vs) 9) 9 = omega arith in
@@ -223,6 +194,7 @@ module _ (priority : Bool) (time : Float) (name : ℕ) (x : Float) (vs : List Fl
   unfolding lineInWords judgedAt lineSaid
   instr-judged l = ap lineRead (go (leb (length vs) 8) refl)
     where
-      go : (b : Bool) → leb (length vs) 8 ≡ b → lineFrom (keypadSource (instrWords priority time l name x (keptOf vs))) 0 ≡ lineSaid (saidAt priority time (said.instr l name x vs))
+      go : (b : Bool) → leb (length vs) 8 ≡ b
+          → lineFrom (keypadSource (instrWords priority time l name x (keptOf vs))) 0 ≡ lineSaid (saidAt priority time (said.instr l name x vs))
       go true e = ap (λ (ws : List ℕ). lineFrom (keypadSource ws) 0) (few l (leb-true (length vs) 8 e))
       go false e = many l (leb-false (length vs) 8 e)

@@ -1,6 +1,5 @@
 -- The keypad numbers of what was said, put together. Assumes nothing.
-use Prim.Native.Nat.{ℕ, _+_, _≤_, _<_}
-use Prim.Native.Nat.{min as lesser}
+use Prim.Native.Nat.{ℕ, _+_, _≤_, _<_, min as lesser}
 use mathlib.Core.Path.{_≡_, refl, sym, ap, ap₂, _∙_}
 use mathlib.Core.Bool.{Bool, true, false}
 use mathlib.Core.List.{List, [], _∷_, _++_}
@@ -8,8 +7,8 @@ use mathlib.Core.Option.{none, some}
 use native.Mathlib.Omega.{arith}
 use borrow.Author.Tests.{leb-true, leb-false}
 use lib.Dec.{leb}
-use lib.ListN.{length, getD, take}
-use lib.Seq.{take-all, length-take-le, take-append-add}
+use lib.ListN.{length, getD, take, drop-of-length-le}
+use lib.Seq.{drop-cons, take-all, length-take-le, take-append-add}
 use lib.Ieee.{Float}
 use Rattle.score_line.specs.Reading.{lineInWords}
 use Rattle.score_line.specs.LineFormat.{labelParts}
@@ -44,16 +43,12 @@ module _ (priority : Bool) (time : Float) {t p : ℕ} (e : t ≡ bits time) (f :
     pub control-labelled : (l name : ℕ) {label : Label} → label ≡ Labelled l → r ≡ lineInWords (1 ∷ (0 ∷ (t ∷ (p ∷ (1 ∷ (1 ∷ (l ∷ (name ∷ (v ∷ []))))))))) 0
         → r ≡ judgedAt priority time (said.control (labelParts label) name x)
     unfolding judgedAt lineInWords lineSaid wordsOf
-    control-labelled l name k h =
-        h ∙ (λ i. lineInWords (1 ∷ (0 ∷ (e i ∷ (f i ∷ (1 ∷ (1 ∷ (l ∷ (name ∷ (g i ∷ []))))))))) 0)
-        ∙ ap (λ (y : Label). judgedAt priority time (said.control (labelParts y) name x)) (sym k)
+    control-labelled l name k h = rw k (h ∙ (λ i. lineInWords (1 ∷ (0 ∷ (e i ∷ (f i ∷ (1 ∷ (1 ∷ (l ∷ (name ∷ (g i ∷ []))))))))) 0))
 
     pub control-plain : (name : ℕ) {label : Label} → label ≡ Unlabelled → r ≡ lineInWords (1 ∷ (0 ∷ (t ∷ (p ∷ (1 ∷ (0 ∷ (name ∷ (v ∷ [])))))))) 0
         → r ≡ judgedAt priority time (said.control (labelParts label) name x)
     unfolding judgedAt lineInWords lineSaid wordsOf
-    control-plain name k h =
-        h ∙ (λ i. lineInWords (1 ∷ (0 ∷ (e i ∷ (f i ∷ (1 ∷ (0 ∷ (name ∷ (g i ∷ [])))))))) 0)
-        ∙ ap (λ (y : Label). judgedAt priority time (said.control (labelParts y) name x)) (sym k)
+    control-plain name k h = rw k (h ∙ (λ i. lineInWords (1 ∷ (0 ∷ (e i ∷ (f i ∷ (1 ∷ (0 ∷ (name ∷ (g i ∷ [])))))))) 0))
 
 -- ---- instr
 
@@ -61,16 +56,18 @@ abbrev all-eight : List ℕ → List ℕ
 all-eight l = getD l 0 0 ∷ (getD l 1 0 ∷ (getD l 2 0 ∷ (getD l 3 0 ∷ (getD l 4 0 ∷ (getD l 5 0 ∷ (getD l 6 0 ∷ (getD l 7 0 ∷ [])))))))
 
 eight-are : (l : List ℕ) → length l ≡ 8 → all-eight l ≡ l
-eight-are [] h = absurd (omega arith)
-eight-are (a ∷ []) h = absurd (omega arith)
-eight-are (a ∷ (b ∷ [])) h = absurd (omega arith)
-eight-are (a ∷ (b ∷ (c ∷ []))) h = absurd (omega arith)
-eight-are (a ∷ (b ∷ (c ∷ (d ∷ [])))) h = absurd (omega arith)
-eight-are (a ∷ (b ∷ (c ∷ (d ∷ (e ∷ []))))) h = absurd (omega arith)
-eight-are (a ∷ (b ∷ (c ∷ (d ∷ (e ∷ (f ∷ [])))))) h = absurd (omega arith)
-eight-are (a ∷ (b ∷ (c ∷ (d ∷ (e ∷ (f ∷ (g ∷ []))))))) h = absurd (omega arith)
-eight-are (a ∷ (b ∷ (c ∷ (d ∷ (e ∷ (f ∷ (g ∷ (k ∷ [])))))))) h = refl
-eight-are (a ∷ (b ∷ (c ∷ (d ∷ (e ∷ (f ∷ (g ∷ (k ∷ (m ∷ l))))))))) h = absurd (omega arith)
+eight-are l h =
+    cc (
+      drop-cons l 0 0 (omega arith),
+      drop-cons l 1 0 (omega arith),
+      drop-cons l 2 0 (omega arith),
+      drop-cons l 3 0 (omega arith),
+      drop-cons l 4 0 (omega arith),
+      drop-cons l 5 0 (omega arith),
+      drop-cons l 6 0 (omega arith),
+      drop-cons l 7 0 (omega arith),
+      drop-of-length-le l {i = 8} (omega arith),
+    )
 
 -- a count past the eight reads no further
 take-eight : (l : List ℕ) (n : ℕ) → length l ≡ 8 → take (lesser n 8) l ≡ take n l
@@ -87,25 +84,22 @@ module _ (t p name d : ℕ) (k : Kept) (long : length (k .bits) ≡ 8) {c m : �
   -- the numbers before the values, and then the values
   behind : (head : List ℕ) → take (length head + m) (head ++ all-eight (k .bits)) ≡ head ++ take (k .count) (k .bits)
   behind head =
-      take-append-add head (all-eight (k .bits)) m
-      ∙ ap (λ (x : List ℕ). head ++ x) (ap₂ (λ (j : ℕ) (l : List ℕ). take j l) f (eight-are (k .bits) long) ∙ take-eight (k .bits) (k .count) long)
+      cc (take-append-add head (all-eight (k .bits)) m, eight-are (k .bits) long, take-eight (k .bits) (k .count) long)
 
   pub labelled-judged : (l : ℕ) {r : LineRead} → r ≡ lineInWords (take (10 + m) (1 ∷ (0 ∷ (t ∷ (p ∷ (0 ∷ (1 ∷ (l ∷ (name ∷ (d ∷ (c ∷ all-eight (k .bits)))))))))))) 0
       → r ≡ lineInWords (instrNumbers t p (some l) name d k) 0
   unfolding instrNumbers
-  labelled-judged l h =
-      h ∙ ap (λ (x : List ℕ). lineInWords x 0) (behind (1 ∷ (0 ∷ (t ∷ (p ∷ (0 ∷ (1 ∷ (l ∷ (name ∷ (d ∷ (c ∷ [])))))))))))
-      ∙ ap (λ (x : ℕ). lineInWords (1 ∷ (0 ∷ (t ∷ (p ∷ (0 ∷ (1 ∷ (l ∷ (name ∷ (d ∷ (x ∷ take (k .count) (k .bits))))))))))) 0) e
+  labelled-judged l h = h ∙ ap (λ (x : List ℕ). lineInWords x 0) (behind (1 ∷ (0 ∷ (t ∷ (p ∷ (0 ∷ (1 ∷ (l ∷ (name ∷ (d ∷ (c ∷ []))))))))))) ∙ (rw e)
 
   pub plain-judged : {r : LineRead} → r ≡ lineInWords (take (9 + m) (1 ∷ (0 ∷ (t ∷ (p ∷ (0 ∷ (0 ∷ (name ∷ (d ∷ (c ∷ all-eight (k .bits))))))))))) 0
       → r ≡ lineInWords (instrNumbers t p none name d k) 0
   unfolding instrNumbers
-  plain-judged h =
-      h ∙ ap (λ (x : List ℕ). lineInWords x 0) (behind (1 ∷ (0 ∷ (t ∷ (p ∷ (0 ∷ (0 ∷ (name ∷ (d ∷ (c ∷ []))))))))))
-      ∙ ap (λ (x : ℕ). lineInWords (1 ∷ (0 ∷ (t ∷ (p ∷ (0 ∷ (0 ∷ (name ∷ (d ∷ (x ∷ take (k .count) (k .bits)))))))))) 0) e
+  plain-judged h = h ∙ ap (λ (x : List ℕ). lineInWords x 0) (behind (1 ∷ (0 ∷ (t ∷ (p ∷ (0 ∷ (0 ∷ (name ∷ (d ∷ (c ∷ [])))))))))) ∙ (rw e)
 
-module _ (priority : Bool) (time : Float) {t p : ℕ} (e : t ≡ bits time) (f : p ≡ flag priority) (name : ℕ) (x : Float) {d : ℕ} (g : d ≡ bits x) (k : Kept) {label : Label} {r : LineRead} where
-  pub instr-labelled : (l : ℕ) → label ≡ Labelled l → r ≡ lineInWords (instrNumbers t p (some l) name d k) 0 → r ≡ lineInWords (instrWords priority time (labelParts label) name x k) 0
+module _ (priority : Bool) (time : Float) {t p : ℕ} (e : t ≡ bits time) (f : p ≡ flag priority) (name : ℕ) (x : Float) {d : ℕ} (g : d ≡ bits x) (k : Kept) {label : Label}
+    {r : LineRead} where
+  pub instr-labelled : (l : ℕ) → label ≡ Labelled l → r ≡ lineInWords (instrNumbers t p (some l) name d k) 0
+      → r ≡ lineInWords (instrWords priority time (labelParts label) name x k) 0
   unfolding instrWords
   instr-labelled l h q = q ∙ (λ i. lineInWords (instrNumbers (e i) (f i) (labelParts (sym h i)) name (g i) k) 0)
 

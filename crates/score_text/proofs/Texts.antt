@@ -12,8 +12,8 @@ use Rattle.laws.proofs.Choice.{cond-true, cond-false}
 use Rattle.numerals.specs.inside.Reading.{Read, got, refused}
 use Rattle.numerals.proofs.Readings.{not-got}
 use Rattle.score_text.specs.Said.{Said, mostLines}
-use Rattle.score_text.specs.Form.{newline, Written, starBytes, formBytes, lineBytes, textBytes, LawfulForm, LawfulLines, saidBy}
-use Rattle.score_text.specs.inside.Reading.{lineFrom, Text, lines, bad, before, thenLines, unlessNone, linesFrom, judged, textOf}
+use Rattle.score_text.specs.Form.{Written, lineBytes, textBytes, LawfulForm, LawfulLines, saidBy}
+use Rattle.score_text.specs.inside.Reading.{lineFrom, Text, lines, bad, before, thenLines, linesFrom, judged, textOf}
 use Rattle.score_text.specs.Claims.{Spells, NoLine, Breaks, TextRead, TextBroken, Either, spells, breaks, EveryText, NotBoth, OneBreak, Judged}
 use Rattle.score_text.proofs.Lines.{line-complete, line-sound}
 
@@ -27,7 +27,7 @@ line-got n i (b ∷ bs) h e = cond-false _ _ (lt-leb mostLines i h) ∙ ap (λ z
 line-refused : (n i b : ℕ) (bs : List ℕ) → lineFrom (b ∷ bs) ≡ refused → linesFrom n i (b ∷ bs) ≡ bad i
 unfolding linesFrom
 line-refused zero i b bs e = refl
-line-refused (suc n) i b bs e = ap (cond (leb mostLines i) (bad i)) (ap (λ z. thenLines z i (λ r. linesFrom n (suc i) r)) e) ∙ same (leb mostLines i)
+line-refused (suc n) i b bs e = ap (λ z. cond (leb mostLines i) (bad i) (thenLines z i (λ r. linesFrom n (suc i) r))) e ∙ same (leb mostLines i)
   where
     same : (t : Bool) → cond t (bad i) (bad i) ≡ bad i
     same true = refl
@@ -66,28 +66,18 @@ lines-first n i [] bs l h = λ k. linesFrom (zero-add n k) (sym (add-zero i) k) 
 lines-first n i (w ∷ ws) bs l h =
     let m : suc (length ws) + n ≡ suc (length ws + n) = omega arith in
     let j : suc i + length ws ≡ i + suc (length ws) = omega arith in
-    let e : lineFrom ((lineBytes w ++ textBytes ws) ++ bs) ≡ got (saidBy w) (textBytes ws ++ bs) = ap lineFrom (append-assoc (lineBytes w) (textBytes ws) bs) ∙ line-complete w (textBytes ws ++ bs) (l .0) in
-    ap (λ (k : ℕ). linesFrom k i ((lineBytes w ++ textBytes ws) ++ bs)) m
-    ∙ line-got (length ws + n) i _ (omega arith) e
-    ∙ ap (before (saidBy w)) (lines-first n (suc i) ws bs (l .1) (omega arith) ∙ ap (λ (k : ℕ). ahead (map saidBy ws) (linesFrom n k bs)) j)
+    let e : lineFrom ((lineBytes w ++ textBytes ws) ++ bs) ≡ got (saidBy w) (textBytes ws ++ bs) = rw append-assoc (line-complete w (textBytes ws ++ bs) (l .0)) in
+    cc (line-got (length ws + n) i _ (omega arith) e, lines-first n (suc i) ws bs (l .1) (omega arith))
 
 -- every line has a byte
 line-room : (w : Written) (bs : List ℕ) → length bs < length (lineBytes w ++ bs)
 unfolding lineBytes
-line-room w bs =
-    let a = length-append (starBytes (w .priority) ++ (formBytes (w .form) ++ (newline ∷ []))) bs in
-    let b = length-append (starBytes (w .priority)) (formBytes (w .form) ++ (newline ∷ [])) in
-    let c = length-append (formBytes (w .form)) (newline ∷ []) in
-    omega arith
+line-room w bs = simp length-append (omega arith)
 
 lines-room : (ws : List Written) (bs : List ℕ) → length ws ≤ length (textBytes ws ++ bs)
 unfolding textBytes
 lines-room [] bs = zero-le
-lines-room (w ∷ ws) bs =
-    let a = lines-room ws bs in
-    let b = line-room w (textBytes ws ++ bs) in
-    let c = ap length (append-assoc (lineBytes w) (textBytes ws) bs) in
-    omega arith
+lines-room (w ∷ ws) bs = let a = lines-room ws bs in rw append-assoc (omega (arith, line-room w (textBytes ws ++ bs)))
 
 -- ---- the text
 
@@ -95,12 +85,10 @@ lines-room (w ∷ ws) bs =
 text-first : (bytes : List ℕ) (ws : List Written) (bs : List ℕ) (t : Text) → textBytes ws ++ bs ≡ bytes → LawfulLines ws → length ws ≤ mostLines
     → ((n : ℕ) → linesFrom n (length ws) bs ≡ t) → linesFrom (length bytes) 0 bytes ≡ ahead (map saidBy ws) t
 text-first bytes ws bs t e l h f =
-    let k = length bytes in
-    let r : length ws ≤ k = subst (λ (z : List ℕ). length ws ≤ length z) e (lines-room ws bs) in
-    let n = k - length ws in
-    let m : k ≡ length ws + n = omega arith in
-    (λ i. linesFrom (m i) 0 (sym e i)) ∙ lines-first n 0 ws bs l (subst (λ (z : ℕ). z ≤ mostLines) (sym (zero-add (length ws))) h)
-    ∙ ap (ahead (map saidBy ws)) (ap (λ (z : ℕ). linesFrom n z bs) (zero-add (length ws)) ∙ f n)
+    let r : length ws ≤ length bytes = rw e at (lines-room ws bs) in
+    let n = length bytes - length ws in
+    let m : length bytes ≡ length ws + n = omega arith in
+    cc (lines-first n 0 ws bs l (omega arith), zero-add (length ws), f n)
 
 pub text-lines : (bytes : List ℕ) (ws : List Written) → Spells bytes ws → linesFrom (length bytes) 0 bytes ≡ lines (map saidBy ws)
 text-lines bytes ws s =
@@ -151,26 +139,6 @@ not-both bytes ws number s b =
 pub one-break : OneBreak
 one-break bytes n m a b = let e = sym (text-bad bytes n a) ∙ text-bad bytes m b in cc
 
--- ---- fuel
-
-line-shorter : (bs : List ℕ) (s : Said) (r : List ℕ) → lineFrom bs ≡ got s r → length r < length bs
-line-shorter bs s r e = let f = line-sound bs s r e in subst (λ (z : List ℕ). length r < length z) (sym (f .spells)) (line-room (f .one) r)
-
-then-same : (m : Read Said) (i : ℕ) (k l : List ℕ → Text) → ((s : Said) (r : List ℕ) → m ≡ got s r → k r ≡ l r) → thenLines m i k ≡ thenLines m i l
-then-same (got s r) i k l f = ap (before s) (f s r refl)
-then-same refused i k l f = refl
-
--- as much as there are bytes is enough
-pub lines-fuel : (n m i : ℕ) (bs : List ℕ) → length bs ≤ n → length bs ≤ m → linesFrom n i bs ≡ linesFrom m i bs
-unfolding linesFrom
-lines-fuel zero m i [] h g = sym (no-more m i)
-lines-fuel zero m i (b ∷ bs) h g = absurd (let z : suc (length bs) ≤ 0 = h in omega arith)
-lines-fuel (suc n) zero i [] h g = no-more (suc n) i
-lines-fuel (suc n) zero i (b ∷ bs) h g = absurd (let z : suc (length bs) ≤ 0 = g in omega arith)
-lines-fuel (suc n) (suc m) i bs h g =
-    ap (λ z. unlessNone bs (cond (leb mostLines i) (bad i) z))
-    (then-same (lineFrom bs) i (λ r. linesFrom n (suc i) r) (λ r. linesFrom m (suc i) r) (λ s r e. let l = line-shorter bs s r e in lines-fuel n m (suc i) r (omega arith) (omega arith)))
-
 -- ---- every text
 
 -- behind i lines: lines to the end, or lines and bytes where there is none
@@ -184,7 +152,8 @@ unfolding textBytes LawfulLines
 one-line i w bs r e l (all ws f k h) = all (w ∷ ws) (ap (λ (z : List ℕ). lineBytes w ++ z) f ∙ sym e) (l, k) (omega arith)
 one-line i w bs r e l (some ws b cs f k h g) =
     let m : i + suc (length ws) ≡ suc i + length ws = omega arith in
-    some (w ∷ ws) b cs (append-assoc (lineBytes w) (textBytes ws) (b ∷ cs) ∙ ap (λ (z : List ℕ). lineBytes w ++ z) f ∙ sym e) (l, k) (omega arith) (λ n. g (λ z. n (m ∙ z)))
+    some (w ∷ ws) b cs (append-assoc (lineBytes w) (textBytes ws) (b ∷ cs) ∙ ap (λ (z : List ℕ). lineBytes w ++ z) f ∙ sym e) (l, k) (omega arith)
+    (λ n. g (λ z. n (m ∙ z)))
 
 no-line : (bs : List ℕ) → lineFrom bs ≡ refused → NoLine bs
 no-line bs e w r l q = not-got (sym e ∙ ap lineFrom (sym q) ∙ line-complete w r l)
@@ -220,4 +189,14 @@ every-text bytes = go (at-bytes 0 bytes zero-le (every-from (length bytes)))
     go : From 0 bytes → Either bytes
     go (all ws e l h) = spells ws (record { spelled = e; lawful = l; few = omega arith })
     go (some ws b cs e l h k) =
-        breaks (length ws) (record { before = ws; first = b; others = cs; spelled = e; lawful = l; counted = refl; few = omega arith; none = λ m. k (λ z. m (sym (zero-add (length ws)) ∙ z)) })
+        breaks (length ws) (record {
+          before = ws;
+          first = b;
+          others = cs;
+          spelled = e;
+          lawful = l;
+          counted = refl;
+          few = omega arith;
+          none = λ m. k
+              (λ z. m (sym (zero-add (length ws)) ∙ z));
+        })

@@ -1,3 +1,3 @@
 pub mod Leaves
 pub mod Lists
-pub mod Ways
+pub mod EventReaders

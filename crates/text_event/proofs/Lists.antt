@@ -1,13 +1,13 @@
 -- The loop over a line's values. Assumes nothing.
 use Prim.Native.Nat.{ℕ, zero, suc, _+_, _-_, _≤_, _<_}
-use mathlib.Core.Path.{_≡_, refl, sym, ap, _∙_, subst}
+use mathlib.Core.Path.{_≡_, refl, sym, ap, _∙_}
 use mathlib.Core.Bool.{Bool, true, false}
 use mathlib.Core.List.{List, [], _∷_, _++_, append-nil}
 use native.Mathlib.Omega.{arith}
 use lib.ListN.{length, drop, length-append, length-drop}
 use lib.Seq.{append-snoc}
 use lib.Ieee.{Float}
-use Rattle.laws.proofs.Choice.{cond-true, cond-false}
+use Rattle.laws.proofs.Choice.{cond-false}
 use Rattle.numerals.specs.inside.Reading.{Read, got, refused, andThen, startsWith, rest}
 use Rattle.number_reader.specs.Results.{Starts, numberIs}
 use Rattle.number_reader.specs.declared.NumberRead.{NumberRead}
@@ -19,7 +19,7 @@ use Rattle.said_line.specs.declared.Kept.{Kept}
 use Rattle.said_line.proofs.Keeping.{kept-more}
 use Rattle.text_event.specs.Results.{position, noValues, valuesTold}
 use Rattle.text_event.specs.declared.Values.{Values}
-use Rattle.text_event.proofs.Leaves.{Leaves, next-number-leaves}
+use Rattle.text_event.proofs.Leaves.{next-number-leaves}
 
 -- ---- what a call gave
 
@@ -31,13 +31,14 @@ number-no s e f = sym e ∙ ap (numberIs s) f
 
 -- the position past a byte that is there
 pub next-position : (s : List ℕ) (p : ℕ) → p < length s → p + 1 ≡ position s (rest (drop p s))
-next-position s p h = (let n = length-drop (p + 1) s in let e : p + 1 ≡ length s - length (drop (p + 1) s) = omega (arith, n) in e) ∙ ap (position s) (sym (rest-drop s p))
+next-position s p h = let e : p + 1 ≡ length s - length (drop (p + 1) s) = omega (arith, length-drop (p + 1) s) in cc (rest-drop s p)
 
 -- a number leaves fewer bytes
 pub fewer-left : (s : List ℕ) (p q : ℕ) {r : NumberRead} {x : Float} → numberIs s r ≡ nextNumber (drop p s) → r ≡ number.Of x q → length (drop q s) < length (drop p s)
 fewer-left s p q {x = x} e f =
-    let b = subst (Leaves 1 (drop p s)) (number-of s e f) (next-number-leaves (drop p s)) in
-    omega (arith, b .some-of, b .within, ap length (b .is) ∙ length-drop (b .passed) (drop p s))
+    let n = number-of s e f in
+    let b = rw n at (next-number-leaves (drop p s)) in
+    omega (arith, b .some-of, b .within, ap length (b .is), length-drop (b .passed) (drop p s))
 
 pub falls : (s : List ℕ) (p q : ℕ) {r : NumberRead} {x : Float} → numberIs s r ≡ nextNumber (drop p s) → r ≡ number.Of x q → length s - q < length s - p
 falls s p q e f = omega (arith, fewer-left s p q e f, length-drop p s, length-drop q s)
@@ -66,7 +67,9 @@ module _ (s : List ℕ) (at : ℕ) where
         done = [];
         kept = e;
         room = omega arith;
-        same = let n : length (drop at s) - 0 ≡ length (drop at s) = omega arith in whole (valuesFrom (length (drop at s) - 0) (drop at s)) ∙ ap (λ (j : ℕ). valuesFrom j (drop at s)) n;
+        same =
+            let n : length (drop at s) - 0 ≡ length (drop at s) = omega arith in
+            whole (valuesFrom (length (drop at s) - 0) (drop at s)) ∙ ap (λ (j : ℕ). valuesFrom j (drop at s)) n;
       }
     where
       whole : (x : Read (List Float)) → onward [] x ≡ x
@@ -79,9 +82,7 @@ module _ (s : List ℕ) (at : ℕ) where
     ends y =
         let h = no-more (drop p s) (sym (n .is) ∙ y) in
         let m : length (drop at s) - length (g .done) ≡ suc (length (drop at s) - length (g .done) - 1) = omega (arith, g .room) in
-        let v : valuesFrom (length (drop at s)) (drop at s) ≡ got (g .done) (rest (drop p s)) =
-        sym (g .same) ∙ ap (λ (j : ℕ). onward (g .done) (valuesFrom j (drop p s))) m ∙ ap (onward (g .done)) (cond-true _ _ (sym (n .is) ∙ y))
-        ∙ ap (λ (vs : List Float). got vs (rest (drop p s))) (append-nil (g .done)) in
+        let v : valuesFrom (length (drop at s)) (drop at s) ≡ got (g .done) (rest (drop p s)) = cc (g .same, sym (n .is) ∙ y, append-nil (g .done)) in
         (λ i. record { stand = true; kept = g .kept i; next = next-position s p (n .within y) i }) ∙ ap (valuesTold s) (sym v)
 
     module _ (y : t ≡ false) {r : NumberRead} (e : numberIs s r ≡ nextNumber (drop p s)) where
@@ -100,7 +101,8 @@ module _ (s : List ℕ) (at : ℕ) where
             room = omega (arith, g .room);
             same =
                 regroup d x (valuesFrom left (drop q s))
-                ∙ sym (ap (onward d) (cond-false _ _ (sym (n .is) ∙ y) ∙ ap (λ (z : Read Float). andThen z (λ v r. andThen (valuesFrom left r) (λ xs q. got (v ∷ xs) q))) (number-of s e f)))
+                ∙ sym (ap (onward d) (cond-false _ _ (sym (n .is) ∙ y) ∙ ap (λ (z : Read Float). andThen z (λ v r. andThen (valuesFrom left r) (λ xs q. got (v ∷ xs) q)))
+                (number-of s e f)))
                 ∙ ap (λ (j : ℕ). onward d (valuesFrom j (drop p s))) (sym m) ∙ g .same;
           }
         where
@@ -115,7 +117,8 @@ module _ (s : List ℕ) (at : ℕ) where
           go : (j : ℕ) → onward (g .done) (valuesFrom j (drop p s)) ≡ refused
           go zero = refl
           go (suc j) =
-              ap (onward (g .done)) (cond-false _ _ (sym (n .is) ∙ y) ∙ ap (λ (z : Read Float). andThen z (λ x r. andThen (valuesFrom j r) (λ xs q. got (x ∷ xs) q))) (number-no s e f))
+              ap (onward (g .done)) (cond-false _ _ (sym (n .is) ∙ y) ∙ ap (λ (z : Read Float). andThen z (λ x r. andThen (valuesFrom j r) (λ xs q. got (x ∷ xs) q)))
+              (number-no s e f))
 
 pub none-kept : record { count = 0; bits = 0 ∷ (0 ∷ (0 ∷ (0 ∷ (0 ∷ (0 ∷ (0 ∷ (0 ∷ []))))))) } ≡ keptOf []
 unfolding keptOf eight

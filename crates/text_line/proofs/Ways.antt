@@ -22,7 +22,7 @@ use Rattle.text_elements.proofs.Parts.{passed-at, passed-no}
 use Rattle.text_event.specs.Results.{noLine, lineTold, atTime}
 use Rattle.text_event.specs.declared.TextLine.{TextLine}
 use Rattle.text_event.proofs.Lists.{number-of, number-no}
-use Rattle.text_event.proofs.Ways.{name-of, name-no, none-told, as-line}
+use Rattle.text_event.proofs.EventReaders.{name-of, name-no, none-told, as-line}
 use Rattle.text_line.specs.Labelled.{afterLabel}
 
 module _ (s : List ℕ) (at : ℕ) (priority : Bool) where

@@ -51,7 +51,8 @@ unfolding counted number
 few-values n xs h =
     let f = format (float range.Value) .lawful in
     let a = leb→le (lesser n 255) 8 (and-l (leb (lesser n 255) 8) (eqb (length (take n xs)) n && all f (take n xs)) h) in
-    let b = eqb→eq (length (take n xs)) n (and-l (eqb (length (take n xs)) n) (all f (take n xs)) (and-r (leb (lesser n 255) 8) (eqb (length (take n xs)) n && all f (take n xs)) h)) in
+    let b = eqb→eq (length (take n xs)) n (and-l (eqb (length (take n xs)) n) (all f (take n xs))
+    (and-r (leb (lesser n 255) 8) (eqb (length (take n xs)) n && all f (take n xs)) h)) in
     omega arith
 
 -- an instr line's number of values is that of its places in use
@@ -70,7 +71,8 @@ counts (Tempo x) n xs h = tt
 
 -- from the type on
 event-words : (e : Event) (n : ℕ) (xs : List Float) → Counts e n xs
-    → eventWords (eventSaid e n xs) ≡ fieldWords (format kind .fields (kindOf e) (format (body (kindOf e)) .fields (eventParts e .1) (format (values (kindOf e)) .fields (valuesOf (kindOf e) n xs) [])))
+    → eventWords (eventSaid e n xs) ≡ fieldWords (format kind .fields (kindOf e)
+    (format (body (kindOf e)) .fields (eventParts e .1) (format (values (kindOf e)) .fields (valuesOf (kindOf e) n xs) [])))
 unfolding fieldWords kind body labelled values counted number float F.small label
 event-words (Instr Unlabelled i d) n xs h = ap₂ (λ (k : ℕ) (ws : List ℕ). 0 ∷ (0 ∷ (i ∷ (bits d ∷ (k ∷ ws))))) h (float-words (take n xs))
 event-words (Instr (Labelled l) i d) n xs h = ap₂ (λ (k : ℕ) (ws : List ℕ). 0 ∷ (1 ∷ (l ∷ (i ∷ (bits d ∷ (k ∷ ws)))))) h (float-words (take n xs))
@@ -93,21 +95,37 @@ values-lawful l h =
     let p = format flag .lawful (l .priority) in
     and-r b v (and-r p (b && v) (and-r w (p && (b && v)) (and-r (filled l) (w && (p && (b && v))) h)))
 
-pub said-words : (l : Line) (s : Said) → T (lawful l) → saidOf l ≡ some s → wordsOf s ≡ lineWords l
-said-words l s h e = go (l .when) (l .priority) (l .event) (l .count) (l .values) (counts (l .event) (l .count) (l .values) (values-lawful l h)) e
+-- a line that says something is timed, and says its parts
+pub record Parts (l : Line) (s : Said) : Type 0 where
+  pub when : l .when ≡ Timed false (s .time)
+  pub priority : l .priority ≡ s .priority
+  pub event : eventSaid (l .event) (l .count) (l .values) ≡ s .event
+
+pub said-parts : (l : Line) (s : Said) → saidOf l ≡ some s → Parts l s
+said-parts l s e = go (l .when) refl e
   where
-    go : (w : When) (p : Bool) (e : Event) (n : ℕ) (xs : List Float) → Counts e n xs
-        → saidOf (record { when = w; priority = p; event = e; count = n; values = xs }) ≡ some s → wordsOf s ≡ lineWords (record { when = w; priority = p; event = e; count = n; values = xs })
-    go Untimed p e n xs k f = absurd (Option·none-ne-some s f)
-    go (Timed true t) p e n xs k f = absurd (Option·none-ne-some s f)
-    go (Timed false t) p e n xs k f = ap wordsOf (sym (Option·some-injective (record { priority = p; time = t; event = eventSaid e n xs }) s f)) ∙ timed-words p t e n xs k
+    go : (w : When) → l .when ≡ w
+        → Option·map (λ t. record { priority = l .priority; time = t; event = eventSaid (l .event) (l .count) (l .values) }) (timeSaid w) ≡ some s → Parts l s
+    go Untimed i f = absurd (Option·none-ne-some s f)
+    go (Timed true t) i f = absurd (Option·none-ne-some s f)
+    go (Timed false t) i f =
+        let k = Option·some-injective (record { priority = l .priority; time = t; event = eventSaid (l .event) (l .count) (l .values) }) s f in
+        record { when = i ∙ ap (λ (z : Said). Timed false (z .time)) k; priority = ap (λ (z : Said). z .priority) k; event = ap (λ (z : Said). z .event) k }
+
+said-words : (l : Line) (s : Said) → T (lawful l) → saidOf l ≡ some s → wordsOf s ≡ lineWords l
+said-words l s h e =
+    let p = said-parts l s e in
+    (λ i. wordsOf (record { priority = sym (p .priority) i; time = s .time; event = sym (p .event) i }))
+    ∙ timed-words (l .priority) (s .time) (l .event) (l .count) (l .values) (counts (l .event) (l .count) (l .values) (values-lawful l h))
+    ∙ (λ i. lineWords (record { when = sym (p .when) i; priority = l .priority; event = l .event; count = l .count; values = l .values }))
 
 -- so a lawful line is read from what it says
 pub said-line : (l : Line) (s : Said) → T (lawful l) → saidOf l ≡ some s → lineSaid s ≡ got l (length (lineWords l))
 unfolding lineSaid lineInWords
 said-line l s h e =
     ap (λ (ws : List ℕ). lineFrom (keypadSource ws) 0) (said-words l s h e)
-    ∙ read-taken (lineFrom (keypadSource (lineWords l)) 0) l (length (lineWords l)) (words-here (lineWords l) 0 l [] h (sym (append-nil (lineWords l))) ∙ ap (taken l) (zero-add (length (lineWords l))))
+    ∙ read-taken (lineFrom (keypadSource (lineWords l)) 0) l (length (lineWords l))
+    (words-here (lineWords l) 0 l [] h (sym (append-nil (lineWords l))) ∙ ap (taken l) (zero-add (length (lineWords l))))
 
 -- ---- its text is lawful
 
@@ -122,10 +140,16 @@ SmallNames said.end = Unit {0}
 event-names : (e : Event) (n : ℕ) (xs : List Float) → T (storedEvent e) → SmallNames (eventSaid e n xs)
 unfolding SmallNames
 event-names (Instr Unlabelled i d) n xs h = leb→le i 65535 (and-l (isSymbol i) (fits binary32 d) h)
-event-names (Instr (Labelled l) i d) n xs h =
-    (leb→le l 65535 (and-l (isSymbol l) (isSymbol i && fits binary32 d) h), leb→le i 65535 (and-l (isSymbol i) (fits binary32 d) (and-r (isSymbol l) (isSymbol i && fits binary32 d) h)))
-event-names (Control l v x) n xs h =
-    (leb→le l 65535 (and-l (isSymbol l) (isSymbol v && fits binary32 x) h), leb→le v 65535 (and-l (isSymbol v) (fits binary32 x) (and-r (isSymbol l) (isSymbol v && fits binary32 x) h)))
+event-names (Instr (Labelled l) i d) n xs h = (
+  leb→le l 65535 (and-l (isSymbol l) (isSymbol i && fits binary32 d) h),
+  leb→le i 65535
+      (and-l (isSymbol i) (fits binary32 d) (and-r (isSymbol l) (isSymbol i && fits binary32 d) h)),
+)
+event-names (Control l v x) n xs h = (
+  leb→le l 65535 (and-l (isSymbol l) (isSymbol v && fits binary32 x) h),
+  leb→le v 65535
+      (and-l (isSymbol v) (fits binary32 x) (and-r (isSymbol l) (isSymbol v && fits binary32 x) h)),
+)
 event-names End n xs h = tt
 event-names (Tempo x) n xs h = tt
 
@@ -143,17 +167,10 @@ form-lawful (control t (some l) more n x) h k = (h .0 .lawful, (k .0, (k .1, h .
 form-lawful (tempo t more x) h k = (h .0 .lawful, h .1 .1 .1 .lawful)
 form-lawful (end t more) h k = h .0 .lawful
 
-names-said : (l : Line) (s : Said) → T (storedEvent (l .event)) → saidOf l ≡ some s → SmallNames (s .event)
-names-said l s h e = go (l .when) e
-  where
-    go : (w : When) → Option·map (λ t. record { priority = l .priority; time = t; event = eventSaid (l .event) (l .count) (l .values) }) (timeSaid w) ≡ some s → SmallNames (s .event)
-    go Untimed f = absurd (Option·none-ne-some s f)
-    go (Timed true t) f = absurd (Option·none-ne-some s f)
-    go (Timed false t) f = subst (λ (z : Said). SmallNames (z .event)) (Option·some-injective _ s f) (event-names (l .event) (l .count) (l .values) h)
-
 pub text-lawful : (l : Line) (w : Written) → T (stored l) → Says l w → LawfulForm (w .form)
 unfolding saidBy
 text-lawful l w h s =
     let e = storedEvent (l .event) in
     let r = eqb (length (l .values)) 8 && all (fits binary32) (l .values) in
-    form-lawful (w .form) (s .is-plain) (names-said l (saidBy w) (and-l e r (and-r (storedWhen (l .when)) (e && r) h)) (s .is-said))
+    form-lawful (w .form) (s .is-plain)
+    (subst SmallNames (said-parts l (saidBy w) (s .is-said) .event) (event-names (l .event) (l .count) (l .values) (and-l e r (and-r (storedWhen (l .when)) (e && r) h))))

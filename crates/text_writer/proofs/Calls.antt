@@ -1,17 +1,16 @@
 -- Reading and writing text through the calls. Assumes nothing.
 use Prim.Native.Nat.{ℕ, suc, _+_, _*_, _≤_}
-use mathlib.Core.Path.{_≡_, refl, sym, ap, ap₂, _∙_, subst}
+use mathlib.Core.Path.{_≡_, refl, sym, ap, _∙_, subst}
 use mathlib.Core.Bool.{Bool, true, false, cond, true≢false}
-use mathlib.Core.List.{List, [], _∷_, _++_, map}
+use mathlib.Core.List.{List, [], _∷_, map}
 use mathlib.Core.Option.{Option, none, some}
-use native.Mathlib.Nat.{zero-add}
 use native.Mathlib.Omega.{arith}
 use borrow.Author.Tests.{le-leb, leb-true, eqb-true}
 use lib.Dec.{T, leb}
 use lib.ListN.{length, take, drop}
 use lib.Ieee.{binary32, fits}
 use lib.Ieee.Fits.{and-l, and-r, and-i}
-use Rattle.laws.proofs.Choice.{cond-true, cond-false}
+use Rattle.laws.proofs.Choice.{cond-true}
 use Rattle.answer.specs.Numbers.{numberOf, isTaken}
 use Rattle.answer.specs.declared.Answer.the-variants as answer
 use Rattle.numerals.specs.Numeral.{Numeral, wholeOf, meaning}
@@ -41,12 +40,12 @@ use Rattle.score_writer.specs.declared.Written as call
 use Rattle.score_writer.proofs.Area.{lines-count}
 use Rattle.score_writer.proofs.InSlots.{zero-taken, zero-is, held-from, slots-back}
 use Rattle.score_writer.proofs.Calls.{told-zero, words-long, decodes, decoded-zero, slots-decoded}
-use Rattle.written_line.specs.LineText.{saidOf, eventNumbers, numbersOf, Says, Unsaid}
+use Rattle.written_line.specs.LineText.{saidOf, eventNumbers, numbersOf, Says}
 use Rattle.text_writer.specs.Writing.{Text, all, lacking, before, textFrom, toldText, leftText, textWritten, textLeft, TextDone}
 use Rattle.text_writer.specs.Claims.{Told, AllSay, no-lines, one-more, TextIs, EveryTextTold, RoomNumber, written, too-short, TextNumber, room, no-text, LikeScore, TextLikeScore, TextReadBack, TextSlotsBack, NeverRefused18, ReadSaid, WrittenAgain, TextReadAgain}
 use Rattle.text_writer.specs.Claims as claims
 use Rattle.written_line.proofs.Numbers.{float-fits}
-use Rattle.text_writer.proofs.Stored.{lawful-stored}
+use Rattle.text_writer.proofs.Stored.{and-map, lawful-stored}
 use Rattle.text_writer.proofs.Back.{said-line, SmallNames, text-lawful}
 use Rattle.text_writer.proofs.Lines.{line-found, said-not, every-line-told}
 use Rattle.text_writer.proofs.Again.{said-back}
@@ -54,20 +53,10 @@ use Rattle.text_writer.proofs.Passing.{all-same}
 
 -- ---- lines and their texts
 
--- where the text is told: the lines that have one, and those that follow
-record FirstFrom (i : ℕ) (ls : List Line) (j : ℕ) : Type 0 where
-  before : List Line
-  texts : List Written
-  line : Line
-  after : List Line
-  are : before ++ (line ∷ after) ≡ ls
-  number : i + length before ≡ j
-  said : AllSay before texts
-  unsaid : Unsaid line
-
+-- lines behind i others: they all have a text, or the first that has none
 data ToldFrom (i : ℕ) (ls : List Line) : Text → Type 0 where
   whole : (ws : List Written) → AllSay ls ws → ToldFrom i ls (all ws)
-  broken : (j : ℕ) → FirstFrom i ls j → ToldFrom i ls (lacking j)
+  broken : (j k : ℕ) → i + j ≡ k → claims.FirstUnsaid ls j → ToldFrom i ls (lacking k)
 
 told-from : (i : ℕ) (ls : List Line) → T (allStored ls) → ToldFrom i ls (textFrom i ls)
 unfolding textFrom
@@ -76,43 +65,42 @@ told-from i (l ∷ ls) h = go (every-line-told l (and-l (stored l) (allStored ls
   where
     go : {o : Option Written} {t : Text} → Told l o → ToldFrom (suc i) ls t → ToldFrom i (l ∷ ls) (before o i t)
     go (claims.said w s u n) (whole ws k) = whole (w ∷ ws) (one-more s k)
-    go (claims.said w s u n) (broken j f) =
-        broken j (record {
+    go (claims.said w s u n) (broken j k e f) =
+        broken (suc j) k (omega arith) (record {
           before = l ∷ f .before;
           texts = w ∷ f .texts;
           line = f .line;
           after = f .after;
           are = ap (λ (x : List Line). l ∷ x) (f .are);
-          number = omega (arith, f .number);
+          number = ap suc (f .number);
           said = one-more s (f .said);
           unsaid = f .unsaid;
         })
-    go (claims.unsaid u n) k = broken i (record { before = []; texts = []; line = l; after = ls; are = refl; number = omega arith; said = no-lines; unsaid = u })
+    go (claims.unsaid u n) k = broken 0 i (omega arith) (record { before = []; texts = []; line = l; after = ls; are = refl; number = refl; said = no-lines; unsaid = u })
 
 pub every-text-told : EveryTextTold
 every-text-told ls h = go (told-from 0 ls h)
   where
     go : {t : Text} → ToldFrom 0 ls t → TextIs ls t
     go (whole ws k) = claims.whole ws k
-    go (broken j f) =
-        claims.broken j (record { before = f .before; texts = f .texts; line = f .line; after = f .after; are = f .are; number = sym (zero-add (length (f .before))) ∙ f .number; said = f .said; unsaid = f .unsaid })
+    go (broken j k e f) = let g : j ≡ k = omega arith in rw g at (claims.broken j f)
 
 all-stored : (ls : List Line) → T (allLawful ls) → T (allStored ls)
 unfolding allLawful
 all-stored [] h = tt
-all-stored (l ∷ ls) h = and-i (stored l) (allStored ls) (lawful-stored l (and-l (lawful l) (allLawful ls) h)) (all-stored ls (and-r (lawful l) (allLawful ls) h))
+all-stored (l ∷ ls) h = and-map (lawful l) (allLawful ls) (stored l) (allStored ls) (lawful-stored l) (all-stored ls) h
 
 text-says : (ls : List Line) (ws : List Written) → T (allLawful ls) → textFrom 0 ls ≡ all ws → AllSay ls ws
 text-says ls ws h e = go (told-from 0 ls (all-stored ls h)) e
   where
     go : {t : Text} → ToldFrom 0 ls t → t ≡ all ws → AllSay ls ws
     go (whole vs k) f = subst (AllSay ls) (all-same f) k
-    go (broken j k) f = absurd (let z : _≡_ {A = ℕ} 0 1 = cc in omega arith)
+    go (broken j i g k) f = absurd (let z : _≡_ {A = ℕ} 0 1 = cc in omega arith)
 
 says-text : (i : ℕ) {ls : List Line} {ws : List Written} → AllSay ls ws → textFrom i ls ≡ all ws
 unfolding textFrom
 says-text i no-lines = refl
-says-text i (one-more {l} {ls} {w} {ws} s k) = ap₂ (λ (o : Option Written) (t : Text). before o i t) (line-found l w s) (says-text (suc i) k)
+says-text i (one-more {l} {ls} {w} {ws} s k) = cc (line-found l w s, says-text (suc i) k)
 
 -- lawful lines are read from their texts
 record Reads (i : ℕ) (ls : List Line) (ws : List Written) : Type 0 where
@@ -157,7 +145,13 @@ wrote-text area n out new w d z = go (isTaken (areaFault area n 0 .answer)) (leb
         → w ≡ cond a (cond b (toldText t (length out)) (refusal answer.OutOfRange 0)) (refusal (areaFault area n 0 .answer) (areaFault area n 0 .line))
         → new ≡ cond a (cond b (leftText t out) out) out → WroteText area n new w
     go true true (all ws) e f g x y =
-        record { fault = zero-is (areaFault area n 0 .answer) (eqb-true (numberOf (areaFault area n 0 .answer)) 0 e); few = leb-true n mostLines f; lines = ws; are = g; bytes = told-zero (textBytes ws) out new w x y z }
+        record {
+          fault = zero-is (areaFault area n 0 .answer) (eqb-true (numberOf (areaFault area n 0 .answer)) 0 e);
+          few = leb-true n mostLines f;
+          lines = ws;
+          are = g;
+          bytes = told-zero (textBytes ws) out new w x y z;
+        }
     go true true (lacking i) e f g x y = absurd (not-zero x (λ k. omega arith))
     go true false t e f g x y = absurd (not-zero x (λ k. omega arith))
     go false b t e f g x y = absurd (not-zero x (λ k. true≢false (sym (zero-taken (areaFault area n 0 .answer) k) ∙ e)))
@@ -186,7 +180,8 @@ text-like-score area to bytes out new n v w s t = go (isTaken (areaFault area n 
         }
 
     go : (a b : Bool) (x : Text)
-        → v ≡ cond a (cond b (told (scoreBytes (areaLines area n 0)) (length to)) (refusal answer.OutOfRange 0)) (refusal (areaFault area n 0 .answer) (areaFault area n 0 .line))
+        → v ≡ cond a (cond b (told (scoreBytes (areaLines area n 0)) (length to)) (refusal answer.OutOfRange 0))
+        (refusal (areaFault area n 0 .answer) (areaFault area n 0 .line))
         → w ≡ cond a (cond b (toldText x (length out)) (refusal answer.OutOfRange 0)) (refusal (areaFault area n 0 .answer) (areaFault area n 0 .line)) → LikeScore v w
     go true true (all ws) e f = later (scoreBytes (areaLines area n 0)) e f (room (fits (textBytes ws) (length out)))
     go true true (lacking i) e f = later (scoreBytes (areaLines area n 0)) e f no-text
@@ -225,17 +220,23 @@ meaning-fits t = float-fits (t .minus) (wholeOf t) (length (t .decimals))
 
 values-fit : (vs : List (Behind Numeral)) → T (allOf (fits binary32) (map (λ (x : Behind Numeral). meaning (x .element)) vs))
 values-fit [] = tt
-values-fit (x ∷ xs) = and-i (fits binary32 (meaning (x .element))) (allOf (fits binary32) (map (λ (y : Behind Numeral). meaning (y .element)) xs)) (meaning-fits (x .element)) (values-fit xs)
+values-fit (x ∷ xs) =
+    and-i (fits binary32 (meaning (x .element))) (allOf (fits binary32) (map (λ (y : Behind Numeral). meaning (y .element)) xs)) (meaning-fits (x .element))
+    (values-fit xs)
 
 event-fit : (f : Form) → T (allOf (fits binary32) (eventNumbers (form.eventSaid f)))
-event-fit (instr l t n d vs) = and-i (fits binary32 (meaning (d .element))) (allOf (fits binary32) (map (λ (x : Behind Numeral). meaning (x .element)) vs)) (meaning-fits (d .element)) (values-fit vs)
+event-fit (instr l t n d vs) =
+    and-i (fits binary32 (meaning (d .element))) (allOf (fits binary32) (map (λ (x : Behind Numeral). meaning (x .element)) vs)) (meaning-fits (d .element))
+    (values-fit vs)
 event-fit (control t l more n x) = and-i (fits binary32 (meaning (x .element))) true (meaning-fits (x .element)) tt
 event-fit (tempo t more x) = and-i (fits binary32 (meaning (x .element))) true (meaning-fits (x .element)) tt
 event-fit (end t more) = tt
 
 said-fit : (w : Written) → T (allOf (fits binary32) (numbersOf (saidBy w)))
 unfolding saidBy
-said-fit w = and-i (fits binary32 (meaning (form.timeSaid (w .form)))) (allOf (fits binary32) (eventNumbers (form.eventSaid (w .form)))) (meaning-fits (form.timeSaid (w .form))) (event-fit (w .form))
+said-fit w =
+    and-i (fits binary32 (meaning (form.timeSaid (w .form)))) (allOf (fits binary32) (eventNumbers (form.eventSaid (w .form)))) (meaning-fits (form.timeSaid (w .form)))
+    (event-fit (w .form))
 
 form-names : (f : Form) → LawfulForm f → SmallNames (form.eventSaid f)
 unfolding LawfulForm SmallNames
@@ -247,10 +248,8 @@ form-names (tempo t more x) h = tt
 form-names (end t more) h = tt
 
 -- a line that was read from text is lawful and has a text
-record HasText (l : Line) : Type 0 where
-  is-lawful : T (lawful l)
-  text : Written
-  says : Says l text
+abbrev HasText : Line → Type 0
+HasText l = T (lawful l) × ((w : Written) × Says l w)
 
 line-has : (w : Written) (l : Line) (q : ℕ) → LawfulForm (w .form) → lineSaid (saidBy w) ≡ got l q → HasText l
 unfolding saidBy
@@ -259,24 +258,16 @@ line-has w l q h e =
     go (b .0) (b .1) (every-line-told l (lawful-stored l (b .0)))
   where
     go : T (lawful l) → saidOf l ≡ some (saidBy w) → {o : Option Written} → Told l o → HasText l
-    go a s (claims.said v k u n) = record { is-lawful = a; text = v; says = k }
+    go a s (claims.said v k u n) = (a, (v, k))
     go a s (claims.unsaid u n) = absurd (said-not l w h s u)
 
-record Judged (i : ℕ) (s : Said) (ss : List Said) (ls : List Line) : Type 0 where
-  line : Line
-  past : ℕ
-  others : List Line
-  end : ℕ
-  line-there : lineSaid s ≡ got line past
-  others-there : judgedFrom (suc i) ss ≡ score.all others end
-  are : ls ≡ line ∷ others
-
-judged-back : (i : ℕ) (s : Said) (ss : List Said) (ls : List Line) (p : ℕ) → judgedFrom i (s ∷ ss) ≡ score.all ls p → Judged i s ss ls
+judged-back : {P : Type 0} (i : ℕ) (s : Said) (ss : List Said) (ls : List Line) (p : ℕ) → judgedFrom i (s ∷ ss) ≡ score.all ls p
+    → ((l : Line) (q : ℕ) (ms : List Line) (r : ℕ) → lineSaid s ≡ got l q → judgedFrom (suc i) ss ≡ score.all ms r → ls ≡ l ∷ ms → P) → P
 unfolding judgedFrom
-judged-back i s ss ls p e = go (lineSaid s) refl (judgedFrom (suc i) ss) refl e
+judged-back {P} i s ss ls p e then = go (lineSaid s) refl (judgedFrom (suc i) ss) refl e
   where
-    go : (x : Read Line) → lineSaid s ≡ x → (y : Lines) → judgedFrom (suc i) ss ≡ y → lineThen x i (λ q. y) ≡ score.all ls p → Judged i s ss ls
-    go (got l q) f (score.all ms r) g k = record { line = l; past = q; others = ms; end = r; line-there = f; others-there = g; are = let z : l ∷ ms ≡ ls = cc in sym z }
+    go : (x : Read Line) → lineSaid s ≡ x → (y : Lines) → judgedFrom (suc i) ss ≡ y → lineThen x i (λ q. y) ≡ score.all ls p → P
+    go (got l q) f (score.all ms r) g k = then l q ms r f g (cc)
     go (got l q) f (score.faulty z j) g k = absurd (let n : _≡_ {A = ℕ} 0 1 = cc in omega arith)
     go (refused z) f y g k = absurd (let n : _≡_ {A = ℕ} 0 1 = cc in omega arith)
 
@@ -288,15 +279,17 @@ record AllHave (ls : List Line) (n : ℕ) : Type 0 where
 
 lines-have : (i : ℕ) (ws : List Written) (ls : List Line) (p : ℕ) → LawfulLines ws → judgedFrom i (map saidBy ws) ≡ score.all ls p → AllHave ls (length ws)
 unfolding LawfulLines allLawful
-lines-have i [] ls p h e = subst (λ (x : List Line). AllHave x 0) (let z : [] ≡ ls = unfold judgedFrom in cc in z) (record { are-lawful = tt; texts = []; said = no-lines; count = refl })
-lines-have i (w ∷ ws) ls p h e = go (judged-back i (saidBy w) (map saidBy ws) ls p e) (λ ms q f. lines-have (suc i) ws ms q (h .1) f)
-  where
-    go : Judged i (saidBy w) (map saidBy ws) ls → ((ms : List Line) (q : ℕ) → judgedFrom (suc i) (map saidBy ws) ≡ score.all ms q → AllHave ms (length ws)) → AllHave ls (suc (length ws))
-    go j f =
-        let a = line-has w (j .line) (j .past) (h .0) (j .line-there) in
-        let b = f (j .others) (j .end) (j .others-there) in
-        subst (λ (x : List Line). AllHave x (suc (length ws))) (sym (j .are))
-        (record { are-lawful = and-i (lawful (j .line)) (allLawful (j .others)) (a .is-lawful) (b .are-lawful); texts = a .text ∷ b .texts; said = one-more (a .says) (b .said); count = ap suc (b .count) })
+lines-have i [] ls p h e = let z : ls ≡ [] = unfold judgedFrom in cc in rw z (record { are-lawful = tt; texts = []; said = no-lines; count = refl })
+lines-have i (w ∷ ws) ls p h e =
+    judged-back i (saidBy w) (map saidBy ws) ls p e (λ l q ms r f g k.
+    let a = line-has w l q (h .0) f in
+    let b = lines-have (suc i) ws ms r (h .1) g in
+    rw k (record {
+      are-lawful = and-i (lawful l) (allLawful ms) (a .0) (b .are-lawful);
+      texts = a .1 .0 ∷ b .texts;
+      said = one-more (a .1 .1) (b .said);
+      count = ap suc (b .count);
+    }))
 
 no-fault : (f : Fault) → answerOf f ≡ answer.Taken → ⊥
 unfolding answerOf
@@ -323,7 +316,8 @@ text-taken s e = go (every-text s)
 
     go : Either s → TextTaken s
     go (spells ws k) = by-lines ws (judgedFrom 0 (map saidBy ws)) refl k (text-read s ws k)
-    go (breaks i b) = absurd (let z : answer.Taken ≡ answer.BadText = sym e ∙ ap (λ (x : Score). x .answer) (text-broken s i b) in let n : _≡_ {A = ℕ} 0 1 = cc in omega arith)
+    go (breaks i b) =
+        absurd (let z : answer.Taken ≡ answer.BadText = sym e ∙ ap (λ (x : Score). x .answer) (text-broken s i b) in let n : _≡_ {A = ℕ} 0 1 = cc in omega arith)
 
 pub read-said : ReadSaid
 read-said s z =
@@ -331,28 +325,27 @@ read-said s z =
     (t .have .texts, subst (λ (ls : List Line). AllSay ls (t .have .texts)) (sym (ap (λ (x : Score). x .lines) (t .is))) (t .have .said))
 
 -- where every line has a text, only the room can lack
-record Tells (out new : List ℕ) (w : call.Written) (bytes : List ℕ) : Type 0 where
-  answers : w ≡ told bytes (length out)
-  leaves : new ≡ left bytes out
+abbrev Tells : List ℕ → List ℕ → call.Written → List ℕ → Type 0
+Tells out new w bytes = (w ≡ told bytes (length out)) × (new ≡ left bytes out)
 
-told-text : (area : List ℕ) (n : ℕ) (out new : List ℕ) (w : call.Written) (ws : List Written) → areaFault area n 0 .answer ≡ answer.Taken → n ≤ mostLines → textFrom 0 (areaLines area n 0) ≡ all ws
-    → TextDone area n out new w → Tells out new w (textBytes ws)
+told-text : (area : List ℕ) (n : ℕ) (out new : List ℕ) (w : call.Written) (ws : List Written) → areaFault area n 0 .answer ≡ answer.Taken → n ≤ mostLines
+    → textFrom 0 (areaLines area n 0) ≡ all ws → TextDone area n out new w → Tells out new w (textBytes ws)
 unfolding textWritten textLeft
 told-text area n out new w ws f few e d =
-    let a : isTaken (areaFault area n 0 .answer) ≡ true = ap isTaken f in
-    let b = le-leb n mostLines few in
-    record {
-      answers = d .answers ∙ cond-true _ _ a ∙ cond-true _ _ b ∙ ap (λ (t : Text). toldText t (length out)) e;
-      leaves = d .leaves ∙ cond-true _ _ a ∙ cond-true _ _ b ∙ ap (λ (t : Text). leftText t out) e;
-    }
+    let a = ap isTaken f in
+    let b = le-leb n mostLines few in (
+      d .answers ∙ cond-true _ _ a ∙ cond-true _ _ b ∙ ap (λ (t : Text). toldText t (length out)) e,
+      d .leaves ∙ cond-true _ _ a ∙ cond-true _ _ b ∙ ap
+          (λ (t : Text). leftText t out) e,
+    )
 
 written-again : (s out new : List ℕ) (w : call.Written) (ws : List Written) → textOf (textBytes ws) ≡ textOf s → Tells out new w (textBytes ws) → WrittenAgain s new w
 written-again s out new w ws e t =
-    record { number = go (leb (length (textBytes ws)) (length out)) refl; again = λ z. ap textOf (told-zero (textBytes ws) out new w (t .answers) (t .leaves) z) ∙ e }
+    record { number = go (leb (length (textBytes ws)) (length out)) refl; again = λ z. ap textOf (told-zero (textBytes ws) out new w (t .0) (t .1) z) ∙ e }
   where
     go : (b : Bool) → leb (length (textBytes ws)) (length out) ≡ b → RoomNumber (numberOf (w .answer))
-    go true k = subst (λ (x : call.Written). RoomNumber (numberOf (x .answer))) (sym (t .answers ∙ cond-true _ _ k)) written
-    go false k = subst (λ (x : call.Written). RoomNumber (numberOf (x .answer))) (sym (t .answers ∙ cond-false _ _ k)) too-short
+    go true k = let a = t .0 in rw (a, k) written
+    go false k = let a = t .0 in rw (a, k) too-short
 
 pub text-read-again : TextReadAgain
 text-read-again s area words out new d w dec z done =
@@ -364,4 +357,5 @@ text-read-again s area words out new d w dec z done =
     let f = held-from ls words (drop (length (areaWords ls)) area) 0 (t .have .are-lawful) (k .words) in
     let ws = t .have .texts in
     written-again s out new w ws (text-reads ls ws (t .have .are-lawful) (t .few) (t .have .said) ∙ sym (t .is))
-    (told-text words (length ls) out new w ws (f .0) (t .few) (ap (textFrom 0) (f .1) ∙ says-text 0 (t .have .said)) (subst (λ (n : ℕ). TextDone words n out new w) (ap (λ (x : Decoded). x .count) (k .is)) done))
+    (told-text words (length ls) out new w ws (f .0) (t .few) (ap (textFrom 0) (f .1) ∙ says-text 0 (t .have .said))
+    (subst (λ (n : ℕ). TextDone words n out new w) (ap (λ (x : Decoded). x .count) (k .is)) done))

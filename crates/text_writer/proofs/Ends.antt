@@ -1,10 +1,10 @@
 -- What the writer answers and leaves, by its ways. Assumes nothing.
 use Prim.Native.Nat.{ℕ, zero, suc, _+_, _^_, _≤_, _<_}
-use mathlib.Core.Path.{_≡_, refl, sym, ap, _∙_, subst}
+use mathlib.Core.Path.{_≡_, refl, sym, ap, _∙_}
 use mathlib.Core.Bool.{Bool, true, false, true≢false}
 use mathlib.Core.List.{List}
-use mathlib.Core.Option.{Option, some, Option·some-injective, Option·none-ne-some}
-use native.Mathlib.Nat.{zero-add}
+use mathlib.Core.Option.{Option, some, Option·none-ne-some}
+use native.Mathlib.Nat.{add-zero, zero-add}
 use native.Mathlib.Omega.{arith}
 use borrow.Author.Tests.{le-leb, lt-leb}
 use lib.Dec.{T}
@@ -39,16 +39,14 @@ pub found-says : (l : Line) (w : form.Written) → T (stored l) → lineText l �
 found-says l w h e = go (every-line-told l h) e
   where
     go : {o : Option form.Written} → Told l o → o ≡ some w → Says l w
-    go (claims.said v s u n) f = subst (Says l) (Option·some-injective v w f) s
+    go (claims.said v s u n) f = let k : v ≡ w = cc in rw k at s
     go (claims.unsaid u n) f = absurd (Option·none-ne-some w f)
 
 -- where no slot has a fault, each was taken
 pub all-taken : (area : List ℕ) (n i j : ℕ) → areaFault area n i .answer ≡ Taken → j < n → isTaken (slotRead area (i + j) .answer) ≡ true
 all-taken area zero i j e h = absurd (omega arith)
-all-taken area (suc n) i zero e h = let k : i + 0 ≡ i = omega arith in ap (λ (m : ℕ). isTaken (slotRead area m .answer)) k ∙ fault-back area n i e .0
-all-taken area (suc n) i (suc j) e h =
-    let k : i + suc j ≡ suc i + j = omega arith in
-    ap (λ (m : ℕ). isTaken (slotRead area m .answer)) k ∙ all-taken area n (suc i) j (fault-back area n i e .1) (omega arith)
+all-taken area (suc n) i zero e h = cc (fault-back area n i e .0, add-zero i)
+all-taken area (suc n) i (suc j) e h = let k : i + suc j ≡ suc i + j = omega arith in cc (all-taken area n (suc i) j (fault-back area n i e .1) (omega arith))
 
 module _ (area : List ℕ) (n : ℕ) {f : ScoreRead} {b : Bool} (e : f ≡ areaFault area n 0) (g : b ≡ isTaken (f .answer)) where
   area-is : isTaken (areaFault area n 0 .answer) ≡ b
@@ -60,8 +58,7 @@ module _ (area : List ℕ) (n : ℕ) {f : ScoreRead} {b : Bool} (e : f ≡ areaF
         few = few;
         short = λ i l w k.
             let t = all-taken area n 0 i (taken-is (areaFault area n 0 .answer) (area-is ∙ h)) l in
-            let z : 0 + i ≡ i = zero-add i in
-            let r = lawful-stored (slotRead area i .line) (slot-of area i words (subst (λ (j : ℕ). isTaken (slotRead area j .answer) ≡ true) z t) .0) in
+            let r = lawful-stored (slotRead area i .line) (slot-of area i words (rw zero-add at t) .0) in
             text-short (slotRead area i .line) w r (found-says (slotRead area i .line) w r k);
       }
 
@@ -89,7 +86,7 @@ module _ (area : List ℕ) (n : ℕ) (s : List ℕ) {f : ScoreRead} {b : Bool} (
   pub text-refused : {x : Written} → b ≡ false → x ≡ refusal (f .answer) (f .line) → TextDone area n s s x
   unfolding textWritten textLeft
   text-refused h y =
-      record { answers = y ∙ ap (λ (z : ScoreRead). refusal (z .answer) (z .line)) e ∙ sym (cond-false _ _ (is ∙ h)); leaves = sym (cond-false _ _ (is ∙ h)) }
+      record { answers = cc is; leaves = sym (cond-false _ _ (is ∙ h)) }
 
   module _ (h : b ≡ true) where
     pub text-many : {x : Written} → mostLines < n → x ≡ refusal OutOfRange 0 → TextDone area n s s x
@@ -99,25 +96,27 @@ module _ (area : List ℕ) (n : ℕ) (s : List ℕ) {f : ScoreRead} {b : Bool} (
         record { answers = y ∙ sym (cond-true _ _ (is ∙ h) ∙ cond-false _ _ k); leaves = sym (cond-true _ _ (is ∙ h) ∙ cond-false _ _ k) }
 
     module _ (few : n ≤ mostLines) where
-      done : (new : List ℕ) {x : Written} → x ≡ toldText (textFrom 0 (areaLines area n 0)) (length s) → new ≡ leftText (textFrom 0 (areaLines area n 0)) s → TextDone area n s new x
+      done : (new : List ℕ) {x : Written} → x ≡ toldText (textFrom 0 (areaLines area n 0)) (length s) → new ≡ leftText (textFrom 0 (areaLines area n 0)) s
+          → TextDone area n s new x
       unfolding textWritten textLeft
       done new y z =
           let k = le-leb n mostLines few in
           record { answers = y ∙ sym (cond-true _ _ (is ∙ h) ∙ cond-true _ _ k); leaves = z ∙ sym (cond-true _ _ (is ∙ h) ∙ cond-true _ _ k) }
 
       module _ {m : Measure} (size : m ≡ measuredPast 0 (textFrom 0 (areaLines area n 0))) where
-        pub text-taken : (new : List ℕ) → m .there ≡ true → m .bytes ≤ length s → new ≡ leftText (textFrom 0 (areaLines area n 0)) s → TextDone area n s new (record { answer = Taken; line = 0; bytes = m .bytes })
+        pub text-taken : (new : List ℕ) → m .there ≡ true → m .bytes ≤ length s → new ≡ leftText (textFrom 0 (areaLines area n 0)) s
+            → TextDone area n s new (record { answer = Taken; line = 0; bytes = m .bytes })
         text-taken new t l y =
             let k = there area n size t in
             let ws = textBytes (k .lines) in
-            done new (ap (λ (j : ℕ). record { answer = Taken; line = 0; bytes = j }) (k .long) ∙ sym (ap (λ (x : Text). toldText x (length s)) (k .are) ∙ cond-true _ _ (le-leb (length ws) (length s) (omega (arith, k .long))))) y
+            done new (cc (k .long, k .are, le-leb (length ws) (length s) (omega (arith, k .long)))) y
 
         pub text-short-room : {x : Written} → m .there ≡ true → length s < m .bytes → x ≡ refusal NoRoom 0 → TextDone area n s s x
         text-short-room t l y =
             let k = there area n size t in
             let ws = textBytes (k .lines) in
             let z = lt-leb (length ws) (length s) (omega (arith, k .long)) in
-            done s (y ∙ sym (ap (λ (x : Text). toldText x (length s)) (k .are) ∙ cond-false _ _ z)) (sym (ap (λ (x : Text). leftText x s) (k .are) ∙ cond-false _ _ z))
+            done s (cc (k .are)) (cc (k .are))
 
         pub text-lacking : {x : Written} → m .there ≡ false → x ≡ refusal NoText (m .line) → TextDone area n s s x
         text-lacking {x} t y = go (textFrom 0 (areaLines area n 0)) refl size
@@ -125,4 +124,4 @@ module _ (area : List ℕ) (n : ℕ) (s : List ℕ) {f : ScoreRead} {b : Bool} (
             go : (v : Text) → textFrom 0 (areaLines area n 0) ≡ v → m ≡ measuredPast 0 v → TextDone area n s s x
             go (all ws) u z = absurd (true≢false (sym (ap (λ (k : Measure). k .there) z) ∙ t))
             go (lacking i) u z =
-                done s (y ∙ ap (λ (k : Measure). refusal NoText (k .line)) z ∙ sym (ap (λ (v : Text). toldText v (length s)) u)) (sym (ap (λ (v : Text). leftText v s) u))
+                done s (cc) (cc)

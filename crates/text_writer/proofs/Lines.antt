@@ -24,19 +24,12 @@ use Rattle.score_text.specs.Form.{Behind, Label, Form, instr, control, tempo, e
 use Rattle.score_text.specs.Form as form
 use Rattle.written_line.specs.inside.NumberText.{numberText}
 use Rattle.written_line.specs.inside.LineText.{ifThere, single, labelForm, valuesText, eventText, saidText, lineText}
-use Rattle.written_line.specs.LineText.{timeSaid, eventSaid, saidOf, Single, PlainLabel, PlainTarget, PlainValues, PlainForm, Says, eventNumbers, numbersOf, SomeNoText, here, later, Unsaid, no-time, use-if-late, no-number}
+use Rattle.written_line.specs.LineText.{Plain, timeSaid, eventSaid, saidOf, Single, PlainLabel, PlainTarget, PlainValues, PlainForm, Says, eventNumbers, numbersOf, SomeNoText, here, later, Unsaid, no-time, use-if-late, no-number}
 use Rattle.text_writer.specs.Claims.{Told, EveryLineTold}
 use Rattle.text_writer.specs.Claims as claims
 use Rattle.written_line.proofs.Numbers.{sign-back, NumberTold, plain, none-of, number-told, number-plain}
+use Rattle.text_writer.proofs.Stored.{and-map}
 use Rattle.text_writer.proofs.Back.{text-lawful}
-
--- ---- where there is something
-
-there-is : {A B : Type 0} {o : Option A} {a : A} (k : A → Option B) → o ≡ some a → ifThere o k ≡ k a
-there-is k e = ap (λ o. ifThere o k) e
-
-map-is : {A B : Type 0} {o : Option A} {a : A} (f : A → B) → o ≡ some a → Option·map f o ≡ some (f a)
-map-is f e = ap (Option·map f) e
 
 -- ---- a plain line is found
 
@@ -47,12 +40,13 @@ abbrev elements : List (Behind Numeral) → List Numeral
 elements [] = []
 elements (x ∷ xs) = x .element ∷ elements xs
 
-values-plain : (vs : List (Behind Numeral)) → PlainValues vs → (valuesText (map (λ (x : Behind Numeral). meaning (x .element)) vs) ≡ some (elements vs)) × (map single (elements vs) ≡ vs)
+values-plain : (vs : List (Behind Numeral)) → PlainValues vs
+    → (valuesText (map (λ (x : Behind Numeral). meaning (x .element)) vs) ≡ some (elements vs)) × (map single (elements vs) ≡ vs)
 unfolding PlainValues valuesText
 values-plain [] h = (refl, refl)
 values-plain (x ∷ xs) h =
     let k = values-plain xs (h .1) in
-    (there-is _ (number-plain (x .element) (h .0 .1)) ∙ map-is _ (k .0), ap₂ (λ (y : Behind Numeral) (ys : List (Behind Numeral)). y ∷ ys) (single-is x (h .0 .0)) (k .1))
+    (rw (number-plain (x .element) (h .0 .1), k .0), λ i. single-is x (h .0 .0) i ∷ k .1 i)
 
 label-plain : (l : Option Label) → PlainLabel l → Option·map labelForm (labelSaid l) ≡ l
 label-plain none h = refl
@@ -66,18 +60,17 @@ form-plain : (f : Form) → PlainForm f → ifThere (numberText (meaning (form.t
 unfolding PlainForm eventText
 form-plain (instr l t n d vs) h =
     let k = values-plain vs (h .1 .1 .1 .1) in
-    there-is _ (number-plain t (h .1 .0)) ∙ there-is _ (number-plain (d .element) (h .1 .1 .1 .0 .1)) ∙ map-is _ (k .0)
-    ∙ (λ i. some (instr (label-plain l (h .0) i) t (single-is n (h .1 .1 .0) i) (single-is d (h .1 .1 .1 .0 .0) i) (k .1 i)))
+    rw (number-plain t (h .1 .0), number-plain (d .element) (h .1 .1 .1 .0 .1), k .0)
+    (λ i. some (instr (label-plain l (h .0) i) t (single-is n (h .1 .1 .0) i) (single-is d (h .1 .1 .1 .0 .0) i) (k .1 i)))
 form-plain (control t l more n x) h =
-    there-is _ (number-plain t (h .0)) ∙ map-is _ (number-plain (x .element) (h .1 .1 .1 .1 .1))
-    ∙ (λ i. some (control t (target-plain l (h .1 .0) i) (sym (h .1 .1 .0) i) (single-is n (h .1 .1 .1 .0) i) (single-is x (h .1 .1 .1 .1 .0) i)))
-form-plain (tempo t more x) h =
-    there-is _ (number-plain t (h .0)) ∙ map-is _ (number-plain (x .element) (h .1 .1 .1)) ∙ (λ i. some (tempo t (sym (h .1 .0) i) (single-is x (h .1 .1 .0) i)))
-form-plain (end t more) h = there-is _ (number-plain t (h .0)) ∙ (λ i. some (end t (sym (h .1) i)))
+    rw (number-plain t (h .0), number-plain (x .element) (h .1 .1 .1 .1 .1))
+    (λ i. some (control t (target-plain l (h .1 .0) i) (sym (h .1 .1 .0) i) (single-is n (h .1 .1 .1 .0) i) (single-is x (h .1 .1 .1 .1 .0) i)))
+form-plain (tempo t more x) h = rw (number-plain t (h .0), number-plain (x .element) (h .1 .1 .1)) (λ i. some (tempo t (sym (h .1 .0) i) (single-is x (h .1 .1 .0) i)))
+form-plain (end t more) h = rw (number-plain t (h .0)) (λ i. some (end t (sym (h .1) i)))
 
 pub line-found : (l : Line) (w : Written) → Says l w → lineText l ≡ some w
 unfolding lineText saidText saidBy
-line-found l w h = there-is saidText (h .is-said) ∙ map-is _ (form-plain (w .form) (h .is-plain))
+line-found l w h = rw (h .is-said, form-plain (w .form) (h .is-plain))
 
 -- ---- what is found is plain
 
@@ -100,58 +93,53 @@ data FormTold (time : Float) (e : said.Event) : Option Form → Type 0 where
   has : (f : Form) → PlainForm f → meaning (form.timeSaid f) ≡ time → form.eventSaid f ≡ e → FormTold time e (some f)
   lacks : SomeNoText (time ∷ eventNumbers e) → FormTold time e none
 
-some-back : (l : Option ℕ) → labelSaid (Option·map labelForm l) ≡ l
-some-back none = refl
-some-back (some n) = refl
+label-back : (l : Option ℕ) → (labelSaid (Option·map labelForm l) ≡ l) × PlainLabel (Option·map labelForm l)
+label-back none = (refl, tt)
+label-back (some n) = (refl, (refl, refl))
 
-target-back : (l : Option ℕ) → targetSaid (Option·map single l) ≡ l
-target-back none = refl
-target-back (some n) = refl
+target-back : (l : Option ℕ) → (targetSaid (Option·map single l) ≡ l) × PlainTarget (Option·map single l)
+target-back none = (refl, tt)
+target-back (some n) = (refl, refl)
 
-plain-label : (l : Option ℕ) → PlainLabel (Option·map labelForm l)
-plain-label none = tt
-plain-label (some n) = (refl, refl)
+module _ {time : Float} {e : said.Event} where
+  told-then : {x : Float} {o : Option Numeral} {k : Numeral → Option Form} → NumberTold x o → (NoText x → SomeNoText (time ∷ eventNumbers e))
+      → ((t : Numeral) → Plain t → meaning t ≡ x → FormTold time e (k t)) → FormTold time e (ifThere o k)
+  told-then (plain t p q) f g = g t p q
+  told-then (none-of n) f g = lacks (f n)
 
-plain-target : (l : Option ℕ) → PlainTarget (Option·map single l)
-plain-target none = tt
-plain-target (some n) = refl
+  told-last : {x : Float} {o : Option Numeral} {k : Numeral → Form} → NumberTold x o → (NoText x → SomeNoText (time ∷ eventNumbers e))
+      → ((t : Numeral) → Plain t → meaning t ≡ x → FormTold time e (some (k t))) → FormTold time e (Option·map k o)
+  told-last (plain t p q) f g = g t p q
+  told-last (none-of n) f g = lacks (f n)
+
+  told-values : {xs : List Float} {o : Option (List Numeral)} {k : List Numeral → Form} → ValuesTold xs o → (SomeNoText xs → SomeNoText (time ∷ eventNumbers e))
+      → ((ts : List Numeral) → PlainValues (map single ts) → map (λ (x : Behind Numeral). meaning (x .element)) (map single ts) ≡ xs → FormTold time e (some (k ts)))
+      → FormTold time e (Option·map k o)
+  told-values (has ts q f) h g = g ts q f
+  told-values (lacks n) h g = lacks (h n)
 
 form-told : (time : Float) (e : said.Event) → T (all (fits binary32) (time ∷ eventNumbers e)) → FormTold time e (ifThere (numberText time) (eventText e))
 unfolding PlainForm eventText
 form-told time (said.instr l name d vs) h =
     let ns = all (fits binary32) vs in
     let k = and-r (fits binary32 time) (fits binary32 d && ns) h in
-    go (number-told time (and-l (fits binary32 time) (fits binary32 d && ns) h)) (number-told d (and-l (fits binary32 d) ns k)) (values-told vs (and-r (fits binary32 d) ns k))
-  where
-    go : {o r : Option Numeral} {q : Option (List Numeral)} → NumberTold time o → NumberTold d r → ValuesTold vs q
-        → FormTold time (said.instr l name d vs) (ifThere o (λ t. ifThere r (λ x. Option·map (λ xs. instr (Option·map labelForm l) t (single name) (single x) (map single xs)) q)))
-    go (plain t p e) (plain x u f) (has xs w g) =
-        has (instr (Option·map labelForm l) t (single name) (single x) (map single xs)) (plain-label l, (p, (refl, ((refl, u), w)))) e (λ i. said.instr (some-back l i) name (f i) (g i))
-    go (plain t p e) (plain x u f) (lacks n) = lacks (later (later n))
-    go (plain t p e) (none-of n) q = lacks (later (here n))
-    go (none-of n) r q = lacks (here n)
+    told-then (number-told time (and-l (fits binary32 time) (fits binary32 d && ns) h)) here
+    (λ t p e. told-then (number-told d (and-l (fits binary32 d) ns k)) (λ n. later (here n)) (λ x u f.
+    told-values (values-told vs (and-r (fits binary32 d) ns k)) (λ n. later (later n)) (λ xs w g.
+    has (instr (Option·map labelForm l) t (single name) (single x) (map single xs)) (label-back l .1, (p, (refl, ((refl, u), w)))) e
+    (λ i. said.instr (label-back l .0 i) name (f i) (g i)))))
 form-told time (said.control l name d) h =
     let k = and-r (fits binary32 time) (fits binary32 d && true) h in
-    go (number-told time (and-l (fits binary32 time) (fits binary32 d && true) h)) (number-told d (and-l (fits binary32 d) true k))
-  where
-    go : {o r : Option Numeral} → NumberTold time o → NumberTold d r
-        → FormTold time (said.control l name d) (ifThere o (λ t. Option·map (λ y. control t (Option·map single l) 0 (single name) (single y)) r))
-    go (plain t p e) (plain x u f) = has (control t (Option·map single l) 0 (single name) (single x)) (p, (plain-target l, (refl, (refl, (refl, u))))) e (λ i. said.control (target-back l i) name (f i))
-    go (plain t p e) (none-of n) = lacks (later (here n))
-    go (none-of n) r = lacks (here n)
+    told-then (number-told time (and-l (fits binary32 time) (fits binary32 d && true) h)) here
+    (λ t p e. told-last (number-told d (and-l (fits binary32 d) true k)) (λ n. later (here n)) (λ x u f.
+    has (control t (Option·map single l) 0 (single name) (single x)) (p, (target-back l .1, (refl, (refl, (refl, u))))) e
+    (λ i. said.control (target-back l .0 i) name (f i))))
 form-told time (said.tempo d) h =
     let k = and-r (fits binary32 time) (fits binary32 d && true) h in
-    go (number-told time (and-l (fits binary32 time) (fits binary32 d && true) h)) (number-told d (and-l (fits binary32 d) true k))
-  where
-    go : {o r : Option Numeral} → NumberTold time o → NumberTold d r → FormTold time (said.tempo d) (ifThere o (λ t. Option·map (λ y. tempo t 0 (single y)) r))
-    go (plain t p e) (plain x u f) = has (tempo t 0 (single x)) (p, (refl, (refl, u))) e (λ i. said.tempo (f i))
-    go (plain t p e) (none-of n) = lacks (later (here n))
-    go (none-of n) r = lacks (here n)
-form-told time said.end h = go (number-told time (and-l (fits binary32 time) true h))
-  where
-    go : {o : Option Numeral} → NumberTold time o → FormTold time said.end (ifThere o (λ t. some (end t 0)))
-    go (plain t p e) = has (end t 0) (p, refl) e refl
-    go (none-of n) = lacks (here n)
+    told-then (number-told time (and-l (fits binary32 time) (fits binary32 d && true) h)) here
+    (λ t p e. told-last (number-told d (and-l (fits binary32 d) true k)) (λ n. later (here n)) (λ x u f.
+    has (tempo t 0 (single x)) (p, (refl, (refl, u))) e (λ i. said.tempo (f i))))
+form-told time said.end h = told-then (number-told time (and-l (fits binary32 time) true h)) here (λ t p e. has (end t 0) (p, refl) e refl)
 
 -- ---- a lawful text lacks no number
 
@@ -187,32 +175,29 @@ form-has (end t more) h = neither (lawful-has t h) none-lacks
 all-take : (n : ℕ) (xs : List Float) → T (all (fits binary32) xs) → T (all (fits binary32) (take n xs))
 all-take zero xs h = tt
 all-take (suc n) [] h = tt
-all-take (suc n) (x ∷ xs) h =
-    and-i (fits binary32 x) (all (fits binary32) (take n xs)) (and-l (fits binary32 x) (all (fits binary32) xs) h) (all-take n xs (and-r (fits binary32 x) (all (fits binary32) xs) h))
+all-take (suc n) (x ∷ xs) h = and-map (fits binary32 x) (all (fits binary32) xs) (fits binary32 x) (all (fits binary32) (take n xs)) (λ k. k) (all-take n xs) h
 
 event-fits : (e : Event) (n : ℕ) (xs : List Float) → T (storedEvent e) → T (all (fits binary32) xs) → T (all (fits binary32) (eventNumbers (eventSaid e n xs)))
 event-fits (Instr l i d) n xs k m =
-    and-i (fits binary32 d) (all (fits binary32) (take n xs)) (and-r (isSymbol i) (fits binary32 d) (and-r (storedLabel l) (isSymbol i && fits binary32 d) k)) (all-take n xs m)
+    and-i (fits binary32 d) (all (fits binary32) (take n xs)) (and-r (isSymbol i) (fits binary32 d) (and-r (storedLabel l) (isSymbol i && fits binary32 d) k))
+    (all-take n xs m)
 event-fits (Control l v x) n xs k m = and-i (fits binary32 x) true (and-r (isSymbol v) (fits binary32 x) (and-r (isSymbol l) (isSymbol v && fits binary32 x) k)) tt
 event-fits End n xs k m = tt
 event-fits (Tempo x) n xs k m = and-i (fits binary32 x) true k tt
 
-abbrev saidWhen : Line → When → Option Said
-saidWhen l w = Option·map (λ t. record { priority = l .priority; time = t; event = eventSaid (l .event) (l .count) (l .values) }) (timeSaid w)
-
 -- a text and a reason against it exclude each other
 pub said-not : (l : Line) (w : Written) → LawfulForm (w .form) → saidOf l ≡ some (saidBy w) → Unsaid l → ⊥
 unfolding saidBy
-said-not l w h k (no-time e) = Option·none-ne-some (saidBy w) (sym (ap (λ (x : When). saidWhen l x) e) ∙ k)
-said-not l w h k (use-if-late t e) = Option·none-ne-some (saidBy w) (sym (ap (λ (x : When). saidWhen l x) e) ∙ k)
+said-not l w h k (no-time e) = Option·none-ne-some (saidBy w) (rw e at k)
+said-not l w h k (use-if-late t e) = Option·none-ne-some (saidBy w) (rw e at k)
 said-not l w h k (no-number s e n) = form-has (w .form) h (subst (λ (z : Said). SomeNoText (numbersOf z)) (Option·some-injective s (saidBy w) (sym e ∙ k)) n)
 
 found-said : (l : Line) (w : Written) → T (stored l) → lineText l ≡ some w → Says l w → Told l (lineText l)
 found-said l w g e h =
-    subst (Told l) (sym e) (claims.said w h (λ v s. Option·some-injective v w (sym (line-found l v s) ∙ e)) (said-not l w (text-lawful l w g h) (h .is-said)))
+    rw e (claims.said w h (λ v s. Option·some-injective v w (sym (line-found l v s) ∙ e)) (said-not l w (text-lawful l w g h) (h .is-said)))
 
 found-none : (l : Line) → T (stored l) → lineText l ≡ none → Unsaid l → Told l (lineText l)
-found-none l g e u = subst (Told l) (sym e) (claims.unsaid u (λ v s. said-not l v (text-lawful l v g s) (s .is-said) u))
+found-none l g e u = rw e (claims.unsaid u (λ v s. said-not l v (text-lawful l v g s) (s .is-said) u))
 
 module _ (p : Bool) (e : Event) (n : ℕ) (xs : List Float) where
   abbrev at : When → Line
@@ -221,11 +206,15 @@ module _ (p : Bool) (e : Event) (n : ℕ) (xs : List Float) where
   told-parts : (w : When) → T (stored (at w)) → T (storedWhen w) → T (storedEvent e) → T (all (fits binary32) xs) → Told (at w) (lineText (at w))
   told-parts Untimed g h k m = found-none (at Untimed) g (unfold lineText in refl) (no-time refl)
   told-parts (Timed true t) g h k m = found-none (at (Timed true t)) g (unfold lineText in refl) (use-if-late t refl)
-  told-parts (Timed false t) g h k m = go (form-told t (eventSaid e n xs) (and-i (fits binary32 t) (all (fits binary32) (eventNumbers (eventSaid e n xs))) h (event-fits e n xs k m))) (unfold lineText saidText in refl)
+  told-parts (Timed false t) g h k m =
+      go (form-told t (eventSaid e n xs) (and-i (fits binary32 t) (all (fits binary32) (eventNumbers (eventSaid e n xs))) h (event-fits e n xs k m)))
+      (unfold lineText saidText in refl)
     where
-      go : {o : Option Form} → FormTold t (eventSaid e n xs) o → lineText (at (Timed false t)) ≡ Option·map (λ f. record { priority = p; form = f }) o → Told (at (Timed false t)) (lineText (at (Timed false t)))
+      go : {o : Option Form} → FormTold t (eventSaid e n xs) o → lineText (at (Timed false t)) ≡ Option·map (λ f. record { priority = p; form = f }) o
+          → Told (at (Timed false t)) (lineText (at (Timed false t)))
       go (has f z a b) q =
-          found-said (at (Timed false t)) (record { priority = p; form = f }) g q (unfold saidBy in record { is-said = λ i. some (record { priority = p; time = sym a i; event = sym b i }); is-plain = z })
+          found-said (at (Timed false t)) (record { priority = p; form = f }) g q
+          (unfold saidBy in record { is-said = λ i. some (record { priority = p; time = sym a i; event = sym b i }); is-plain = z })
       go (lacks z) q = found-none (at (Timed false t)) g q (no-number (record { priority = p; time = t; event = eventSaid e n xs }) refl z)
 
 pub every-line-told : EveryLineTold

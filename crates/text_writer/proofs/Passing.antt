@@ -1,6 +1,6 @@
 -- The two passes over the lines of an area. Assumes nothing.
 use Prim.Native.Nat.{ℕ, suc, _+_, _-_, _*_, _≤_, _<_}
-use mathlib.Core.Path.{_≡_, refl, sym, ap, ap₂, _∙_, subst}
+use mathlib.Core.Path.{_≡_, refl, sym, ap, _∙_}
 use mathlib.Core.Bool.{true, false, true≢false}
 use mathlib.Core.List.{List, [], _∷_, _++_, append-assoc, append-nil}
 use mathlib.Core.Option.{Option, none, some, Option·map}
@@ -10,7 +10,6 @@ use native.Mathlib.Omega.{arith}
 use borrow.Author.Tests.{le-leb}
 use lib.ListN.{length, getD, set, take, drop, length-append, length-drop}
 use lib.Seq.{paste, paste-zero, paste-suc, length-paste, take-at, drop-at, drop-drop}
-use Rattle.laws.proofs.Choice.{cond-true}
 use Rattle.number_writer.specs.Push.{lineRoom, emptyText, pushAll, contentOf}
 use Rattle.number_writer.specs.declared.LineText.{LineText}
 use Rattle.number_writer.proofs.Pushing.{push-appends}
@@ -35,9 +34,8 @@ record Whole (t : LineText) (bytes : List ℕ) : Type 0 where
 
 whole : (t : LineText) (bytes : List ℕ) → t ≡ pushAll emptyText bytes → length bytes ≤ lineRoom → Whole t bytes
 whole t bytes e h =
-    let k : 0 + length bytes ≡ length bytes = zero-add (length bytes) in
-    let a = push-appends emptyText bytes refl (subst (λ (j : ℕ). j ≤ lineRoom) (sym k) h) in
-    record { content = ap contentOf e ∙ a .content; len = ap (λ (u : LineText). u .len) e ∙ a .len ∙ k; room = ap (λ (u : LineText). length (u .bytes)) e ∙ a .room }
+    let a = push-appends emptyText bytes refl (omega arith) in
+    record { content = cc; len = cc (zero-add (length bytes)); room = cc }
 
 record There (l : Line) (d : Draft) : Type 0 where
   written : form.Written
@@ -64,12 +62,13 @@ lines-left : (area : List ℕ) (n i : ℕ) → i < n → areaLines area (n - i) 
 unfolding areaLines
 lines-left area n i h =
     let k : n - i ≡ suc (n - (i + 1)) = omega arith in
-    ap (λ (j : ℕ). areaLines area j i) k ∙ ap (λ (j : ℕ). slotRead area i .line ∷ areaLines area (n - (i + 1)) j) (sym (add-one i))
+    cc (add-one i)
 
-text-left : (area : List ℕ) (n i : ℕ) → i < n → textFrom i (areaLines area (n - i) i) ≡ before (lineText (slotRead area i .line)) i (textFrom (i + 1) (areaLines area (n - (i + 1)) (i + 1)))
+text-left : (area : List ℕ) (n i : ℕ) → i < n
+    → textFrom i (areaLines area (n - i) i) ≡ before (lineText (slotRead area i .line)) i (textFrom (i + 1) (areaLines area (n - (i + 1)) (i + 1)))
 unfolding textFrom
 text-left area n i h =
-    ap (textFrom i) (lines-left area n i h) ∙ ap (λ (j : ℕ). before (lineText (slotRead area i .line)) i (textFrom j (areaLines area (n - (i + 1)) (i + 1)))) (sym (add-one i))
+    cc (lines-left area n i h, add-one i)
 
 text-end : (area : List ℕ) (n i : ℕ) → n ≤ i → textFrom i (areaLines area (n - i) i) ≡ all []
 unfolding textFrom areaLines
@@ -82,8 +81,7 @@ text-start area n = let k : n - 0 ≡ n = omega arith in ap (λ (j : ℕ). textF
 
 one-more : (total i : ℕ) (w : form.Written) (t : Text) → measuredPast (total + length (lineBytes w)) t ≡ measuredPast total (before (some w) i t)
 unfolding textBytes
-one-more total i w (all ws) =
-    ap (λ (k : ℕ). record { there = true; line = 0; bytes = k }) (add-assoc total (length (lineBytes w)) (length (textBytes ws)) ∙ ap (λ (k : ℕ). total + k) (sym (length-append (lineBytes w) (textBytes ws))))
+one-more total i w (all ws) = cc (add-assoc total (length (lineBytes w)) (length (textBytes ws)), length-append (lineBytes w) (textBytes ws))
 one-more total i w (lacking j) = refl
 
 module _ (area : List ℕ) (n : ℕ) where
@@ -95,38 +93,33 @@ module _ (area : List ℕ) (n : ℕ) where
   pub count-start : Counted 0 0
   count-start = record { upto = omega arith; bound = omega arith; same = ap (measuredPast 0) (text-start area n) }
 
-  pub count-more : (total i : ℕ) {r : LineRead} (d : Draft) → Measurable area n → Counted total i → i < n → r ≡ slotRead area i → Holds d (Option·map lineBytes (lineText (r .line))) → d .there ≡ true
+  pub count-more : (total i : ℕ) {r : LineRead} (d : Draft) → Measurable area n → Counted total i → i < n → r ≡ slotRead area i
+      → Holds d (Option·map lineBytes (lineText (r .line))) → d .there ≡ true
       → Counted (total + d .text .len) (i + 1)
   count-more total i {r} d m c h e k f =
       let x = slotRead area i .line in
-      let t = there x d (subst (λ (y : LineRead). Holds d (Option·map lineBytes (lineText (y .line)))) e k) f in
+      let t = there x d (rw e at k) f in
       let w = t .written in
       let s : length (lineBytes w) ≤ lineRoom = m .short i h w (t .found) in
       let p = whole (d .text) (lineBytes w) (t .text) s in
-      record {
-        upto = omega arith;
-        bound = omega (arith, c .bound, p .len);
-        same =
-            ap (λ (j : ℕ). measuredPast (total + j) (textFrom (i + 1) (areaLines area (n - (i + 1)) (i + 1)))) (p .len)
-            ∙ one-more total i w (textFrom (i + 1) (areaLines area (n - (i + 1)) (i + 1)))
-            ∙ ap (λ (o : Option form.Written). measuredPast total (before o i (textFrom (i + 1) (areaLines area (n - (i + 1)) (i + 1))))) (sym (t .found))
-            ∙ ap (measuredPast total) (sym (text-left area n i h)) ∙ c .same;
-      }
+      let more = textFrom (i + 1) (areaLines area (n - (i + 1)) (i + 1)) in
+      record { upto = omega arith; bound = omega (arith, c .bound, p .len); same = cc (p .len, one-more total i w more, t .found, text-left area n i h, c .same) }
 
   -- the sum has a number
-  pub count-room : (total i : ℕ) {r : LineRead} (d : Draft) → Measurable area n → Counted total i → i < n → r ≡ slotRead area i → Holds d (Option·map lineBytes (lineText (r .line))) → d .there ≡ true
+  pub count-room : (total i : ℕ) {r : LineRead} (d : Draft) → Measurable area n → Counted total i → i < n → r ≡ slotRead area i
+      → Holds d (Option·map lineBytes (lineText (r .line))) → d .there ≡ true
       → total + d .text .len < 18446744073709551616
   count-room total i d m c h e k f = omega (arith, count-more total i d m c h e k f .bound, m .few)
 
-  pub count-stop : (total i : ℕ) {r : LineRead} (d : Draft) → Counted total i → i < n → r ≡ slotRead area i → Holds d (Option·map lineBytes (lineText (r .line))) → d .there ≡ false
+  pub count-stop : (total i : ℕ) {r : LineRead} (d : Draft) → Counted total i → i < n → r ≡ slotRead area i → Holds d (Option·map lineBytes (lineText (r .line)))
+      → d .there ≡ false
       → record { there = false; line = i; bytes = 0 } ≡ measuredPast 0 (textFrom 0 (areaLines area n 0))
   count-stop total i {r} d c h e k f =
-      let z = lacks (slotRead area i .line) d (subst (λ (y : LineRead). Holds d (Option·map lineBytes (lineText (y .line)))) e k) f in
-      sym (ap (λ (o : Option form.Written). measuredPast total (before o i (textFrom (i + 1) (areaLines area (n - (i + 1)) (i + 1))))) z) ∙ ap (measuredPast total) (sym (text-left area n i h)) ∙ c .same
+      cc (lacks (slotRead area i .line) d (rw e at k) f, text-left area n i h, c .same)
 
   pub count-end : (total i : ℕ) → Counted total i → n ≤ i → record { there = true; line = 0; bytes = total } ≡ measuredPast 0 (textFrom 0 (areaLines area n 0))
   unfolding textBytes
-  count-end total i c h = ap (λ (k : ℕ). record { there = true; line = 0; bytes = k }) (sym (add-zero total)) ∙ ap (measuredPast total) (sym (text-end area n i h)) ∙ c .same
+  count-end total i c h = cc (add-zero total, text-end area n i h, c .same)
 
 -- ---- one line put at a position
 
@@ -149,12 +142,16 @@ module _ (old : List ℕ) (at : ℕ) (t : LineText) where
   copy-more i z f c h =
       record {
         upto = omega arith;
-        is = ap (λ (l : List ℕ). set l (at + i) (getD (t .bytes) i z)) (c .is) ∙ paste-suc old at (t .bytes) i z (omega (arith, f .within)) (omega (arith, f .whole, f .long))
+        is =
+            ap (λ (l : List ℕ). set l (at + i) (getD (t .bytes) i z)) (c .is) ∙ paste-suc old at (t .bytes) i z (omega (arith, f .within))
+            (omega (arith, f .whole, f .long))
             ∙ ap (paste old at (t .bytes)) (sym (add-one i));
       }
 
   pub copy-end : {new : List ℕ} (i : ℕ) → Copied old at (t .len) (t .bytes) new i → t .len ≤ i → Put old at t new (at + t .len)
-  copy-end i c h = let k : i ≡ t .len = omega (arith, c .upto) in record { past = refl; stands = c .is ∙ ap (paste old at (t .bytes)) k ∙ append-assoc (take at old) (contentOf t) (drop (at + t .len) old) }
+  copy-end i c h =
+      let k : i ≡ t .len = omega (arith, c .upto) in
+      record { past = refl; stands = c .is ∙ ap (paste old at (t .bytes)) k ∙ append-assoc (take at old) (contentOf t) (drop (at + t .len) old) }
 
 -- ---- the lines put one behind the other
 
@@ -201,10 +198,17 @@ module _ (area : List ℕ) (n : ℕ) (first : List ℕ) where
     room : length (textBytes (c .done)) + length (textBytes (c .rest)) ≤ length first
     room =
         let e : h .lines ≡ c .done ++ c .rest = all-same (sym (h .are) ∙ c .are) in
-        subst (λ (k : ℕ). k ≤ length first) (ap (λ (ws : List form.Written). length (textBytes ws)) e ∙ ap length (bytes-append (c .done) (c .rest)) ∙ length-append (textBytes (c .done)) (textBytes (c .rest))) (h .within)
+        omega (
+          arith,
+          ap (λ (ws : List form.Written). length (textBytes ws)) e,
+          ap length (bytes-append (c .done) (c .rest)),
+          length-append (textBytes (c .done))
+              (textBytes (c .rest)),
+          h .within,
+        )
 
     pub lay-length : length s ≡ length first
-    lay-length = ap length (c .stands) ∙ length-append (textBytes (c .done)) (drop p first) ∙ ap (λ (k : ℕ). length (textBytes (c .done)) + k) (length-drop p first) ∙ omega (arith, room, c .past)
+    lay-length = omega (arith, ap length (c .stands), length-append (textBytes (c .done)) (drop p first), length-drop p first, room, c .past)
 
     module _ (below : i < n) {r : LineRead} (d : Draft) (read : r ≡ slotRead area i) (holds : Holds d (Option·map lineBytes (lineText (r .line)))) where
       next : First (lineText (slotRead area i .line)) (textFrom (i + 1) (areaLines area (n - (i + 1)) (i + 1))) (c .rest)
@@ -213,7 +217,8 @@ module _ (area : List ℕ) (n : ℕ) (first : List ℕ) where
       line : Whole (d .text) (lineBytes (next .one))
       line =
           let w = next .one in
-          let k : Holds d (Option·map lineBytes (some w)) = subst (λ (o : Option form.Written). Holds d (Option·map lineBytes o)) (ap (λ (x : LineRead). lineText (x .line)) read ∙ next .found) holds in
+          let f = next .found in
+          let k : Holds d (Option·map lineBytes (some w)) = rw (read, f) at holds in
           whole (d .text) (lineBytes w) (k .1) (h .measurable .short i below w (next .found))
 
       bytes-left : length (textBytes (c .rest)) ≡ length (lineBytes (next .one)) + length (textBytes (next .others))
@@ -222,32 +227,33 @@ module _ (area : List ℕ) (n : ℕ) (first : List ℕ) where
 
       pub lay-fits : Fits (length s) p (d .text)
       lay-fits =
-          record { whole = subst (λ (k : ℕ). k ≤ lineRoom) (sym (line .len)) (h .measurable .short i below (next .one) (next .found)); long = line .room; within = omega (arith, line .len, bytes-left, room, lay-length, c .past) }
+          record {
+            whole = omega (arith, line .len, h .measurable .short i below (next .one) (next .found));
+            long = line .room;
+            within = omega
+                (arith, line .len, bytes-left, room, lay-length, c .past);
+          }
 
       pub lay-more : {t : List ℕ} {q : ℕ} → Put s p (d .text) t q → Laying t q (i + 1)
       lay-more {t} {q} k =
           let w = next .one in
           let b = textBytes (c .done) in
           let len = d .text .len in
-          let e : textBytes (c .done ++ (w ∷ [])) ≡ b ++ lineBytes w = bytes-snoc (c .done) w in
-          let f : take p s ≡ b = ap (take p) (c .stands) ∙ take-at b (drop p first) p (sym (c .past)) in
-          let g : drop (p + len) s ≡ drop (p + len) first =
-          sym (drop-drop len p s) ∙ ap (λ (x : List ℕ). drop len (drop p x)) (c .stands) ∙ ap (drop len) (drop-at b (drop p first) p (sym (c .past))) ∙ drop-drop len p first in
+          let e = bytes-snoc (c .done) w in
+          let f = take-at b (drop p first) p (sym (c .past)) in
+          let g : drop (p + len) s ≡ drop (p + len) first = cc (drop-drop len p s, c .stands, drop-at b (drop p first) p (sym (c .past)), drop-drop len p first) in
           record {
             upto = omega arith;
             done = c .done ++ (w ∷ []);
             rest = next .others;
-            are = c .are ∙ ap all (ap (λ (ws : List form.Written). c .done ++ ws) (next .are) ∙ sym (append-assoc (c .done) (w ∷ []) (next .others)));
+            are = cc (c .are, next .are, append-assoc (c .done) (w ∷ []) (next .others));
             left = next .rest;
-            past = k .past ∙ ap₂ (λ (x y : ℕ). x + y) (c .past) (line .len) ∙ sym (ap length e ∙ length-append b (lineBytes w));
-            stands =
-                k .stands ∙ ap₂ (λ (x y : List ℕ). x ++ (contentOf (d .text) ++ y)) f g ∙ ap (λ (x : List ℕ). b ++ (x ++ drop (p + len) first)) (line .content)
-                ∙ sym (append-assoc b (lineBytes w) (drop (p + len) first)) ∙ ap₂ (λ (x : List ℕ) (j : ℕ). x ++ drop j first) (sym e) (sym (k .past));
+            past = omega (arith, k .past, c .past, line .len, ap length e, length-append b (lineBytes w));
+            stands = cc (k .stands, f, c .stands, line .content, append-assoc b (lineBytes w) (drop (p + len) first), k .past);
           }
 
     pub lay-end : n ≤ i → s ≡ leftText (textFrom 0 (areaLines area n 0)) first
     lay-end m =
         let z : c .rest ≡ [] = all-same (sym (c .left) ∙ text-end area n i m) in
-        let e : textFrom 0 (areaLines area n 0) ≡ all (c .done) = c .are ∙ ap all (ap (λ (ws : List form.Written). c .done ++ ws) z ∙ append-nil (c .done)) in
         let b = textBytes (c .done) in
-        c .stands ∙ ap (λ (k : ℕ). b ++ drop k first) (c .past) ∙ sym (cond-true _ _ (le-leb (length b) (length first) (omega (arith, room)))) ∙ sym (ap (λ (t : Text). leftText t first) e)
+        cc (c .stands, c .past, c .are, append-nil (c .done), le-leb (length b) (length first) (omega (arith, room)))

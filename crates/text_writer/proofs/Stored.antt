@@ -1,6 +1,6 @@
 -- A lawful line is one that the code can hold. Assumes nothing.
 use Prim.Native.Nat.{ℕ, zero, suc}
-use mathlib.Core.Bool.{_&&_}
+use mathlib.Core.Bool.{Bool, _&&_}
 use mathlib.Core.List.{List, [], _∷_}
 use lib.Dec.{T, eqb}
 use lib.ListN.{length, take, drop}
@@ -21,6 +21,17 @@ use Rattle.score_line.specs.declared.Event.the-variants.{Instr, Control, End, T
 use Rattle.score_line.specs.declared.Line.{Line}
 use Rattle.line_writer.specs.Stored.{isSymbol, storedWhen, storedLabel, storedEvent, stored}
 
+-- ---- tests, each weaker than another
+
+pub and-map : (a b c d : Bool) → (T a → T c) → (T b → T d) → T (a && b) → T (c && d)
+and-map a b c d f g h = and-i c d (f (and-l a b h)) (g (and-r a b h))
+
+pub all-map : (f g : Float → Bool) → ((x : Float) → T (f x) → T (g x)) → (xs : List Float) → T (all f xs) → T (all g xs)
+all-map f g h [] t = tt
+all-map f g h (x ∷ xs) t = and-map (f x) (all f xs) (g x) (all g xs) (h x) (all-map f g h xs) t
+
+-- ---- the parts of a line
+
 -- a float in its range
 float-stored : (r : Range) (x : Float) → T (format (float r) .lawful x) → T (fits binary32 x)
 unfolding float
@@ -40,42 +51,34 @@ event-stored : (e : Event) → T (format (body (kindOf e)) .lawful (eventParts e
 unfolding body labelled F.small
 event-stored (Instr l i d) h =
     let f = format (float range.Duration) .lawful d in
-    let k = and-r (format label .lawful l) (isSymbol i && f) h in
-    and-i (storedLabel l) (isSymbol i && fits binary32 d) (label-stored l (and-l (format label .lawful l) (isSymbol i && f) h))
-    (and-i (isSymbol i) (fits binary32 d) (and-l (isSymbol i) f k) (float-stored range.Duration d (and-r (isSymbol i) f k)))
+    and-map (format label .lawful l) (isSymbol i && f) (storedLabel l) (isSymbol i && fits binary32 d) (label-stored l)
+    (and-map (isSymbol i) f (isSymbol i) (fits binary32 d) (λ k. k) (float-stored range.Duration d)) h
 event-stored (Control l v x) h =
     let f = format (float range.Value) .lawful x in
-    let k = and-r (isSymbol l) (isSymbol v && f) h in
-    and-i (isSymbol l) (isSymbol v && fits binary32 x) (and-l (isSymbol l) (isSymbol v && f) h)
-    (and-i (isSymbol v) (fits binary32 x) (and-l (isSymbol v) f k) (float-stored range.Value x (and-r (isSymbol v) f k)))
+    and-map (isSymbol l) (isSymbol v && f) (isSymbol l) (isSymbol v && fits binary32 x) (λ k. k)
+    (and-map (isSymbol v) f (isSymbol v) (fits binary32 x) (λ k. k) (float-stored range.Value x)) h
 event-stored End h = tt
 event-stored (Tempo x) h = float-stored range.Tempo x h
 
 -- zeros behind the values in use
 zeros-stored : (xs : List Float) → T (all isZero xs) → T (all (fits binary32) xs)
 unfolding isZero
-zeros-stored [] h = tt
-zeros-stored (x ∷ xs) h =
-    and-i (fits binary32 x) (all (fits binary32) xs) (and-l (fits binary32 x) (eqb (toBits binary32 x) 0) (and-l (isZero x) (all isZero xs) h)) (zeros-stored xs (and-r (isZero x) (all isZero xs) h))
-
-floats-stored : (xs : List Float) → T (all (format (float range.Value) .lawful) xs) → T (all (fits binary32) xs)
-floats-stored [] h = tt
-floats-stored (x ∷ xs) h =
-    let f = format (float range.Value) .lawful in
-    and-i (fits binary32 x) (all (fits binary32) xs) (float-stored range.Value x (and-l (f x) (all f xs) h)) (floats-stored xs (and-r (f x) (all f xs) h))
+zeros-stored xs h = all-map isZero (fits binary32) (λ x k. and-l (fits binary32 x) (eqb (toBits binary32 x) 0) k) xs h
 
 both-parts : (n : ℕ) (xs : List Float) → T (all (fits binary32) (take n xs)) → T (all (fits binary32) (drop n xs)) → T (all (fits binary32) xs)
 both-parts zero xs h k = k
 both-parts (suc n) [] h k = tt
 both-parts (suc n) (x ∷ xs) h k =
-    and-i (fits binary32 x) (all (fits binary32) xs) (and-l (fits binary32 x) (all (fits binary32) (take n xs)) h) (both-parts n xs (and-r (fits binary32 x) (all (fits binary32) (take n xs)) h) k)
+    and-map (fits binary32 x) (all (fits binary32) (take n xs)) (fits binary32 x) (all (fits binary32) xs) (λ j. j) (λ j. both-parts n xs j k) h
 
-values-stored : (e : Event) (n : ℕ) (xs : List Float) → T (format (values (kindOf e)) .lawful (valuesOf (kindOf e) n xs)) → T (all isZero (drop (countOf (kindOf e) (valuesOf (kindOf e) n xs)) xs)) → T (all (fits binary32) xs)
+values-stored : (e : Event) (n : ℕ) (xs : List Float) → T (format (values (kindOf e)) .lawful (valuesOf (kindOf e) n xs))
+    → T (all isZero (drop (countOf (kindOf e) (valuesOf (kindOf e) n xs)) xs)) → T (all (fits binary32) xs)
 unfolding values counted
 values-stored (Instr l i d) n xs h k =
     let f = format (float range.Value) .lawful in
     let m = and-r (format number .lawful n) (eqb (length (take n xs)) n && all f (take n xs)) h in
-    both-parts n xs (floats-stored (take n xs) (and-r (eqb (length (take n xs)) n) (all f (take n xs)) m)) (zeros-stored (drop n xs) k)
+    both-parts n xs (all-map f (fits binary32) (float-stored range.Value) (take n xs) (and-r (eqb (length (take n xs)) n) (all f (take n xs)) m))
+    (zeros-stored (drop n xs) k)
 values-stored (Control l v x) n xs h k = zeros-stored xs k
 values-stored End n xs h k = zeros-stored xs k
 values-stored (Tempo x) n xs h k = zeros-stored xs k

@@ -1,25 +1,22 @@
 -- The text of a whole line, from its pieces. Assumes nothing.
 use Prim.Native.Nat.{ℕ}
-use mathlib.Core.Path.{_≡_, refl, sym, ap, _∙_, subst}
+use mathlib.Core.Path.{_≡_, refl, ap, _∙_, subst}
 use mathlib.Core.Bool.{Bool, true, false}
 use mathlib.Core.List.{List, [], _∷_, append-assoc, map}
 use mathlib.Core.Option.{Option, none, some, Option·map}
-use lib.ListN.{take}
 use lib.Ieee.{Float}
 use Rattle.numerals.specs.Numeral.{Numeral, spelled, nameBytes}
 use Rattle.number_writer.specs.Push.{emptyText, pushAll}
 use Rattle.score_line.specs.LineFormat.{labelParts}
 use Rattle.score_line.specs.declared.Label.{Label}
-use Rattle.score_line.specs.declared.When.{When}
 use Rattle.score_line.specs.declared.When.the-variants.{Timed, Untimed}
 use Rattle.score_line.specs.declared.Event.{Event}
-use Rattle.score_line.specs.declared.Event.the-variants.{Instr, Control, End, Tempo}
 use Rattle.score_line.specs.declared.Line.{Line}
 use Rattle.score_text.specs.Said as said
-use Rattle.score_text.specs.Form.{Form, instr, control, tempo, end, Written, newline, space, star, controlWord, tempoWord, endWord, spaces, behindBytes, labelBytes, targetBytes, valueBytes, formBytes, starBytes, lineBytes}
+use Rattle.score_text.specs.Form.{Form, instr, control, tempo, end, newline, space, star, controlWord, tempoWord, endWord, spaces, behindBytes, labelBytes, targetBytes, valueBytes, formBytes, starBytes, lineBytes}
 use Rattle.written_line.specs.inside.NumberText.{numberText}
 use Rattle.written_line.specs.inside.LineText.{ifThere, single, labelForm, valuesText, eventText, saidText, lineText}
-use Rattle.written_line.specs.LineText.{timeSaid, eventSaid}
+use Rattle.written_line.specs.LineText.{eventSaid}
 use Rattle.written_line.specs.inside.Drafts.{beside, Holds, Joined, numberBytes, nextBytes, valuesBytes, labelBytesOf, formText}
 use Rattle.written_line.specs.declared.Draft.{Draft}
 use Rattle.written_line.proofs.Pieces.{joined-then, joined-as}
@@ -38,36 +35,47 @@ values-pieces (x ∷ xs) = ap (beside (nextBytes x)) (values-pieces xs) ∙ go (
     go (some t) (some ts) = unfold valueBytes behindBytes spaces in refl
 
 module _ {d r : Draft} (time : Float) where
-  pub instr-joins : {a b c e : Draft} (label : Label) (i : ℕ) (duration : Float) (vs : List Float) → Joined d (some (labelBytesOf label)) a → Joined a (numberBytes time) b → Joined b (some (space ∷ nameBytes i)) c
+  pub instr-joins : {a b c e : Draft} (label : Label) (i : ℕ) (duration : Float) (vs : List Float) → Joined d (some (labelBytesOf label)) a
+      → Joined a (numberBytes time) b → Joined b (some (space ∷ nameBytes i)) c
       → Joined c (nextBytes duration) e → Joined e (valuesBytes vs) r → Joined d (formText time (said.instr (labelParts label) i duration vs)) r
   unfolding numberBytes nextBytes labelBytesOf formText eventText
   instr-joins label i duration vs x y z u v =
-      joined-as (go (numberText time) (numberText duration) (valuesText vs)) (joined-then x (joined-then y (joined-then z (joined-then u (joined-as (values-pieces vs) v)))))
+      joined-as (go (numberText time) (numberText duration) (valuesText vs))
+      (joined-then x (joined-then y (joined-then z (joined-then u (joined-as (values-pieces vs) v)))))
     where
       go : (o q : Option Numeral) (s : Option (List Numeral))
-          → beside (some (labelBytes (Option·map labelForm (labelParts label)))) (beside (Option·map spelled o) (beside (some (space ∷ nameBytes i)) (beside (beside (some (space ∷ [])) (Option·map spelled q)) (Option·map (λ ts. valueBytes (map single ts)) s))))
-          ≡ Option·map formBytes (ifThere o (λ t. ifThere q (λ x. Option·map (λ xs. instr (Option·map labelForm (labelParts label)) t (single i) (single x) (map single xs)) s)))
+          → beside (some (labelBytes (Option·map labelForm (labelParts label))))
+          (beside (Option·map spelled o) (beside (some (space ∷ nameBytes i))
+          (beside (beside (some (space ∷ [])) (Option·map spelled q)) (Option·map (λ ts. valueBytes (map single ts)) s))))
+          ≡ Option·map formBytes (ifThere o (λ t. ifThere q (λ x. Option·map
+          (λ xs. instr (Option·map labelForm (labelParts label)) t (single i) (single x) (map single xs)) s)))
       go none q s = refl
       go (some t) none s = refl
       go (some t) (some x) none = refl
       go (some t) (some x) (some ts) = unfold formBytes behindBytes spaces in refl
 
-  pub control-joins : {a b c e : Draft} (label i : ℕ) (value : Float) → Joined d (numberBytes time) a → Joined a (some (space ∷ nameBytes label)) b → Joined b (some (space ∷ controlWord)) c
+  pub control-joins : {a b c e : Draft} (label i : ℕ) (value : Float) → Joined d (numberBytes time) a → Joined a (some (space ∷ nameBytes label)) b
+      → Joined b (some (space ∷ controlWord)) c
       → Joined c (some (space ∷ nameBytes i)) e → Joined e (nextBytes value) r → Joined d (formText time (said.control (some label) i value)) r
   unfolding numberBytes nextBytes formText eventText
   control-joins label i value x y z u v = joined-as (go (numberText time) (numberText value)) (joined-then x (joined-then y (joined-then z (joined-then u v))))
     where
-      go : (o q : Option Numeral) → beside (Option·map spelled o) (beside (some (space ∷ nameBytes label)) (beside (some (space ∷ controlWord)) (beside (some (space ∷ nameBytes i)) (beside (some (space ∷ [])) (Option·map spelled q)))))
+      go : (o q : Option Numeral)
+          → beside (Option·map spelled o) (beside (some (space ∷ nameBytes label))
+          (beside (some (space ∷ controlWord)) (beside (some (space ∷ nameBytes i)) (beside (some (space ∷ [])) (Option·map spelled q)))))
           ≡ Option·map formBytes (ifThere o (λ t. Option·map (λ y. control t (some (single label)) 0 (single i) (single y)) q))
       go none q = refl
       go (some t) none = refl
       go (some t) (some x) = unfold formBytes targetBytes behindBytes spaces in refl
 
-  pub tempo-joins : {a b : Draft} (value : Float) → Joined d (numberBytes time) a → Joined a (some (space ∷ tempoWord)) b → Joined b (nextBytes value) r → Joined d (formText time (said.tempo value)) r
+  pub tempo-joins : {a b : Draft} (value : Float) → Joined d (numberBytes time) a → Joined a (some (space ∷ tempoWord)) b → Joined b (nextBytes value) r
+      → Joined d (formText time (said.tempo value)) r
   unfolding numberBytes nextBytes formText eventText
   tempo-joins value x y z = joined-as (go (numberText time) (numberText value)) (joined-then x (joined-then y z))
     where
-      go : (o q : Option Numeral) → beside (Option·map spelled o) (beside (some (space ∷ tempoWord)) (beside (some (space ∷ [])) (Option·map spelled q))) ≡ Option·map formBytes (ifThere o (λ t. Option·map (λ y. tempo t 0 (single y)) q))
+      go : (o q : Option Numeral)
+          → beside (Option·map spelled o) (beside (some (space ∷ tempoWord)) (beside (some (space ∷ [])) (Option·map spelled q))) ≡ Option·map formBytes
+          (ifThere o (λ t. Option·map (λ y. tempo t 0 (single y)) q))
       go none q = refl
       go (some t) none = refl
       go (some t) (some x) = unfold formBytes behindBytes spaces in refl
@@ -81,52 +89,39 @@ module _ {d r : Draft} (time : Float) where
       go (some t) = unfold formBytes behindBytes spaces in refl
 
   -- by the event's arm
-  module _ {e : Event} (n : ℕ) (xs : List Float) where
-    pub as-instr : {l : Label} {i : ℕ} {x : Float} → e ≡ Instr l i x → Joined d (formText time (said.instr (labelParts l) i x (take n xs))) r → Joined d (formText time (eventSaid e n xs)) r
-    as-instr q j = subst (λ (v : Event). Joined d (formText time (eventSaid v n xs)) r) (sym q) j
-
-    pub as-control : {l i : ℕ} {x : Float} → e ≡ Control l i x → Joined d (formText time (said.control (some l) i x)) r → Joined d (formText time (eventSaid e n xs)) r
-    as-control q j = subst (λ (v : Event). Joined d (formText time (eventSaid v n xs)) r) (sym q) j
-
-    pub as-end : e ≡ End → Joined d (formText time said.end) r → Joined d (formText time (eventSaid e n xs)) r
-    as-end q j = subst (λ (v : Event). Joined d (formText time (eventSaid v n xs)) r) (sym q) j
-
-    pub as-tempo : {x : Float} → e ≡ Tempo x → Joined d (formText time (said.tempo x)) r → Joined d (formText time (eventSaid e n xs)) r
-    as-tempo q j = subst (λ (v : Event). Joined d (formText time (eventSaid v n xs)) r) (sym q) j
+  pub as-event : {e a : Event} (n : ℕ) (xs : List Float) → e ≡ a → Joined d (formText time (eventSaid a n xs)) r → Joined d (formText time (eventSaid e n xs)) r
+  as-event n xs q j = rw q j
 
 -- ---- the line
 
 pub begun-plain : {r : Draft} (p : Bool) → p ≡ false → r ≡ record { there = true; text = emptyText } → Holds r (some (starBytes p))
 unfolding starBytes pushAll
-begun-plain {r} p h e = subst (λ (b : Bool). Holds r (some (starBytes b))) (sym h) (ap (λ (x : Draft). x .there) e, ap (λ (x : Draft). x .text) e)
+begun-plain p h e = rw h (ap (λ (x : Draft). x .there) e, ap (λ (x : Draft). x .text) e)
 
 pub begun-star : {a r : Draft} (p : Bool) → p ≡ true → a ≡ record { there = true; text = emptyText } → Joined a (some (star ∷ [])) r → Holds r (some (starBytes p))
 unfolding starBytes
-begun-star {a} {r} p h e j = subst (λ (b : Bool). Holds r (some (starBytes b))) (sym h) (j .joins (some []) (begun-plain {r = a} false refl e))
+begun-star {a} p h e j = rw h (j .joins (some []) (begun-plain {r = a} false refl e))
 
 module _ (l : Line) where
-  abbrev said-at : When → Option Written
-  said-at w = ifThere (Option·map (λ t. record { priority = l .priority; time = t; event = eventSaid (l .event) (l .count) (l .values) }) (timeSaid w)) saidText
-
-  abbrev told : Draft → When → Type 0
-  told r w = Holds r (Option·map lineBytes (said-at w))
-
   pub line-untimed : {r : Draft} → l .when ≡ Untimed → r ≡ record { there = false; text = emptyText } → Holds r (Option·map lineBytes (lineText l))
   unfolding lineText
-  line-untimed {r} e f = subst (told r) (sym e) (ap (λ (x : Draft). x .there) f)
+  line-untimed e f = rw e (ap (λ (x : Draft). x .there) f)
 
-  pub line-late : {r : Draft} (time : Float) {late : Bool} → l .when ≡ Timed late time → late ≡ true → r ≡ record { there = false; text = emptyText } → Holds r (Option·map lineBytes (lineText l))
+  pub line-late : {r : Draft} (time : Float) {late : Bool} → l .when ≡ Timed late time → late ≡ true → r ≡ record { there = false; text = emptyText }
+      → Holds r (Option·map lineBytes (lineText l))
   unfolding lineText
-  line-late {r} time e h f = subst (told r) (sym (e ∙ ap (λ (b : Bool). Timed b time) h)) (ap (λ (x : Draft). x .there) f)
+  line-late time e h f = rw (e, h) (ap (λ (x : Draft). x .there) f)
 
   pub line-timed : {b d r : Draft} (time : Float) {late : Bool} → l .when ≡ Timed late time → late ≡ false → Holds b (some (starBytes (l .priority)))
       → Joined b (formText time (eventSaid (l .event) (l .count) (l .values))) d → Joined d (some (newline ∷ [])) r → Holds r (Option·map lineBytes (lineText l))
   unfolding lineText saidText formText
   line-timed {r = r} time e h s j k =
       let event = eventSaid (l .event) (l .count) (l .values) in
-      subst (told r) (sym (e ∙ ap (λ (b : Bool). Timed b time) h))
-      (subst (Holds r) (go (ifThere (numberText time) (eventText event))) (k .joins (beside (some (starBytes (l .priority))) (formText time event)) (j .joins (some (starBytes (l .priority))) s)))
+      rw (e, h) (subst (Holds r) (go (ifThere (numberText time) (eventText event)))
+      (k .joins (beside (some (starBytes (l .priority))) (formText time event)) (j .joins (some (starBytes (l .priority))) s)))
     where
-      go : (o : Option Form) → beside (beside (some (starBytes (l .priority))) (Option·map formBytes o)) (some (newline ∷ [])) ≡ Option·map lineBytes (Option·map (λ f. record { priority = l .priority; form = f }) o)
+      go : (o : Option Form)
+          → beside (beside (some (starBytes (l .priority))) (Option·map formBytes o)) (some (newline ∷ [])) ≡ Option·map lineBytes
+          (Option·map (λ f. record { priority = l .priority; form = f }) o)
       go none = refl
       go (some f) = unfold lineBytes in ap {B = Option (List ℕ)} some (append-assoc (starBytes (l .priority)) (formBytes f) (newline ∷ []))

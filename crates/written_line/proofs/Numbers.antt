@@ -11,10 +11,9 @@ use borrow.Author.Tests.{eqb-true, eq-eqb, lt-ltb}
 use lib.Arith.{digits-div}
 use lib.Dec.{T}
 use lib.ListN.{length}
-use lib.Ieee.{Float, binary32, ofBits, toBits, fits}
+use lib.Ieee.{Float, binary32, toBits, fits}
 use lib.Ieee.Bits.{ofBits-toBits}
 use lib.Ieee.Fits.{round-fits}
-use Rattle.laws.proofs.Choice.{cond-true}
 use Rattle.numerals.specs.Numeral.{Digits, Numeral, Lawful, NoLeadingZeros, valueFrom, mostNumber, mostDecimals, wholeOf, floatOf, meaning, lowest, widthOf, decimal, numeralOf}
 use Rattle.numerals.specs.Nearest.{signOf}
 use Rattle.numerals.specs.Shortest.{Reads, Shortest, NoText}
@@ -53,7 +52,7 @@ float-fits s n d = round-fits binary32 s n (10 ^ d)
 
 module _ (x : Float) where
   reads-fits : (n d : ℕ) → Reads x n d → T (fits binary32 x)
-  reads-fits n d r = subst (λ (y : Float). T (fits binary32 y)) r (float-fits (signOf x) n d)
+  reads-fits n d r = rw r at (float-fits (signOf x) n d)
 
   reads-no : (n d : ℕ) → reads x d n ≡ false → Reads x n d → ⊥
   unfolding reads
@@ -63,7 +62,7 @@ module _ (x : Float) where
   unfolding reads
   reads-yes n d h e =
       let y = floatOf (signOf x) n d in
-      sym (ofBits-toBits binary32 y (float-fits (signOf x) n d)) ∙ ap (ofBits binary32) (eqb-true (toBits binary32 y) (toBits binary32 x) e) ∙ ofBits-toBits binary32 x h
+      cc (ofBits-toBits binary32 y (float-fits (signOf x) n d), eqb-true (toBits binary32 y) (toBits binary32 x) e, ofBits-toBits binary32 x h)
 
   -- ---- the fewest decimals
 
@@ -105,7 +104,7 @@ unfolding decimal widthOf lowest
 one-digit v h =
     let e : 0 * 10 + v ≡ v = omega arith in
     let f : v / 10 ^ 0 % 10 ≡ v = omega arith in
-    ap decimal e ∙ ap (λ (w : ℕ). lowest w v) (cond-true _ _ (lt-ltb v 10 h)) ∙ ap (λ (n : ℕ). n ∷ []) f
+    rw (e, lt-ltb v 10 h, f)
 
 -- a numeral without needless zeros is the one of its number
 pub numeral-back : (t : Numeral) → Lawful t → NoLeadingZeros (t .digits) → numeralOf (t .minus) (wholeOf t) (length (t .decimals)) ≡ t
@@ -144,9 +143,8 @@ number-told x h = go (number-texts x h)
     go (shortest n d s) =
         let w = shortest-writes x n d s in
         let t = numeralOf (signOf x) n d in
-        let a : Shortest x (wholeOf t) (length (t .decimals)) =
-        subst (λ (k : ℕ). Shortest x k (length (t .decimals))) (sym (whole-back (signOf x) n d (s .below))) (subst (λ (c : ℕ). Shortest x n c) (sym (decimals-of (signOf x) n d)) s) in
-        plain t (record { lawful = w .lawful; shortest = subst (λ (y : Float). Shortest y (wholeOf t) (length (t .decimals))) (sym (w .means)) a; unpadded = w .plain }) (w .means)
+        let a : Shortest x (wholeOf t) (length (t .decimals)) = rw (whole-back (signOf x) n d (s .below), decimals-of (signOf x) n d) s in
+        plain t (record { lawful = w .lawful; shortest = rw (w .means) a; unpadded = w .plain }) (w .means)
     go (without n) = none-of n
 
 pub number-is : (x : Float) (n d : ℕ) → Shortest x n d → numberText x ≡ some (numeralOf (signOf x) n d)
@@ -164,6 +162,4 @@ number-none x h r = go (number-texts x h)
     go (without z) = refl
 
 pub number-plain : (t : Numeral) → Plain t → numberText (meaning t) ≡ some t
-number-plain t h =
-    number-is (meaning t) (wholeOf t) (length (t .decimals)) (h .shortest)
-    ∙ ap {B = Option Numeral} some (ap (λ (s : Bool). numeralOf s (wholeOf t) (length (t .decimals))) (sign-back t (h .lawful)) ∙ numeral-back t (h .lawful) (h .unpadded))
+number-plain t h = cc (number-is (meaning t) (wholeOf t) (length (t .decimals)) (h .shortest), sign-back t (h .lawful), numeral-back t (h .lawful) (h .unpadded))

@@ -1,9 +1,9 @@
 -- The pieces of a line's text, joined. Assumes nothing.
 use Prim.Native.Nat.{ℕ, _+_, _≤_, _<_, min as lesser}
-use mathlib.Core.Path.{_≡_, refl, sym, ap, ap₂, _∙_, subst}
+use mathlib.Core.Path.{_≡_, refl, sym, ap, _∙_}
 use mathlib.Core.Bool.{Bool, false}
 use mathlib.Core.List.{List, [], _∷_, _++_, append-assoc, append-nil}
-use mathlib.Core.Option.{Option, none, some, Option·map}
+use mathlib.Core.Option.{Option, none, some}
 use native.Mathlib.Decide.{decLe}
 use native.Mathlib.Nat.{min-eq-left, min-eq-right}
 use native.Mathlib.Numerals.{add-one}
@@ -12,7 +12,7 @@ use lib.ListN.{length, take, getD}
 use lib.Seq.{take-suc, take-all}
 use lib.Dec.{T}
 use lib.Ieee.{Float, binary32, fits}
-use Rattle.numerals.specs.Numeral.{Numeral, numeralOf, spelled, nameBytes}
+use Rattle.numerals.specs.Numeral.{numeralOf, spelled, nameBytes}
 use Rattle.numerals.specs.Nearest.{signOf}
 use Rattle.numerals.specs.Shortest.{Shortest}
 use Rattle.number_writer.specs.Push.{emptyText, pushed, pushAll}
@@ -40,16 +40,20 @@ pub beside-nothing : (a : Option (List ℕ)) → beside a (some []) ≡ a
 beside-nothing none = refl
 beside-nothing (some x) = ap {B = Option (List ℕ)} some (append-nil x)
 
+nothing-beside : (a : Option (List ℕ)) → beside (some []) a ≡ a
+nothing-beside none = refl
+nothing-beside (some y) = refl
+
 -- nothing more
 pub joined-nothing : {d : Draft} → Joined d (some []) d
-joined-nothing {d} = record { joins = λ o h. subst (Holds d) (sym (beside-nothing o)) h }
+joined-nothing = record { joins = λ o h. rw (beside-nothing o) h }
 
 -- one piece and then another
 pub joined-then : {d e r : Draft} {a b : Option (List ℕ)} → Joined d a e → Joined e b r → Joined d (beside a b) r
-joined-then {r = r} {a} {b} f g = record { joins = λ o h. subst (Holds r) (beside-assoc o a b) (g .joins (beside o a) (f .joins o h)) }
+joined-then {a = a} {b} f g = record { joins = λ o h. rw (beside-assoc o a b) at (g .joins (beside o a) (f .joins o h)) }
 
 pub joined-as : {d r : Draft} {a b : Option (List ℕ)} → a ≡ b → Joined d a r → Joined d b r
-joined-as {d} {r} e j = subst (λ (x : Option (List ℕ)). Joined d x r) e j
+joined-as e j = rw e at j
 
 -- ---- one piece
 
@@ -68,14 +72,14 @@ pub number-joins : {d : Draft} {t : LineText} (x : Float) {v : NumberText} {n k 
     → t ≡ pushAll (d .text) (spelled (numeralOf minus n (lesser k 3))) → Joined d (numberBytes x) (record { there = d .there; text = t })
 unfolding TextIs numberBytes
 number-joins {d} {t} x {v} {n} {k} {minus} a b c e =
-    let s : Shortest x n k = subst (TextIs x) b a in
+    let s : Shortest x n k = rw b at a in
     let l : lesser k 3 ≡ k = omega (arith, s .few) in
-    let q : numeralOf minus n (lesser k 3) ≡ numeralOf (signOf x) n k = ap₂ (λ (y : Bool) (j : ℕ). numeralOf y n j) c l in
-    joined-as (sym (ap (Option·map spelled) (number-is x n k s))) (word-joins (e ∙ ap (λ (y : Numeral). pushAll (d .text) (spelled y)) q))
+    rw (number-is x n k s) (word-joins (cc))
 
-pub number-lacks : {d : Draft} {t : LineText} (x : Float) {v : NumberText} → T (fits binary32 x) → TextIs x v → v ≡ number.None → Joined d (numberBytes x) (record { there = false; text = t })
+pub number-lacks : {d : Draft} {t : LineText} (x : Float) {v : NumberText} → T (fits binary32 x) → TextIs x v → v ≡ number.None
+    → Joined d (numberBytes x) (record { there = false; text = t })
 unfolding TextIs numberBytes
-number-lacks {d} {t} x {v} h a b = joined-as (sym (ap (Option·map spelled) (number-none x h (subst (TextIs x) b a)))) (record { joins = go })
+number-lacks {d} {t} x h a b = rw (number-none x h (rw b at a)) (record { joins = go })
   where
     go : (o : Option (List ℕ)) → Holds d o → Holds (record { there = false; text = t }) (beside o none)
     go none h = refl
@@ -83,24 +87,21 @@ number-lacks {d} {t} x {v} h a b = joined-as (sym (ap (Option·map spelled) (num
 
 -- ---- a label
 
-pub label-joins : {d a b r : Draft} (l : Label) {n : ℕ} → l ≡ Labelled n → Joined d (some (nameBytes n)) a → Joined a (some (colon ∷ [])) b → Joined b (some (space ∷ [])) r
+pub label-joins : {d a b r : Draft} (l : Label) {n : ℕ} → l ≡ Labelled n → Joined d (some (nameBytes n)) a → Joined a (some (colon ∷ [])) b
+    → Joined b (some (space ∷ [])) r
     → Joined d (some (labelBytesOf l)) r
 unfolding labelBytesOf labelBytes spaces
-label-joins {d} {r = r} l e x y z = subst (λ (k : Label). Joined d (some (labelBytesOf k)) r) (sym e) (joined-then x (joined-then y z))
+label-joins l e x y z = rw e (joined-then x (joined-then y z))
 
 pub no-label : {d : Draft} (l : Label) → l ≡ Unlabelled → Joined d (some (labelBytesOf l)) d
 unfolding labelBytesOf labelBytes
-no-label {d} l e = subst (λ (k : Label). Joined d (some (labelBytesOf k)) d) (sym e) joined-nothing
+no-label l e = rw e joined-nothing
 
 -- ---- values
 
 pub value-more : (xs : List Float) (x : Float) → beside (valuesBytes xs) (nextBytes x) ≡ valuesBytes (xs ++ (x ∷ []))
 unfolding valuesBytes
-value-more [] x = none-before (nextBytes x) ∙ sym (beside-nothing (nextBytes x))
-  where
-    none-before : (a : Option (List ℕ)) → beside (some []) a ≡ a
-    none-before none = refl
-    none-before (some y) = refl
+value-more [] x = nothing-beside (nextBytes x) ∙ sym (beside-nothing (nextBytes x))
 value-more (y ∷ xs) x = beside-assoc (nextBytes y) (valuesBytes xs) (nextBytes x) ∙ ap (beside (nextBytes y)) (value-more xs x)
 
 pub record Valued (d : Draft) (n : ℕ) (values : List Float) (r : Draft) (i : ℕ) : Type 0 where
@@ -111,7 +112,8 @@ pub values-start : {d : Draft} {n : ℕ} {values : List Float} → Valued d n va
 unfolding valuesBytes
 values-start = record { within = omega arith; joined = joined-nothing }
 
-pub values-again : {d r q : Draft} {n i : ℕ} (count : ℕ) {values : List Float} (x : Float) → n ≡ lesser count 8 → length values ≡ 8 → Valued d n values r i → i < n → Joined r (nextBytes (getD values i x)) q
+pub values-again : {d r q : Draft} {n i : ℕ} (count : ℕ) {values : List Float} (x : Float) → n ≡ lesser count 8 → length values ≡ 8 → Valued d n values r i → i < n
+    → Joined r (nextBytes (getD values i x)) q
     → Valued d n values q (i + 1)
 values-again {i = i} count {values} x e l c h j =
     let t : take (i + 1) values ≡ take i values ++ (getD values i x ∷ []) = ap (λ (k : ℕ). take k values) (add-one i) ∙ take-suc values i x (omega arith) in
@@ -126,7 +128,8 @@ take-eight count values l = go (decLe count 8)
         let k : 8 ≤ count = omega arith in
         ap (λ (j : ℕ). take j values) (min-eq-right k) ∙ take-all 8 values (omega arith) ∙ sym (take-all count values (omega arith))
 
-pub values-end : {d r : Draft} {n i : ℕ} (count : ℕ) {values : List Float} → n ≡ lesser count 8 → length values ≡ 8 → Valued d n values r i → n ≤ i → Joined d (valuesBytes (take count values)) r
+pub values-end : {d r : Draft} {n i : ℕ} (count : ℕ) {values : List Float} → n ≡ lesser count 8 → length values ≡ 8 → Valued d n values r i → n ≤ i
+    → Joined d (valuesBytes (take count values)) r
 values-end {i = i} count {values} e l c h =
     let k : i ≡ lesser count 8 = omega (arith, c .within) in
     joined-as (ap valuesBytes (ap (λ (j : ℕ). take j values) k ∙ take-eight count values l)) (c .joined)

@@ -1,5 +1,6 @@
 use borrow.Author.Needs.{needs}
-use Rattle.line_writer.proofs.Packs.{values-instr, values-control, values-end, values-tempo}
+use Rattle.score_line.specs.LineFormat.{values}
+use Rattle.line_writer.proofs.Packs.{values-instr, values-none}
 use Rattle.line_writer.proofs.with_values.Statement.{statement}
 use Rattle.line_writer.proofs.with_values.Tie as tie
 
@@ -7,4 +8,5 @@ pub with-values-spec : {M : Type 1} → statement M
 with-values-spec =
     tie.close (tie.spec
     (λ c. search needs) (λ c κs. search needs) (λ c κs. search needs) (λ c κs. search needs) (λ c. search needs) (λ c. search needs)
-    (λ c. search needs) (λ c. search values-instr) (λ c. search values-control) (λ c. search values-end) (λ c. search values-tempo))
+    (λ c. search needs) (λ c. search values-instr) (λ c. unfold values in search values-none) (λ c. unfold values in search values-none)
+    (λ c. unfold values in search values-none))

@@ -9,6 +9,7 @@ pub plain-instr-spec : {M : Type 1} → statement M
 plain-instr-spec =
     tie.close
     (tie.spec (λ c κs. search needs) (λ c. search needs) (λ c. search needs) (λ c. search needs) (λ c. search needs) (λ c. search needs) (λ c. search needs)
-    (λ c. search needs) (λ c. search needs) (λ c. search needs) (λ c κs. search needs) (λ c. search needs) (λ c κs. search needs) (λ c. let s = c .before .before .before .before .before in
+    (λ c. search needs) (λ c. search needs) (λ c. search needs) (λ c κs. search needs) (λ c. search needs) (λ c κs. search needs)
+    (λ c. let s = c .before .before .before .before .before in
     let long : length (s .args .k .bits) ≡ 8 = simp length-map at (s .good .1 .1 .1 .1 .0 .1 .1 .1 .0 .1 .0 .1) in
     search plain-judged))

@@ -1,5 +1,5 @@
 use borrow.Author.Needs.{needs}
-use Rattle.text_event.proofs.Ways.{control-word, control-is}
+use Rattle.text_event.proofs.EventReaders.{control-word, control-is}
 use Rattle.text_event.proofs.control_at.Statement.{statement}
 use Rattle.text_event.proofs.control_at.Tie as tie
 

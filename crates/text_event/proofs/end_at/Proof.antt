@@ -1,5 +1,5 @@
 use borrow.Author.Needs.{needs}
-use Rattle.text_event.proofs.Ways.{end-word, end-is}
+use Rattle.text_event.proofs.EventReaders.{end-word, end-is}
 use Rattle.text_event.proofs.end_at.Statement.{statement}
 use Rattle.text_event.proofs.end_at.Tie as tie
 

@@ -1,6 +1,6 @@
 use borrow.Author.Needs.{needs}
 use native.Mathlib.Omega.{arith}
-use Rattle.text_event.proofs.Ways.{ended-here, ended-not}
+use Rattle.text_event.proofs.EventReaders.{ended-here, ended-not}
 use Rattle.text_event.proofs.ended.Statement.{statement}
 use Rattle.text_event.proofs.ended.Tie as tie
 

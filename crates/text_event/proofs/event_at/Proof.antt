@@ -1,5 +1,5 @@
 use borrow.Author.Needs.{needs}
-use Rattle.text_event.proofs.Ways.{event-name, event-named, event-control, event-tempo, event-end}
+use Rattle.text_event.proofs.EventReaders.{event-name, event-named, event-control, event-tempo, event-end}
 use Rattle.text_event.proofs.event_at.Statement.{statement}
 use Rattle.text_event.proofs.event_at.Tie as tie
 

@@ -1,5 +1,5 @@
 use borrow.Author.Needs.{needs}
-use Rattle.text_event.proofs.Ways.{instr-number, instr-is, instr-cut}
+use Rattle.text_event.proofs.EventReaders.{instr-number, instr-is, instr-cut}
 use Rattle.text_event.proofs.instr_at.Statement.{statement}
 use Rattle.text_event.proofs.instr_at.Tie as tie
 

@@ -1,5 +1,5 @@
 use borrow.Author.Needs.{needs}
-use Rattle.text_event.proofs.Ways.{named-gap, named-control, named-instr}
+use Rattle.text_event.proofs.EventReaders.{named-gap, named-control, named-instr}
 use Rattle.text_event.proofs.named_at.Statement.{statement}
 use Rattle.text_event.proofs.named_at.Tie as tie
 

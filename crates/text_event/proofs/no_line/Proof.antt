@@ -1,5 +1,5 @@
 use borrow.Author.Needs.{needs}
-use Rattle.text_event.proofs.Ways.{blank}
+use Rattle.text_event.proofs.EventReaders.{blank}
 use Rattle.text_event.proofs.no_line.Statement.{statement}
 use Rattle.text_event.proofs.no_line.Tie as tie
 

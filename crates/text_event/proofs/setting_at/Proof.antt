@@ -1,5 +1,5 @@
 use borrow.Author.Needs.{needs}
-use Rattle.text_event.proofs.Ways.{setting-name, setting-value, setting-is}
+use Rattle.text_event.proofs.EventReaders.{setting-name, setting-value, setting-is}
 use Rattle.text_event.proofs.setting_at.Statement.{statement}
 use Rattle.text_event.proofs.setting_at.Tie as tie
 

@@ -1,5 +1,5 @@
 use borrow.Author.Needs.{needs}
-use Rattle.text_event.proofs.Ways.{tempo-word, tempo-value, tempo-is}
+use Rattle.text_event.proofs.EventReaders.{tempo-word, tempo-value, tempo-is}
 use Rattle.text_event.proofs.tempo_at.Statement.{statement}
 use Rattle.text_event.proofs.tempo_at.Tie as tie
 

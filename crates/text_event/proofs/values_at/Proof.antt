@@ -11,4 +11,5 @@ values-at-spec =
     tie.close
     (tie.spec (λ s at k₀ p₀ k p. Gathering s at k p) (λ s at k₀ p₀ k p. length s - p)
     (λ c. search (starts, none-kept)) (λ c κs. search needs) (λ c. omega (arith, c .before .starts-with .ensures .within (c .if1 .taken))) (λ c. search ends)
-    (λ c κs. search needs) (λ c. search needs) (λ c κs. search needs) (λ c. search falls) (λ c. search again) (λ c. search needs) (λ c κs. search needs) (λ c. search stops))
+    (λ c κs. search needs) (λ c. search needs) (λ c κs. search needs) (λ c. search falls) (λ c. search again) (λ c. search needs) (λ c κs. search needs)
+    (λ c. search stops))

@@ -8,4 +8,5 @@ control-text-spec =
     tie.close
     (tie.spec (λ c κs. search needs) (λ c κs. search needs) (λ c. search needs) (λ c κs. search needs) (λ c κs. search needs) (λ c κs. search needs)
     (λ c. let b = c .before .before .before .before in
-    control-joins _ _ _ _ (b .before .with-number .ensures) (b .next-name .ensures) (c .before .before .with-word .ensures) (c .before .next-name2 .ensures) (c .next-number .ensures)))
+    control-joins _ _ _ _ (b .before .with-number .ensures) (b .next-name .ensures) (c .before .before .with-word .ensures) (c .before .next-name2 .ensures)
+    (c .next-number .ensures)))

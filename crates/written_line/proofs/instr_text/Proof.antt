@@ -8,4 +8,5 @@ instr-text-spec =
     tie.close
     (tie.spec (λ c κs. search needs) (λ c κs. search needs) (λ c κs. search needs) (λ c κs. search needs) (λ c κs. search needs)
     (λ c. let b = c .before .before .before in
-    instr-joins _ _ _ _ _ (b .before .with-label .ensures) (b .with-number .ensures) (c .before .before .next-name .ensures) (c .before .next-number .ensures) (c .with-values .ensures)))
+    instr-joins _ _ _ _ _ (b .before .with-label .ensures) (b .with-number .ensures) (c .before .before .next-name .ensures) (c .before .next-number .ensures)
+    (c .with-values .ensures)))

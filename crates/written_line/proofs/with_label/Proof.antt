@@ -6,4 +6,5 @@ use Rattle.written_line.proofs.with_label.Tie as tie
 pub with-label-spec : {M : Type 1} → statement M
 with-label-spec =
     tie.close
-    (tie.spec (λ c. search needs) (λ c κs. search needs) (λ c κs. search needs) (λ c κs. search needs) (λ c. search needs) (λ c. search label-joins) (λ c. search no-label))
+    (tie.spec (λ c. search needs) (λ c κs. search needs) (λ c κs. search needs) (λ c κs. search needs) (λ c. search needs) (λ c. search label-joins)
+    (λ c. search no-label))

@@ -74,12 +74,15 @@ module _ (s : List ℕ) (priority : Bool) (time : Float) where
   unfolding endedAt ending lineTold judgedAt
   ended-told e bs = go (startsWith 10 bs)
     where
-      go : (b : Bool) → cond b (record { stands = true; read = lineRead (lineSaid (saidAt priority time e)); next = position s (rest bs) }) noLine ≡ told (cond b (got e (rest bs)) refused)
+      go : (b : Bool)
+          → cond b (record { stands = true; read = lineRead (lineSaid (saidAt priority time e)); next = position s (rest bs) }) noLine ≡ told
+          (cond b (got e (rest bs)) refused)
       go true = refl
       go false = refl
 
   -- a line that has to end behind its event
-  event-ends : (x : Read said.Event) (e : said.Event) (bs : List ℕ) {read : LineRead} {r : TextLine} → x ≡ ending e bs → read ≡ judgedAt priority time e → r ≡ endedAt s read bs → r ≡ told x
+  event-ends : (x : Read said.Event) (e : said.Event) (bs : List ℕ) {read : LineRead} {r : TextLine} → x ≡ ending e bs → read ≡ judgedAt priority time e
+      → r ≡ endedAt s read bs → r ≡ told x
   event-ends x e bs f g h = h ∙ ap (λ (y : LineRead). endedAt s y bs) g ∙ ended-told e bs ∙ ap told (sym f)
 
   as-event : (x y : Read said.Event) {r : TextLine} → x ≡ y → r ≡ told y → r ≡ told x
@@ -102,7 +105,8 @@ module _ (s : List ℕ) (priority : Bool) (time : Float) where
       unfolding valuesTold noValues lineTold judgedAt
       instr-is y {read} h = go (valuesFrom (length (drop p s)) (drop p s)) g ∙ ap told (sym instr-values)
         where
-          go : (x : Read (List Float)) → v ≡ valuesTold s x → record { stands = true; read = read; next = v .next } ≡ told (andThen x (λ vs q. got (said.instr label n d vs) q))
+          go : (x : Read (List Float)) → v ≡ valuesTold s x
+              → record { stands = true; read = read; next = v .next } ≡ told (andThen x (λ vs q. got (said.instr label n d vs) q))
           go (got vs q) k =
               λ i. record {
                 stands = true;
@@ -129,7 +133,8 @@ module _ (s : List ℕ) (priority : Bool) (time : Float) where
       pub setting-value : a ≡ number.Refused → {r : TextLine} → r ≡ noLine → r ≡ told (settingFrom label (drop at s))
       setting-value j h = none-at (settingFrom label (drop at s)) h (rw (name-of s g k, number-no s i j))
 
-      pub setting-is : (x : Float) (q : ℕ) → a ≡ number.Of x q → {read : LineRead} {r : TextLine} → read ≡ judgedAt priority time (said.control label n x) → r ≡ endedAt s read (drop q s)
+      pub setting-is : (x : Float) (q : ℕ) → a ≡ number.Of x q → {read : LineRead} {r : TextLine} → read ≡ judgedAt priority time (said.control label n x)
+          → r ≡ endedAt s read (drop q s)
           → r ≡ told (settingFrom label (drop at s))
       setting-is x q j l h = event-ends (settingFrom label (drop at s)) (said.control label n x) (drop q s) (rw (name-of s g k, number-of s i j)) l h
 
@@ -153,7 +158,8 @@ module _ (s : List ℕ) (priority : Bool) (time : Float) where
         unfolding tempoFrom
         tempo-value j h = none-at (tempoFrom (drop at s)) h (rw (passed-at s e f, number-no s i j))
 
-        pub tempo-is : (x : Float) (o : ℕ) → a ≡ number.Of x o → {read : LineRead} {r : TextLine} → read ≡ judgedAt priority time (said.tempo x) → r ≡ endedAt s read (drop o s)
+        pub tempo-is : (x : Float) (o : ℕ) → a ≡ number.Of x o → {read : LineRead} {r : TextLine} → read ≡ judgedAt priority time (said.tempo x)
+            → r ≡ endedAt s read (drop o s)
             → r ≡ told (tempoFrom (drop at s))
         unfolding tempoFrom
         tempo-is x o j l h = event-ends (tempoFrom (drop at s)) (said.tempo x) (drop o s) (rw (passed-at s e f, number-of s i j)) l h
@@ -163,7 +169,8 @@ module _ (s : List ℕ) (priority : Bool) (time : Float) where
       unfolding endFrom
       end-word f h = none-at (endFrom (drop at s)) h (rw (passed-no s e f))
 
-      pub end-is : (p : ℕ) → w ≡ passed.At p → {read : LineRead} {r : TextLine} → read ≡ judgedAt priority time said.end → r ≡ endedAt s read (drop p s) → r ≡ told (endFrom (drop at s))
+      pub end-is : (p : ℕ) → w ≡ passed.At p → {read : LineRead} {r : TextLine} → read ≡ judgedAt priority time said.end → r ≡ endedAt s read (drop p s)
+          → r ≡ told (endFrom (drop at s))
       unfolding endFrom
       end-is p f l h = event-ends (endFrom (drop at s)) said.end (drop p s) (rw (passed-at s e f)) l h
 
