@@ -1,79 +1,61 @@
--- Laws of the reader. `All P r` says P of what r read.
+-- Laws of the reader: it gives no more code than it takes tokens, and it is its own next step, however deep it is followed.
 use Prim.Native.Nat.{ℕ, zero, suc, _+_, _-_, _≤_, _<_}
 use native.Mathlib.Nat.{suc-add}
 use native.Mathlib.Omega.{arith}
 use mathlib.Core.Path.{_≡_, refl, sym, ap, _∙_}
 use mathlib.Core.List.{List, [], _∷_, _++_}
-use mathlib.Core.Bool.{Bool, true, false, cond}
+use mathlib.Core.Bool.{Bool, cond}
 use lib.ListN.{length, drop, length-append}
-use lib.Dec.{eqb, leb}
-use borrow.Author.Tests.{eqb-true}
+use lib.Dec.{leb}
 use Rattle.tokens.specs.declared.Token.{Token}
-use Rattle.tokens.specs.declared.Token.the-variants.{Number, Symbol, Whole, Sign}
-use Rattle.syntax.specs.inside.Program.{Ins, ins, chooseOp}
+use Rattle.tokens.specs.declared.Token.the-variants.{Number}
+use Rattle.syntax.specs.Tree.{Expr, number}
+use Rattle.syntax.specs.inside.Program.{Ins, zeroF, ins, compile}
+use Rattle.syntax.specs.Grammar.{Derives, real, whole, named, prefixed, bracketed, called, called2, sides, chosen}
 use Rattle.expressions.specs.declared.Head.{Head}
 use Rattle.expressions.specs.declared.Head.the-variants.{Push, Unary, Open, Call, Call2, Bad}
 use Rattle.expressions.specs.declared.Tail.{Tail}
 use Rattle.expressions.specs.declared.Tail.the-variants.{Binary, Question, Stop}
 use Rattle.expressions.specs.Roles.{headOf, tailOf, headL, tailL}
-use Rattle.expressions.specs.Reader.{Res, no, ok, prepend, seq, sign, emit, Sys, lastly, byHead, right, parts, byTail, step, deep, reader}
-
-pub data All (P : List Ins → List Token → Type 0) : Res → Type 0 where
-  none : All P no
-  some : {c : List Ins} {r : List Token} → P c r → All P (ok c r)
-
-module _ {P Q : List Ins → List Token → Type 0} where
-  pub All-weaken : {x : Res} → All P x → ((c : List Ins) (r : List Token) → P c r → Q c r) → All Q x
-  All-weaken none f = none
-  All-weaken (some h) f = some (f _ _ h)
-
-  pub All-prepend : (c : List Ins) {x : Res} → All P x → ((d : List Ins) (q : List Token) → P d q → Q (c ++ d) q) → All Q (prepend c x)
-  All-prepend c none f = none
-  All-prepend c (some h) f = some (f _ _ h)
-
--- of two readings in a row
-pub All-seq : {P Q : List Ins → List Token → Type 0} {x : Res} (k : List Token → Res)
-    → All P x → ((c : List Ins) (r : List Token) → P c r → All (λ d q. Q (c ++ d) q) (k r)) → All Q (seq x k)
-All-seq k none f = none
-All-seq k (some {c = c} h) f = All-prepend c (f _ _ h) (λ d q h. h)
-
-pub All-cond : {Q : List Ins → List Token → Type 0} (b : Bool) (x y : Res) → (b ≡ true → All Q x) → (b ≡ false → All Q y) → All Q (cond b x y)
-All-cond true x y f g = f refl
-All-cond false x y f g = g refl
-
--- a sign was read, and nothing else
-abbrev pub Signed : ℕ → List Token → List Ins → List Token → Type 0
-Signed s ts c r = (c ≡ []) × (ts ≡ Sign s ∷ r)
-
-pub signed : (s : ℕ) (ts : List Token) → All (Signed s ts) (sign s ts)
-signed s [] = none
-signed s (Number x ∷ ts) = none
-signed s (Symbol n ∷ ts) = none
-signed s (Whole w ∷ ts) = none
-signed s (Sign k ∷ ts) = All-cond (eqb k s) (ok [] ts) no (λ e. some (refl, ap (λ z. Sign z ∷ ts) (eqb-true k s e))) (λ e. none)
-
-pub All-sign : {Q : List Ins → List Token → Type 0} (s : ℕ) (ts : List Token) (k : List Token → Res)
-    → ((r : List Token) → ts ≡ Sign s ∷ r → All Q (k r)) → All Q (seq (sign s ts) k)
-All-sign {Q} s ts k f = All-seq k (signed s ts) (λ c r h. rw (h .0) (f r (h .1)))
+use Rattle.expressions.specs.Reader.{Res, prepend, seq, emit, Sys, lastly, byHead, parts, byTail, step, deep, reader}
+use Rattle.expressions.proofs.Tables.{heads}
+use Rattle.expressions.proofs.Sound.{Sound, fit-any, right-sound, parts-sound, byHead-sound, deep-sound}
+pub use Rattle.expressions.proofs.Results.{by-arm, All, none, some, All-weaken, All-seq, All-cond, All-if, Signed, signed, All-sign, Reads, reads, All-read}
 
 -- ---- no more code than tokens
 
-abbrev pub Took : List Token → List Ins → List Token → Type 0
-Took ts c r = length c + length r ≤ length ts
-
 abbrev pub Read : List Token → List Ins → List Token → Type 0
-Read ts c r = Took ts c r × (length r < length ts)
+Read ts c r = (length c + length r ≤ length ts) × (length r < length ts)
 
 pub record Bounded (S : Sys) : Type 0 where
   pub expr : (m : ℕ) (ts : List Token) → All (Read ts) (S .expr m ts)
-  pub more : (m : ℕ) (ts : List Token) → All (Took ts) (S .more m ts)
+  pub more : (m : ℕ) (ts : List Token) → All (λ c r. length c + length r ≤ length ts) (S .more m ts)
 
--- the code of a reading that took one token more than it has instructions, and one instruction
-one-more : (c : List Ins) (i : Ins) (n k : ℕ) → length c + n < k → length (c ++ i ∷ []) + n ≤ k
-one-more c i n k h = simp length-append (omega arith)
+-- an expression has a token or more for each instruction of its code, and an instruction
+sized : {m : ℕ} {e : Expr} {ts : List Token} → Derives m e ts → (1 ≤ length (compile e)) × (length (compile e) ≤ length ts)
+unfolding compile
+sized (real x) = (omega arith, omega arith)
+sized (whole w) = (omega arith, omega arith)
+sized (named n) = (omega arith, omega arith)
+sized (prefixed p d) = let h = sized d in simp length-append (omega arith)
+sized (bracketed d) = let h = sized d in simp length-append (omega arith)
+sized (called p d) = let h = sized d in simp length-append (omega arith)
+sized (called2 p d f) = let h = sized d in let g = sized f in simp length-append (omega arith)
+sized (sides p le d f) = let h = sized d in let g = sized f in simp length-append (omega arith)
+sized (chosen d f k) = let h = sized d in let g = sized f in let i = sized k in simp length-append (omega arith)
 
-joined : (c d : List Ins) (n m k : ℕ) → length c + n ≤ k → length d + m ≤ n → length (c ++ d) + m ≤ k
-joined c d n m k f g = simp length-append (omega arith)
+took-tree : {m : ℕ} {e : Expr} {ts p : List Token} {c : List Ins} (r : List Token) → Derives m e p → ts ≡ p ++ r → c ≡ compile e → Read ts c r
+took-tree r d f g = let h = sized d in rw (f, g) (simp length-append (omega arith))
+
+bounded : (S : Sys) → Sound S → Bounded S
+unfolding compile
+bounded S X = record {
+  expr = λ m ts. All-weaken (X .expr m ts) (λ c r p. took-tree r (p .derives .0) (p .eq) (p .code));
+  -- behind a number
+  more = λ m ts.
+      All-weaken (X .more m ts (number zeroF) (Number zeroF ∷ []) (real zeroF) (fit-any (tailL ts) (λ j. real zeroF)))
+      (λ c r p. let h = took-tree r (p .derives .0) (p .eq) (p .code) in omega (arith, h .0));
+}
 
 module _ (S : Sys) (B : Bounded S) where
   -- two tokens more are taken than the last argument's code is long, and one instruction is given
@@ -86,68 +68,11 @@ module _ (S : Sys) (B : Bounded S) where
       let y = ap length f in
       some (simp length-append (omega (arith, h .0, h .1)), omega (arith, h .1)))))
 
-  byHead-took : (h : Head) (ts : List Token) → All (λ c r. (length c + length r ≤ suc (length ts)) × (length r ≤ length ts)) (byHead S h ts)
-  byHead-took (Push o a x) ts = some {c = record { op = o; arg = a; val = x } ∷ []} {r = ts} (omega arith, omega arith)
-  byHead-took (Unary o) ts = All-seq (emit (ins o)) (B .expr 7 ts) (λ c r h. some (simp length-append (omega (arith, h .0)), omega (arith, h .1)))
-  byHead-took Open ts =
-      All-seq (sign 16) (B .expr 0 ts) (λ c r h.
-      All-weaken (signed 16 r) (λ d q g.
-      let x = ap length (g .1) in
-      let y = ap length (g .0) in
-      (simp length-append (omega (arith, h .0)), omega (arith, h .1))))
-  byHead-took (Call o) ts = All-weaken (lastly-took 15 o ts) (λ c r h. (omega (arith, h .0), omega (arith, h .1)))
-  byHead-took (Call2 o) ts =
-      All-sign 15 ts _ (λ p e.
-      All-seq _ (B .expr 0 p) (λ c r h.
-      All-weaken (lastly-took 19 o r) (λ d q g.
-      let x = ap length e in
-      (simp length-append (omega (arith, h .0, g .0)), omega (arith, h .1, g .1)))))
-  byHead-took Bad ts = none
-
-  right-took : (o k : ℕ) (ts : List Token) → All (λ c r. length c + length r ≤ suc (length ts)) (right S o k ts)
-  right-took o k ts = All-seq (emit (ins o)) (B .expr k ts) (λ c r h. some (simp length-append (omega (arith, h .0))))
-
-  parts-took : (ts : List Token) → All (λ c r. length c + length r ≤ suc (length ts)) (parts S ts)
-  parts-took ts =
-      All-seq _ (B .expr 0 ts) (λ c r h.
-      All-sign 23 r _ (λ q e.
-      All-seq (emit (ins chooseOp)) (B .expr 0 q) (λ d u g.
-      let x = ap length e in
-      some (simp length-append (omega (arith, h .0, g .0))))))
-
-  byTail-took : (h : Tail) (m : ℕ) (t : Token) (ts : List Token) → All (Took (t ∷ ts)) (byTail S h m (t ∷ ts))
-  byTail-took (Binary o l) m t ts =
-      All-cond (leb m l) _ _
-      (λ e. All-seq (S .more m) (right-took o (suc l) ts) (λ c r h. All-weaken (B .more m r) (λ d q g. joined c d (length r) (length q) (suc (length ts)) h g)))
-      (λ e. some {c = []} {r = t ∷ ts} (omega arith))
-  byTail-took Question m t ts =
-      All-cond (leb m 0) _ _
-      (λ e. All-seq (S .more m) (parts-took ts) (λ c r h. All-weaken (B .more m r) (λ d q g. joined c d (length r) (length q) (suc (length ts)) h g)))
-      (λ e. some {c = []} {r = t ∷ ts} (omega arith))
-  byTail-took Stop m t ts = some {c = []} {r = t ∷ ts} (omega arith)
-
-  bounded-step : Bounded (step S)
-  bounded-step = record { expr = ex; more = mo }
-    where
-      ex : (m : ℕ) (ts : List Token) → All (Read ts) (step S .expr m ts)
-      ex m [] = none
-      ex m (t ∷ ts) = All-seq (S .more m) (byHead-took (headOf t) ts) (λ c r h.
-          All-weaken (B .more m r) (λ d q g. (joined c d (length r) (length q) (suc (length ts)) (h .0) g, omega (arith, h .1, g))))
-
-      mo : (m : ℕ) (ts : List Token) → All (Took ts) (step S .more m ts)
-      mo m [] = some {c = []} {r = []} (omega arith)
-      mo m (t ∷ ts) = byTail-took (tailOf t) m t ts
-
-pub deep-bounded : (n : ℕ) → Bounded (deep n)
-unfolding deep
-deep-bounded zero = record { expr = λ m ts. none; more = λ m ts. none }
-deep-bounded (suc n) = bounded-step (deep n) (deep-bounded n)
-
 pub reader-bounded : Bounded reader
 unfolding reader
 reader-bounded = record {
-  expr = λ m ts. deep-bounded (suc (length ts)) .expr m ts;
-  more = λ m ts. deep-bounded (suc (length ts)) .more m ts;
+  expr = λ m ts. bounded _ (deep-sound (suc (length ts))) .expr m ts;
+  more = λ m ts. bounded _ (deep-sound (suc (length ts))) .more m ts;
 }
 
 -- ---- two readers that agree on few tokens agree, a call deeper, on one more
@@ -168,7 +93,14 @@ record Agree (b : ℕ) (S R : Sys) : Type 0 where
   expr : (m : ℕ) (ts : List Token) → length ts < b → S .expr m ts ≡ R .expr m ts
   more : (m : ℕ) (ts : List Token) → length ts < b → S .more m ts ≡ R .more m ts
 
-module _ (S R : Sys) (b : ℕ) (B : Bounded S) (A : Agree b S R) where
+-- what is left of some tokens is no longer
+rest-short : (p r ts : List Token) → ts ≡ p ++ r → length r ≤ length ts
+rest-short p r ts e = rw e (simp length-append (omega arith))
+
+module _ (S R : Sys) (b : ℕ) (X : Sound S) (A : Agree b S R) where
+  B : Bounded S
+  B = bounded S X
+
   lastly-same : (s o : ℕ) (ts : List Token) → length ts < b → lastly S s o ts ≡ lastly R s o ts
   lastly-same s o ts lt =
       seq-same _ _ (signed s ts) refl (λ c p h.
@@ -193,23 +125,14 @@ module _ (S R : Sys) (b : ℕ) (B : Bounded S) (A : Agree b S R) where
       let x = ap length (g .1) in
       seq-same _ _ (B .expr 0 q) (A .expr 0 q (omega (arith, h .1))) (λ u v w. refl)))
 
-  right-short : (o k : ℕ) (ts : List Token) → All (λ c r. length r < length ts) (right S o k ts)
-  right-short o k ts = All-seq (emit (ins o)) (B .expr k ts) (λ c r h. some (h .1))
-
-  parts-short : (ts : List Token) → All (λ c r. length r < length ts) (parts S ts)
-  parts-short ts =
-      All-seq _ (B .expr 0 ts) (λ c r h.
-      All-sign 23 r _ (λ q e.
-      let x = ap length e in
-      All-seq (emit (ins chooseOp)) (B .expr 0 q) (λ d u g. some (omega (arith, h .1, g .1)))))
-
   byTail-same : (h : Tail) (m : ℕ) (t : Token) (ts : List Token) → length ts < b → byTail S h m (t ∷ ts) ≡ byTail R h m (t ∷ ts)
   byTail-same (Binary o l) m t ts lt =
       cond-same (leb m l) _ _ _
-      (seq-same _ _ (right-short o (suc l) ts) (ap (λ z. seq z (emit (ins o))) (A .expr (suc l) ts lt)) (λ c r h. A .more m r (omega (arith, h))))
+      (seq-same _ _ (right-sound S X o (suc l) ts) (ap (λ z. seq z (emit (ins o))) (A .expr (suc l) ts lt))
+      (λ c r h. A .more m r (omega (arith, rest-short (h .pre) r ts (h .eq)))))
   byTail-same Question m t ts lt =
       cond-same (leb m 0) _ _ _
-      (seq-same _ _ (parts-short ts) (parts-same ts lt) (λ c r h. A .more m r (omega (arith, h))))
+      (seq-same _ _ (parts-sound S X ts) (parts-same ts lt) (λ c r h. A .more m r (omega (arith, rest-short (h .pre) r ts (h .eq)))))
   byTail-same Stop m t ts lt = refl
 
   agree-step : Agree (suc b) (step S) (step R)
@@ -217,7 +140,9 @@ module _ (S R : Sys) (b : ℕ) (B : Bounded S) (A : Agree b S R) where
     where
       ex : (m : ℕ) (ts : List Token) → length ts < suc b → step S .expr m ts ≡ step R .expr m ts
       ex m [] lt = refl
-      ex m (t ∷ ts) lt = seq-same _ _ (byHead-took S B (headOf t) ts) (byHead-same (headOf t) ts (omega arith)) (λ c r h. A .more m r (omega (arith, h .1)))
+      ex m (t ∷ ts) lt =
+          seq-same _ _ (byHead-sound S X t ts (heads t)) (byHead-same (headOf t) ts (omega arith))
+          (λ c r h. A .more m r (omega (arith, took-tree r (h .derives 0) (h .eq) (h .code) .1)))
 
       mo : (m : ℕ) (ts : List Token) → length ts < suc b → step S .more m ts ≡ step R .more m ts
       mo m [] lt = refl
@@ -227,7 +152,7 @@ module _ (S R : Sys) (b : ℕ) (B : Bounded S) (A : Agree b S R) where
 deep-agree : (n k : ℕ) → Agree n (deep n) (deep (n + k))
 unfolding deep
 deep-agree zero k = record { expr = λ m ts lt. absurd (omega arith); more = λ m ts lt. absurd (omega arith) }
-deep-agree (suc n) k = rw suc-add (agree-step (deep n) (deep (n + k)) n (deep-bounded n) (deep-agree n k))
+deep-agree (suc n) k = rw suc-add (agree-step (deep n) (deep (n + k)) n (deep-sound n) (deep-agree n k))
 
 -- as deep as s, or deeper
 deeper : (s n : ℕ) → s ≤ n → Agree s (deep s) (deep n)
@@ -243,8 +168,8 @@ reader-agree b = record {
 -- the reader's equations
 pub expr·law : (m : ℕ) (ts : List Token) → reader .expr m ts ≡ seq (byHead reader (headL ts) (drop 1 ts)) (reader .more m)
 unfolding reader deep
-expr·law m ts = agree-step (deep (length ts)) reader (length ts) (deep-bounded (length ts)) (reader-agree (length ts)) .expr m ts (omega arith)
+expr·law m ts = agree-step (deep (length ts)) reader (length ts) (deep-sound (length ts)) (reader-agree (length ts)) .expr m ts (omega arith)
 
 pub more·law : (m : ℕ) (ts : List Token) → reader .more m ts ≡ byTail reader (tailL ts) m ts
 unfolding reader deep
-more·law m ts = agree-step (deep (length ts)) reader (length ts) (deep-bounded (length ts)) (reader-agree (length ts)) .more m ts (omega arith)
+more·law m ts = agree-step (deep (length ts)) reader (length ts) (deep-sound (length ts)) (reader-agree (length ts)) .more m ts (omega arith)

@@ -1,9 +1,10 @@
 pub mod Toks
 pub mod Moves
-pub mod Laws
+pub mod Results
 pub mod Tables
-pub mod Complete
 pub mod Sound
+pub mod Laws
+pub mod Complete
 pub mod Unique
 pub mod Runs
 pub mod Examples

@@ -1,7 +1,7 @@
 -- The ways through the small functions: what a token starts, past a sign, and one instruction more.
 use Prim.Native.Nat.{ℕ, zero, suc, _+_, _<_}
 use native.Mathlib.Omega.{arith}
-use mathlib.Core.Path.{_≡_, sym, _∙_}
+use mathlib.Core.Path.{_≡_, refl, sym, _∙_}
 use mathlib.Core.List.{List, [], _∷_}
 use mathlib.Core.Bool.{Bool, true, false}
 use lib.ListN.{length, drop, set}
@@ -25,11 +25,15 @@ whole-head e f = rw (e, f)
 pub sign-told : {t : Token} {k : ℕ} (s : ℕ) → t ≡ Sign k → eqb k s ≡ isSign t s
 sign-told s e = rw e
 
+-- what says more than past the end stands at a token
+pub in-tokens : {A : Type 0} (f : List Token → A) (ts : List Token) (at : ℕ) → (f (drop at ts) ≡ f [] → ⊥) → at < length ts
+in-tokens f [] zero n = absurd (n refl)
+in-tokens f [] (suc at) n = absurd (n refl)
+in-tokens f (t ∷ ts) zero n = omega arith
+in-tokens f (t ∷ ts) (suc at) n = let h = in-tokens f ts at n in omega arith
+
 pub sign-in : (ts : List Token) (at s : ℕ) → signL (drop at ts) s ≡ true → at < length ts
-sign-in [] zero s e = let z : _≡_ {A = ℕ} 0 1 = cc in absurd (omega arith)
-sign-in [] (suc at) s e = let z : _≡_ {A = ℕ} 0 1 = cc in absurd (omega arith)
-sign-in (t ∷ ts) zero s e = omega arith
-sign-in (t ∷ ts) (suc at) s e = let h = sign-in ts at s e in omega arith
+sign-in ts at s e = in-tokens (λ l. signL l s) ts at (λ n. let z : _≡_ {A = ℕ} 0 1 = cc in omega arith)
 
 pub sign-fits : (ks ws : List ℕ) (xs : List Float) (at s : ℕ) {b : Bool} → b ≡ signL (drop at (toks ks ws xs)) s → b ≡ true → at < length ks
 sign-fits ks ws xs at s e f = rw length-toks at (sign-in (toks ks ws xs) at s (sym e ∙ f))

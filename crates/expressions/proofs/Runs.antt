@@ -2,7 +2,7 @@
 use Prim.Native.Nat.{ℕ, suc, _+_, _-_, _≤_, _<_}
 use native.Mathlib.Nat.{add-zero}
 use native.Mathlib.Omega.{arith}
-use mathlib.Core.Path.{_≡_, refl, sym, ap, _∙_}
+use mathlib.Core.Path.{_≡_, refl, sym, ap, _∙_, subst}
 use mathlib.Core.List.{List, [], _∷_, _++_, map}
 use mathlib.Core.Bool.{Bool, true, false, cond}
 use lib.ListN.{length, take, drop, set, length-append, length-drop, length-map}
@@ -16,7 +16,7 @@ use Rattle.expressions.specs.Roles.{signL}
 use Rattle.expressions.specs.Reader.{Res, ok, seq, sign, emit}
 use Rattle.expressions.specs.Areas.{Areas, opOf, argOf, valOf, stored, storedAt, oneMore, passed, left, Holds, Place, Ready, gone, come, Runs, refused, done, StoredStays}
 use Rattle.expressions.proofs.Moves.{sign-in}
-use Rattle.expressions.proofs.Laws.{All, some, Took}
+use Rattle.expressions.proofs.Results.{All, some, All-weaken}
 
 -- ---- stores in a row
 
@@ -75,27 +75,43 @@ runs-seq {ts} k {m = m} {u = u} (done at out to c e v le f s) (done at′ out′
 pub drop-one : (ts : List Token) (at : ℕ) → drop 1 (drop at ts) ≡ drop (at + 1) ts
 drop-one ts at = drop-drop 1 at ts
 
-module _ {ts : List Token} {f : List Token → Res} {at out : ℕ} {m n : Areas} {h : Got} where
-  pub runs-after : Runs ts f (Next (at + 1) out) m h n → Runs ts (λ z. f (drop 1 z)) (Next at out) m h n
-  runs-after (gone e x q) = let z : _≡_ {A = ℕ} 0 1 = cc in absurd (omega arith)
-  runs-after (refused at′ out′ c e v x s) =
-      let p : at′ ≡ at + 1 = cc in
-      let q : out′ ≡ out = cc in
-      refused at out c refl (ap f (drop-one ts at ∙ ap (λ z. drop z ts) (sym p)) ∙ v) x (rw q at s)
-  runs-after (done at′ out′ to c e v le x s) =
-      let p : at′ ≡ at + 1 = cc in
-      let q : out′ ≡ out = cc in
-      done at out to c refl (ap f (drop-one ts at ∙ ap (λ z. drop z ts) (sym p)) ∙ v) le (rw q at x) (rw q at s)
+module _ {ts : List Token} {f : List Token → Res} {m n : Areas} {h : Got} where
+  -- another definition that reads from p what f reads from at
+  runs-from : (k : List Token → Res) (at p : ℕ) {out : ℕ} {g i : Got} → g ≡ Next at out → i ≡ Next p out → k (drop p ts) ≡ f (drop at ts) → Runs ts f g m h n
+      → Runs ts k i m h n
+  runs-from k at p q j l (gone e x s) = let z : _≡_ {A = ℕ} 0 1 = cc in absurd (omega arith)
+  runs-from k at p {out} q j l (refused a o c e v x s) =
+      let y : at ≡ a = cc in
+      let w : o ≡ out = cc in
+      refused p out c j (l ∙ ap (λ z. f (drop z ts)) y ∙ v) x (rw w at s)
+  runs-from k at p {out} q j l (done a o to c e v le x s) =
+      let y : at ≡ a = cc in
+      let w : o ≡ out = cc in
+      done p out to c j (l ∙ ap (λ z. f (drop z ts)) y ∙ v) le (rw w at x) (rw w at s)
 
-  -- another definition that reads the same there
-  pub runs-as : {g : Got} (k : List Token → Res) → g ≡ Next at out → k (drop at ts) ≡ f (drop at ts) → Runs ts f g m h n → Runs ts k g m h n
-  runs-as k q l (gone e x s) = gone e x s
-  runs-as k q l (refused at′ out′ c e v x s) =
-      let p : at′ ≡ at = cc in
-      refused at′ out′ c e (ap (λ z. k (drop z ts)) p ∙ l ∙ ap (λ z. f (drop z ts)) (sym p) ∙ v) x s
-  runs-as k q l (done at′ out′ to c e v le x s) =
-      let p : at′ ≡ at = cc in
-      done at′ out′ to c e (ap (λ z. k (drop z ts)) p ∙ l ∙ ap (λ z. f (drop z ts)) (sym p) ∙ v) le x s
+  pub runs-after : {at out : ℕ} → Runs ts f (Next (at + 1) out) m h n → Runs ts (λ z. f (drop 1 z)) (Next at out) m h n
+  runs-after {at} = runs-from _ (at + 1) at refl refl (ap f (drop-one ts at))
+
+  pub runs-as : {at out : ℕ} {g : Got} (k : List Token → Res) → g ≡ Next at out → k (drop at ts) ≡ f (drop at ts) → Runs ts f g m h n → Runs ts k g m h n
+  runs-as {at} k q l = runs-from k at at q q l
+
+-- the same reading by another name, and to the same place by another name
+pub runs-law : {ts : List Token} {f : List Token → Res} (k : List Token → Res) {g h : Got} {m n : Areas} → ((z : List Token) → k z ≡ f z)
+    → Runs ts f g m h n → Runs ts k g m h n
+runs-law k l (gone e x q) = gone e x q
+runs-law {ts} k l (refused at out c e v x q) = refused at out c e (l (drop at ts) ∙ v) x q
+runs-law {ts} k l (done at out to c e v le x s) = done at out to c e (l (drop at ts) ∙ v) le x s
+
+pub runs-to : {ts : List Token} {f : List Token → Res} {g h k : Got} {m n : Areas} → h ≡ k → Runs ts f g m h n → Runs ts f g m k n
+runs-to {ts} {f} {g} {m = m} {n = n} e r = subst (λ (z : Got). Runs ts f g m z n) e r
+
+-- a reader that goes by its first token, where that says h
+pub runs-by : {K : Type 0} (ts : List Token) (at : ℕ) {out : ℕ} {g r : Got} {m n : Areas} (F : List Token → Res) (L : List Token → K)
+    (by : K → List Token → Res) {k : K} (h : K) (f : List Token → Res) → ((z : List Token) → F z ≡ by (L z) z) → ((z : List Token) → by h z ≡ f (drop 1 z)) → g ≡ Next at out → k ≡ L (drop at ts) → k ≡ h
+    → Runs ts f (Next (at + 1) out) m r n → Runs ts F g m r n
+runs-by ts at F L by h f law l q x y w =
+    let z : L (drop at ts) ≡ h = sym x ∙ y in
+    rw q (runs-as F refl (law (drop at ts) ∙ rw z (l (drop at ts))) (runs-after w))
 
 pub runs-sign : (ts : List Token) (s : ℕ) (g : Got) {h : Got} {m : Areas} → h ≡ passed s ts g → Runs ts (sign s) g m h m
 runs-sign ts s Refused e = gone refl e refl
@@ -149,28 +165,45 @@ module _ {ts : List Token} {k : ℕ} {g : Got} {m : Areas} where
       go true f q = let lt = sign-in ts at s f in come (at + 1) out q (omega arith) (holds-less (omega arith) r)
       go false f q = gone q
 
-  pub ready-runs : {f : List Token → Res} {h : Got} {n : Areas} → ((z : List Token) → All (Took z) (f z)) → Ready ts k g m → Runs ts f g m h n
-      → Ready ts k h n
-  ready-runs b r (gone e x q) = gone x
-  ready-runs b r (refused at out c e v x q) = gone x
-  ready-runs b (gone q) (done at out to c e v le x s) = let z : _≡_ {A = ℕ} 0 1 = cc in absurd (omega arith)
-  ready-runs b (come p o q l r) (done at out to c e v le x s) =
-      let y : p ≡ at = cc in
-      let w : o ≡ out = cc in
-      let t = took-of (b (drop at ts)) v in
-      come to (out + length c) x le (rw s (holds-stored out c (holds-less (omega (arith, t, length-drop to ts, length-drop at ts)) r)))
-
-pub left-runs : {ts : List Token} {f : List Token → Res} {g h : Got} {m n : Areas} → ((z : List Token) → All (Took z) (f z)) → Runs ts f g m h n → left ts h ≤ left ts g
-left-runs b (gone e x q) = rw (x, e) (omega arith)
-left-runs b (refused at out c e v x q) = rw x (omega arith)
-left-runs {ts} b (done at out to c e v le x s) =
-    let t = took-of (b (drop at ts)) v in
-    rw (x, e) (omega (arith, t, length-drop to ts, length-drop at ts))
-
 -- room, and fewer tokens left than t
 pub record Past (ts : List Token) (t k : ℕ) (g : Got) (m : Areas) : Type 0 where
   pub ready : Ready ts k g m
   pub less : left ts g < t
+
+-- a reading of surplus j takes j tokens more than it gives instructions
+pub record Took (j : ℕ) (ts : List Token) (c : List Ins) (r : List Token) : Type 0 where
+  pub room : length c + j + length r ≤ length ts
+
+module _ {ts : List Token} {f : List Token → Res} {g h : Got} {m n : Areas} (j : ℕ) (b : (z : List Token) → All (Took j z) (f z)) where
+  -- so that there is room for j more instructions
+  pub ready-took : {k : ℕ} → Ready ts k g m → Runs ts f g m h n → Ready ts (k + j) h n
+  ready-took r (gone e x q) = gone x
+  ready-took r (refused at out c e v x q) = gone x
+  ready-took (gone q) (done at out to c e v le x s) = let z : _≡_ {A = ℕ} 0 1 = cc in absurd (omega arith)
+  ready-took (come p o q l r) (done at out to c e v le x s) =
+      let y : p ≡ at = cc in
+      let w : o ≡ out = cc in
+      let t = took-of (b (drop at ts)) v in
+      come to (out + length c) x le (rw s (holds-stored out c (holds-less (omega (arith, t .room, length-drop to ts, length-drop at ts)) r)))
+
+  -- and the tokens left never grow
+  left-keeps : Runs ts f g m h n → left ts h ≤ left ts g
+  left-keeps (gone e x q) = rw (x, e) (omega arith)
+  left-keeps (refused at out c e v x q) = rw x (omega arith)
+  left-keeps (done at out to c e v le x s) = let t = took-of (b (drop at ts)) v in rw (x, e) (omega (arith, t .room, length-drop to ts, length-drop at ts))
+
+  pub left-took : (at : ℕ) {out : ℕ} → Runs ts f g m h n → h ≡ Next at out → left ts h + j ≤ left ts g
+  left-took at (gone e x s) q = let z : _≡_ {A = ℕ} 0 1 = cc in absurd (omega arith)
+  left-took at (refused p o c e v x s) q = let z : _≡_ {A = ℕ} 0 1 = cc in absurd (omega arith)
+  left-took at (done p o to c e v le x s) q = let t = took-of (b (drop p ts)) v in rw (x, e) (omega (arith, t .room, length-drop to ts, length-drop p ts))
+
+  pub past-took : {t k : ℕ} → Past ts t k g m → Runs ts f g m h n → Past ts t (k + j) h n
+  past-took p r = record { ready = ready-took (p .ready) r; less = omega (arith, p .less, left-keeps r) }
+
+-- a first reading that took a token more than it gave instructions
+pub past-first : {ts : List Token} {f : List Token → Res} {t k : ℕ} {g h : Got} {m n : Areas} (j : ℕ) {at out : ℕ} → ((z : List Token) → All (Took (suc j) z) (f z))
+    → Ready ts k g m → left ts g ≡ t → Runs ts f g m h n → h ≡ Next at out → Past ts t (k + suc j) h n
+past-first j {at} b r e x q = record { ready = ready-took (suc j) b r x; less = omega (arith, left-took (suc j) b at x q) }
 
 left-passed : (ts : List Token) (s : ℕ) (g : Got) → left ts (passed s ts g) ≤ left ts g
 left-passed ts s Refused = omega arith
@@ -191,8 +224,11 @@ module _ {ts : List Token} {t k : ℕ} {g : Got} {m : Areas} where
   pub past-place : Past ts t (suc k) g m → Place g m
   past-place p = ready-place (p .ready)
 
-  pub past-runs : {f : List Token → Res} {h : Got} {n : Areas} → ((z : List Token) → All (Took z) (f z)) → Past ts t k g m → Runs ts f g m h n → Past ts t k h n
-  past-runs b p r = record { ready = ready-runs b (p .ready) r; less = omega (arith, p .less, left-runs b r) }
+  pub past-runs : {f : List Token → Res} {h : Got} {n : Areas} → ((z : List Token) → All (λ c r. length c + length r ≤ length z) (f z)) → Past ts t k g m
+      → Runs ts f g m h n → Past ts t k h n
+  past-runs b p r =
+      let q = past-took 0 (λ z. All-weaken (b z) (λ c r h. record { room = omega arith })) p r in
+      record { ready = ready-less (omega arith) (q .ready); less = q .less }
 
   pub past-sign : (s : ℕ) {h : Got} → Past ts t k g m → h ≡ passed s ts g → Past ts t (suc k) h m
   past-sign s p e = record { ready = ready-sign s (p .ready) e; less = rw e (omega (arith, p .less, left-passed ts s g)) }

@@ -3,7 +3,7 @@ use Prim.Native.Nat.{ℕ, _≤_, _<_}
 use native.Mathlib.Omega.{arith}
 use mathlib.Core.Path.{_≡_, refl, ap}
 use mathlib.Core.List.{[], _∷_}
-use mathlib.Core.Bool.{Bool, true, false, cond}
+use mathlib.Core.Bool.{Bool, true, cond}
 use lib.Dec.{eqb}
 use lib.Ieee.{Float}
 use borrow.Author.Tests.{eqb-true}
@@ -21,10 +21,10 @@ use Rattle.expressions.specs.declared.Tail.the-variants.{Binary, Questio
 use Rattle.expressions.specs.Roles.{headSign, headOf, tailSign, tailOf}
 use Rattle.syntax.specs.Grammar as G
 use Rattle.syntax.specs.Grammar.{sign, Derives, real, whole, named, Binds, Prefix, or, and, equal, unequal, less, greater, atMost, atLeast, plus, minus, times, over, negative, not, abs, sgn, int, frac, min, max}
+use Rattle.expressions.proofs.Results.{by-arm}
 
 split : {A : Type 0} (P : A → Type 0) (b : Bool) (x y : A) → (b ≡ true → P x) → P y → P (cond b x y)
-split P true x y f g = f refl
-split P false x y f g = g
+split P b x y f g = by-arm P b x y f (λ e. g)
 
 -- a token that is pushed is a number or a name
 pub record Atom (t : Token) (i : Ins) : Type 0 where
@@ -82,33 +82,26 @@ tails (Sign s) =
     (split P (eqb s 34) (Binary 34 6) _ (λ e. binary (ap Sign (eqb-true s 34 e)) times)
     (split P (eqb s 35) (Binary 35 6) Stop (λ e. binary (ap Sign (eqb-true s 35 e)) over) stop))))))))))))
 
-pub levels : {o : O.Binary} {l : ℕ} → Binds o l → (1 ≤ l) × (l < 7)
-levels or = (omega arith, omega arith)
-levels and = (omega arith, omega arith)
-levels equal = (omega arith, omega arith)
-levels unequal = (omega arith, omega arith)
-levels less = (omega arith, omega arith)
-levels greater = (omega arith, omega arith)
-levels atMost = (omega arith, omega arith)
-levels atLeast = (omega arith, omega arith)
-levels plus = (omega arith, omega arith)
-levels minus = (omega arith, omega arith)
-levels times = (omega arith, omega arith)
-levels over = (omega arith, omega arith)
+-- an operator's sign is its own, and its level is from 1 to 6
+operator : {o : O.Binary} {l : ℕ} → Binds o l → (tailSign (binaryOp o) ≡ Binary (binaryOp o) l) × ((1 ≤ l) × (l < 7))
+operator or = (refl, (omega arith, omega arith))
+operator and = (refl, (omega arith, omega arith))
+operator equal = (refl, (omega arith, omega arith))
+operator unequal = (refl, (omega arith, omega arith))
+operator less = (refl, (omega arith, omega arith))
+operator greater = (refl, (omega arith, omega arith))
+operator atMost = (refl, (omega arith, omega arith))
+operator atLeast = (refl, (omega arith, omega arith))
+operator plus = (refl, (omega arith, omega arith))
+operator minus = (refl, (omega arith, omega arith))
+operator times = (refl, (omega arith, omega arith))
+operator over = (refl, (omega arith, omega arith))
 
 pub tail-operator : {o : O.Binary} {l : ℕ} → Binds o l → tailSign (binaryOp o) ≡ Binary (binaryOp o) l
-tail-operator or = refl
-tail-operator and = refl
-tail-operator equal = refl
-tail-operator unequal = refl
-tail-operator less = refl
-tail-operator greater = refl
-tail-operator atMost = refl
-tail-operator atLeast = refl
-tail-operator plus = refl
-tail-operator minus = refl
-tail-operator times = refl
-tail-operator over = refl
+tail-operator b = operator b .0
+
+pub levels : {o : O.Binary} {l : ℕ} → Binds o l → (1 ≤ l) × (l < 7)
+levels b = operator b .1
 
 pub head-prefix : {o : O.Unary} → Prefix o → headSign (S.number (unarySign o)) ≡ Unary (unaryOp o)
 head-prefix negative = refl
@@ -124,10 +117,16 @@ pub head-call2 : {o : O.Binary} → G.Call2 o → headSign (binaryOp o) ≡ Call
 head-call2 min = refl
 head-call2 max = refl
 
+-- a token that does not go on with an expression of level m
+abbrev pub Ends : ℕ → Tail → Type 0
+Ends m (Binary o l) = l < m
+Ends m Question = 0 < m
+Ends m Stop = Unit {0}
+
 -- ---- a sign by its number
 
-pub sign-starts : {t : Token} {s : ℕ} (k : ℕ) {h : Head} → h ≡ headSign k → t ≡ Sign s → s ≡ k → h ≡ headOf t
+pub sign-starts : (k : ℕ) {t : Token} {s : ℕ} {h : Head} → h ≡ headSign k → t ≡ Sign s → s ≡ k → h ≡ headOf t
 sign-starts k e f g = rw (f, g) e
 
-pub sign-goes-on : {t : Token} {s : ℕ} (k : ℕ) {h : Tail} → h ≡ tailSign k → t ≡ Sign s → s ≡ k → h ≡ tailOf t
+pub sign-goes-on : (k : ℕ) {t : Token} {s : ℕ} {h : Tail} → h ≡ tailSign k → t ≡ Sign s → s ≡ k → h ≡ tailOf t
 sign-goes-on k e f g = rw (f, g) e

@@ -8,11 +8,7 @@ use lib.ListN.{length, drop, getD, drop-of-length-le}
 use lib.Ieee.{Float}
 use Rattle.tokens.specs.inside.Token.{tokenAt, zeroF, toks}
 use Rattle.tokens.specs.declared.Token.{Token}
-use Rattle.expressions.specs.declared.Head.{Head}
-use Rattle.expressions.specs.declared.Head.the-variants.{Bad}
-use Rattle.expressions.specs.declared.Tail.{Tail}
-use Rattle.expressions.specs.declared.Tail.the-variants.{Stop}
-use Rattle.expressions.specs.Roles.{headOf, tailOf, isSign, headL, tailL, signL}
+use Rattle.expressions.specs.Roles.{isSign, signL}
 
 pub length-toks : (ks ws : List ℕ) (xs : List Float) → length (toks ks ws xs) ≡ length ks
 unfolding toks
@@ -33,21 +29,17 @@ drop-toks (k ∷ ks) ws xs (suc at) lt =
 pub drop-past : (ks ws : List ℕ) (xs : List Float) (at : ℕ) → length ks ≤ at → drop at (toks ks ws xs) ≡ []
 drop-past ks ws xs at le = drop-of-length-le (toks ks ws xs) {i = at} (rw length-toks le)
 
-module _ (ks ws : List ℕ) (xs : List Float) (at : ℕ) where
-  pub head-here : {t : Token} {h : Head} → at < length ks → t ≡ tokenAt ks ws xs at → h ≡ headOf t → h ≡ headL (drop at (toks ks ws xs))
-  head-here lt e f = rw (drop-toks ks ws xs at lt) (f ∙ ap headOf e)
+-- what the tokens say from a place on: by the token there, or past the last of them
+module _ {A : Type 0} (f : List Token → A) (ks ws : List ℕ) (xs : List Float) (at : ℕ) {h : A} where
+  pub here : {t : Token} → at < length ks → t ≡ tokenAt ks ws xs at → h ≡ f (t ∷ drop (suc at) (toks ks ws xs)) → h ≡ f (drop at (toks ks ws xs))
+  here lt e g = rw (drop-toks ks ws xs at lt) (g ∙ ap (λ z. f (z ∷ drop (suc at) (toks ks ws xs))) e)
 
-  pub head-past : length ks ≤ at → Bad ≡ headL (drop at (toks ks ws xs))
-  head-past le = rw (drop-past ks ws xs at le)
+  pub past : length ks ≤ at → h ≡ f [] → h ≡ f (drop at (toks ks ws xs))
+  past le e = rw (drop-past ks ws xs at le) e
 
-  pub tail-here : {t : Token} {h : Tail} → at < length ks → t ≡ tokenAt ks ws xs at → h ≡ tailOf t → h ≡ tailL (drop at (toks ks ws xs))
-  tail-here lt e f = rw (drop-toks ks ws xs at lt) (f ∙ ap tailOf e)
+module _ (ks ws : List ℕ) (xs : List Float) (at s : ℕ) where
+  pub sign-here : {t : Token} {b : Bool} → at < length ks → t ≡ tokenAt ks ws xs at → b ≡ isSign t s → b ≡ signL (drop at (toks ks ws xs)) s
+  sign-here = here (λ l. signL l s) ks ws xs at
 
-  pub tail-past : length ks ≤ at → Stop ≡ tailL (drop at (toks ks ws xs))
-  tail-past le = rw (drop-past ks ws xs at le)
-
-  pub sign-here : (s : ℕ) {t : Token} {b : Bool} → at < length ks → t ≡ tokenAt ks ws xs at → b ≡ isSign t s → b ≡ signL (drop at (toks ks ws xs)) s
-  sign-here s lt e f = rw (drop-toks ks ws xs at lt) (f ∙ ap (λ z. isSign z s) e)
-
-  pub sign-past : (s : ℕ) → length ks ≤ at → false ≡ signL (drop at (toks ks ws xs)) s
-  sign-past s le = rw (drop-past ks ws xs at le)
+  pub sign-past : length ks ≤ at → false ≡ signL (drop at (toks ks ws xs)) s
+  sign-past le = past (λ l. signL l s) ks ws xs at le refl

@@ -91,7 +91,7 @@ prepend-nil : (x : Res) → prepend [] x ≡ x
 prepend-nil no = refl
 prepend-nil (ok c r) = refl
 
-kind-reads : {k : ℕ} {ks : List Token} → Kinds k ks → {ns : List ℕ} {ts : List Token} → Names ns ts → (q : List Token) (D : List Token → Res)
+pub kind-reads : {k : ℕ} {ks : List Token} → Kinds k ks → {ns : List ℕ} {ts : List Token} → Names ns ts → (q : List Token) (D : List Token → Res)
     → byLead D (leadL (ks ++ (ts ++ Sign 20 ∷ q))) (ks ++ (ts ++ Sign 20 ∷ q)) ≡ prepend (declare k ns) (D q)
 kind-reads ivar s q D = rw (listed-reads s 2 q)
 kind-reads ksig s q D = rw (listed-reads s 3 q)
@@ -108,7 +108,7 @@ declarations-reads (some·decls {k = k} {ks = ks} {ns = ns} {ts = ts} {ds = ds} 
     ∙ kind-reads K N (us ++ r) declarations
     ∙ rw (declarations-reads D r h)
 
-fields-reads : {fs : List ℕ} {ts : List Token} → Fields fs ts → (q : List Token) → fields (ts ++ Sign 16 ∷ q) ≡ ok (declare fieldKind fs) (Sign 16 ∷ q)
+pub fields-reads : {fs : List ℕ} {ts : List Token} → Fields fs ts → (q : List Token) → fields (ts ++ Sign 16 ∷ q) ≡ ok (declare fieldKind fs) (Sign 16 ∷ q)
 unfolding declare
 fields-reads no·fields q = refl
 fields-reads (some·fields (one n)) q = names-reads (one n) fieldKind (Sign 16 ∷ q) refl

@@ -1,6 +1,6 @@
 pub mod Firsts
 pub mod Results
-pub mod Whole
+pub mod Steady
 pub mod Steps
 pub mod Complete
 pub mod Sound

@@ -14,33 +14,21 @@ use Rattle.expressions.specs.Roles.{signL}
 use Rattle.expressions.specs.Reader.{Res, ok, emit}
 use Rattle.expressions.specs.Areas.{Areas, left, Ready, gone, Runs, refused}
 use Rattle.expressions.proofs.Laws.{All}
-use Rattle.expressions.proofs.Moves.{sign-in}
-use Rattle.expressions.proofs.Runs.{runs-seq, runs-as, runs-after, stays, Past, past-start}
+use Rattle.expressions.proofs.Moves.{in-tokens, sign-in}
+use Rattle.expressions.proofs.Runs.{runs-seq, runs-as, runs-after, runs-by, stays, Past, past-start, runs-law, runs-to, ready-took, left-took, Took}
 use Rattle.grammar.specs.declared.Lead.{Lead}
 use Rattle.grammar.specs.declared.Lead.the-variants.{Kind, Imports, Stop}
 use Rattle.grammar.specs.declared.Word.{Word}
 use Rattle.grammar.specs.declared.Word.the-variants.{Is, Not}
 use Rattle.grammar.specs.Starts.{leadL, wordL}
-use Rattle.grammar.specs.Reader.{name, names, byLead, declarations, stepDeclarations, fields, instrument, orchestra, none}
-use Rattle.grammar.proofs.Results.{Took}
-use Rattle.grammar.proofs.Whole.{whole-took}
+use Rattle.grammar.specs.Reader.{byWord, name, names, byLead, declarations, stepDeclarations, fields, instrument, orchestra, none}
+use Rattle.grammar.proofs.Steady.{whole-took}
 use Rattle.grammar.proofs.Steps.{steady-declarations, declarations·law, names·law, orchestra·law, name-took, instrument-took}
-use Rattle.statement_reader.proofs.Past.{runs-law, runs-to, ready-took, left-took}
 
 -- ---- a name
 
-abbrev IsWord : Word → Type 0
-IsWord (Is n) = Unit {0}
-IsWord Not = ⊥
-
-word-there : (ts : List Token) (at : ℕ) → IsWord (wordL (drop at ts)) → at < length ts
-word-there [] zero f = absurd f
-word-there [] (suc at) f = absurd f
-word-there (t ∷ ts) zero f = omega arith
-word-there (t ∷ ts) (suc at) f = let h = word-there ts at f in omega arith
-
 pub word-in : (ts : List Token) (at : ℕ) {k : Word} {n : ℕ} → k ≡ wordL (drop at ts) → k ≡ Is n → at < length ts
-word-in ts at e q = word-there ts at (rw (sym e ∙ q) tt)
+word-in ts at e q = in-tokens wordL ts at (λ x. let z : _≡_ {A = ℕ} 0 1 = cc in omega arith)
 
 -- room for one instruction after the first token
 pub ready-next : {ts : List Token} {k at out : ℕ} {g : Got} {m : Areas} → Ready ts k g m → g ≡ Next at out → at < length ts
@@ -49,9 +37,7 @@ ready-next r q lt = past-start r q refl lt .ready
 
 pub name-as : (ts : List Token) (o at : ℕ) {out n : ℕ} {g r : Got} {m u : Areas} {k : Word} → g ≡ Next at out → k ≡ wordL (drop at ts) → k ≡ Is n
     → Runs ts (emit (insArg o n)) (Next (at + 1) out) m r u → Runs ts (name o) g m r u
-name-as ts o at {n = n} q x y w =
-    let z : wordL (drop at ts) ≡ Is n = sym x ∙ y in
-    rw q (runs-as (name o) refl (rw z) (runs-after w))
+name-as ts o at {n = n} = runs-by ts at (name o) wordL (λ k z. byWord o k (drop 1 z)) (Is n) (emit (insArg o n)) (λ z. refl) (λ z. refl)
 
 pub name-no : (ts : List Token) (o at : ℕ) {out : ℕ} {g : Got} {m : Areas} {k : Word} → g ≡ Next at out → k ≡ wordL (drop at ts) → k ≡ Not
     → Runs ts (name o) g m Refused m
@@ -83,7 +69,7 @@ module _ (ts : List Token) (k at : ℕ) {out : ℕ} {g h : Got} {m n : Areas} (x
     names-past r f y =
         let v = runs-to q x in
         let lt = sign-in ts at 19 (sym e ∙ y) in
-        let l = left-took 0 at (name-took k) v refl in
+        let l = left-took 0 (name-took k) at v refl in
         let p = past-start (ready-took 0 (name-took k) r v) refl refl lt in
         record { ready = p .ready; less = omega (arith, p .less) }
 
@@ -94,14 +80,8 @@ Leads (Kind k) = Unit {0}
 Leads Imports = Unit {0}
 Leads Stop = ⊥
 
-lead-there : (ts : List Token) (at : ℕ) → Leads (leadL (drop at ts)) → at < length ts
-lead-there [] zero f = absurd f
-lead-there [] (suc at) f = absurd f
-lead-there (t ∷ ts) zero f = omega arith
-lead-there (t ∷ ts) (suc at) f = let h = lead-there ts at f in omega arith
-
 pub lead-in : (ts : List Token) (at : ℕ) {k h : Lead} → k ≡ leadL (drop at ts) → k ≡ h → Leads h → at < length ts
-lead-in ts at e q f = lead-there ts at (rw (sym e ∙ q) f)
+lead-in ts at {h = h} e q f = in-tokens leadL ts at (λ n. let z : h ≡ Stop = cc in rw z at f)
 
 pub lead-past : (ts : List Token) {t : ℕ} {g : Got} {m : Areas} (at : ℕ) {out : ℕ} {k h : Lead} → Ready ts 0 g m → left ts g ≡ t → g ≡ Next at out
     → k ≡ leadL (drop at ts) → k ≡ h → Leads h → Past ts t 1 (Next (at + 1) out) m
@@ -113,9 +93,7 @@ declarations-took ts = whole-took stepDeclarations steady-declarations ts
 pub declarations-as : (ts : List Token) (at : ℕ) {out : ℕ} {g r : Got} {m n : Areas} {k : Lead} (h : Lead) (f : List Token → Res)
     → ((z : List Token) → byLead declarations h z ≡ f (drop 1 z)) → g ≡ Next at out → k ≡ leadL (drop at ts) → k ≡ h
     → Runs ts f (Next (at + 1) out) m r n → Runs ts declarations g m r n
-declarations-as ts at h f l q x y w =
-    let z : leadL (drop at ts) ≡ h = sym x ∙ y in
-    rw q (runs-as declarations refl (declarations·law (drop at ts) ∙ rw z (l (drop at ts))) (runs-after w))
+declarations-as ts at h f = runs-by ts at declarations leadL (byLead declarations) h f declarations·law
 
 pub declarations-stop : (ts : List Token) (at : ℕ) {out : ℕ} {g : Got} {m : Areas} {k : Lead} → Ready ts 0 g m → g ≡ Next at out
     → k ≡ leadL (drop at ts) → k ≡ Stop → Runs ts declarations g m (Next at out) m

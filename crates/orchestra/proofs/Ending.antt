@@ -9,6 +9,7 @@ use lib.Seq.{take-at, drop-at, sets, sets-eq}
 use lib.Dec.{ltb, leb}
 use lib.Ieee.{Float}
 use borrow.Author.Tests.{leb-true}
+use Rattle.laws.proofs.Choice.{both-true}
 use Rattle.answer.specs.Numbers.{isTaken}
 use Rattle.answer.specs.declared.Answer.{Answer}
 use Rattle.answer.specs.declared.Answer.the-variants.{Taken, BadToken, BadGrammar, BadNames, BadRates, TooLarge}
@@ -18,7 +19,7 @@ use Rattle.tokens.specs.inside.Token.{toks}
 use Rattle.tokens.specs.inside.Scanning.{Got as Spelt, none, some, tokensOf}
 use Rattle.tokens.specs.Measures.{measured, bracketsKept, stretchesKept}
 use Rattle.tokens.specs.inside.Reading.{stored as stored·tokens, judged, readOf as tokens·of}
-use Rattle.tokens.proofs.Laws.{tokens-lawful, stored-tokens}
+use Rattle.tokens.proofs.Laws.{impossible as never, tokens-lawful, stored-tokens}
 use Rattle.syntax.specs.Tree.{Instrument}
 use Rattle.syntax.specs.inside.Program.{zeroF, program, actOf}
 use Rattle.syntax.specs.Names.{Named}
@@ -26,11 +27,11 @@ use Rattle.expressions.specs.Reader.{Res, no, ok}
 use Rattle.expressions.specs.declared.Got.{Got}
 use Rattle.expressions.specs.declared.Got.the-variants.{Next, Refused}
 use Rattle.expressions.specs.Areas.{Areas, areas}
-use Rattle.expressions.proofs.Laws.{All, some as took}
+use Rattle.expressions.proofs.Laws.{by-arm, All, some as took}
+use Rattle.expressions.proofs.Runs.{took-of}
 use Rattle.syntax.specs.Grammar.{Orchestra}
 use Rattle.grammar.specs.Reader.{orchestra, stepInstruments}
-use Rattle.grammar.proofs.Results.{Took}
-use Rattle.grammar.proofs.Whole.{whole-took}
+use Rattle.grammar.proofs.Steady.{whole-took}
 use Rattle.grammar.proofs.Steps.{steady-instruments}
 use Rattle.grammar.proofs.Complete.{complete}
 use Rattle.grammar.proofs.Sound.{Orchestrated, sound}
@@ -43,9 +44,6 @@ use Rattle.orchestra.specs.declared.Outcome.{Outcome}
 use Rattle.orchestra.specs.inside.Compiled.{padded}
 use Rattle.orchestra.specs.inside.Reading.{taken, refused, startsFrom, byNames, byGrammar, readOf}
 use Rattle.orchestra.specs.inside.Arrays.{judgement, placedIf, keptIn, finishedIn}
-
-never : {A : Type 0} → _≡_ {A = ℕ} 0 1 → A
-never z = absurd (omega arith)
 
 -- ---- the rules, in arrays
 
@@ -99,10 +97,7 @@ front d xs le =
     sets-eq xs (replicate 2048 d) 0 (omega (arith, length-replicate 2048 d)) ∙ ap (λ k. xs ++ drop k (replicate 2048 d)) z
 
 program-short : {is : List Instrument} {ts : List Token} → Orchestra is ts → length (program is) ≤ length ts
-program-short {is} {ts} d = go (rw (complete d) at (whole-took stepInstruments steady-instruments ts))
-  where
-    go : All (Took 0 ts) (ok (program is) []) → length (program is) ≤ length ts
-    go (took h) = omega (arith, h .room)
+program-short {ts = ts} d = omega (arith, took-of (whole-took stepInstruments steady-instruments ts) (complete d) .room)
 
 module _ {ts : List Token} {m n : Areas} {g : Got} where
   pub parsed-fits : {at out : ℕ} → Reads ts m g n → g ≡ Next at out → length ts ≤ 2048 → out ≤ 2048
@@ -143,28 +138,15 @@ data View (bs : List ℕ) : Tokens → Type 0 where
   not·spelt : (a : Answer) → isTaken a ≡ false → readOf bs ≡ refused a → View bs (stored·tokens a [])
 
 few-tokens : (ts : List Token) → measured ts ≡ true → length ts ≤ 2048
-few-tokens ts e = leb-true (length ts) 2048 (go (leb (length ts) 2048) (bracketsKept 0 ts && stretchesKept 0 ts) e)
-  where
-    go : (b c : Bool) → (b && c) ≡ true → b ≡ true
-    go true c e = refl
-    go false c e = e
+few-tokens ts e = leb-true (length ts) 2048 (both-true (leb (length ts) 2048) (bracketsKept 0 ts && stretchesKept 0 ts) e .0)
 
 view : (bs : List ℕ) → View bs (tokens·of bs)
 unfolding tokens·of readOf
-view bs = by-length (ltb 16384 (length bs)) refl
+view bs = by-arm (View bs) (ltb 16384 (length bs)) _ _ (λ e. not·spelt TooLarge refl (rw e)) (λ e. by-tokens e (tokensOf bs) refl)
   where
-    by-measures : (ts : List Token) → ltb 16384 (length bs) ≡ false → tokensOf bs ≡ some ts → (b : Bool) → measured ts ≡ b
-        → View bs (cond b (stored·tokens Taken ts) (stored·tokens TooLarge []))
-    by-measures ts l e true m = spelt ts (few-tokens ts m) e (rw (l, e, m))
-    by-measures ts l e false m = not·spelt TooLarge refl (rw (l, e, m))
-
     by-tokens : ltb 16384 (length bs) ≡ false → (g : Spelt) → tokensOf bs ≡ g → View bs (judged g)
     by-tokens l none e = not·spelt BadToken refl (rw (l, e))
-    by-tokens l (some ts) e = by-measures ts l e (measured ts) refl
-
-    by-length : (b : Bool) → ltb 16384 (length bs) ≡ b → View bs (cond b (stored·tokens TooLarge []) (judged (tokensOf bs)))
-    by-length true e = not·spelt TooLarge refl (rw e)
-    by-length false e = by-tokens e (tokensOf bs) refl
+    by-tokens l (some ts) e = by-arm (View bs) (measured ts) _ _ (λ m. spelt ts (few-tokens ts m) e (rw (l, e, m))) (λ m. not·spelt TooLarge refl (rw (l, e, m)))
 
 length-padded : (d : ℕ) (xs : List ℕ) → length xs ≤ 2048 → length (xs ++ drop (length xs) (replicate 2048 d)) ≡ 2048
 length-padded d xs le = omega (arith, length-append xs (drop (length xs) (replicate 2048 d)), length-drop (length xs) (replicate 2048 d), length-replicate 2048 d)

@@ -2,19 +2,19 @@
 use Prim.Native.Nat.{ℕ, suc, _+_, _≤_}
 use native.Mathlib.Omega.{arith}
 use mathlib.Core.Path.{_≡_, refl, sym, ap, _∙_}
-use mathlib.Core.Bool.{Bool, true, false, _&&_}
-use mathlib.Core.List.{List, [], _∷_, _++_, map, append-nil}
-use lib.ListN.{length, take, length-map}
+use mathlib.Core.Bool.{true, false, _&&_}
+use mathlib.Core.List.{List, [], _∷_, _++_, map}
+use lib.ListN.{length, take, length-map, length-append}
 use lib.Seq.{take-all}
 use lib.Dec.{eqb, leb}
-use borrow.Author.Tests.{eqb-true, leb-true}
+use borrow.Author.Tests.{ne-eqb, leb-true}
+use Rattle.laws.proofs.Choice.{both-true}
 use Rattle.laws.proofs.Lists.{map-append}
 use Rattle.syntax.specs.Tree.{Expr, number, name, unary, binary, choose, Statements, done, assign, output, branch, Declaration, Instrument, fieldKind}
 use Rattle.syntax.specs.Names.{nameRules, distinct, titleOf, eachKept}
 use Rattle.syntax.specs.inside.Placed.{placed}
 use Rattle.syntax.specs.inside.Program.{Ins, instrOp, actOf, compile, code, declare, declared, instrument, program, unaryOp, binaryOp}
-use Rattle.syntax.specs.declared.Act.{Act}
-use Rattle.syntax.specs.declared.Act.the-variants.{Value, Declare, Instr}
+use Rattle.syntax.specs.declared.Act.the-variants.{Value, Declare}
 use Rattle.syntax.proofs.Operations.{unary-value, binary-value}
 use Rattle.rules.specs.Formed.{FormedKinds, FormedAll, opOf, opsOf}
 use Rattle.orchestra.specs.inside.Compiled.{headsFrom}
@@ -22,18 +22,11 @@ use Rattle.orchestra.specs.inside.Reading.{startsFrom}
 use Rattle.rules.proofs.PlacesLaw.{ops-stay}
 
 -- what is a value or declares a name is not instr
-apart : {a : Act} (o : ℕ) → actOf o ≡ a → (a ≡ Instr → _≡_ {A = ℕ} 0 1) → eqb o instrOp ≡ false
-apart {a} o e f = go (eqb o 1) refl
-  where
-    go : (b : Bool) → eqb o 1 ≡ b → b ≡ false
-    go true h = absurd (let z : _≡_ {A = ℕ} 0 1 = f (sym e ∙ ap actOf (eqb-true o 1 h)) in omega arith)
-    go false h = refl
-
 value-apart : (o : ℕ) → actOf o ≡ Value → eqb o instrOp ≡ false
-value-apart o e = apart o e (λ z. cc)
+value-apart o e = ne-eqb o 1 (λ h. let y = sym e ∙ ap actOf h in let z : _≡_ {A = ℕ} 0 1 = cc in omega arith)
 
 declare-apart : (o : ℕ) → actOf o ≡ Declare → eqb o instrOp ≡ false
-declare-apart o e = apart o e (λ z. cc)
+declare-apart o e = ne-eqb o 1 (λ h. let y = sym e ∙ ap actOf h in let z : _≡_ {A = ℕ} 0 1 = cc in omega arith)
 
 -- no operation is instr
 data Plain : List Ins → Type 0 where
@@ -85,12 +78,7 @@ plain-starts n (cons i {c = c} e p) os = rw e (plain-starts (suc n) p os ∙ ap 
 -- placing changes no length
 length-alike : (i : Instrument) → length (instrument (placed i)) ≡ length (instrument i)
 unfolding program
-length-alike i =
-    sym (length-map (instrument (placed i)) opOf)
-    ∙ ap (λ l. length (opsOf l)) (sym (append-nil (instrument (placed i))))
-    ∙ ap length (ops-stay (i ∷ []))
-    ∙ ap (λ l. length (opsOf l)) (append-nil (instrument i))
-    ∙ length-map (instrument i) opOf
+length-alike i = omega (arith, simp length-map at (ap length (ops-stay (i ∷ []))), length-append (instrument (placed i)) [], length-append (instrument i) [])
 
 instr-starts : (n : ℕ) (i : Instrument) → Plain (restOf i) → (c : List Ins)
     → startsFrom n (opsOf (instrument i ++ c)) ≡ n ∷ startsFrom (n + length (instrument (placed i))) (opsOf c)
@@ -115,8 +103,4 @@ pub all-heads : (is : List Instrument) → length is ≤ 8 → take 8 (headsFrom
 all-heads is le = take-all 8 (headsFrom 0 is) (rw (length-heads 0 is) le)
 
 pub at-most-8 : (is : List Instrument) → nameRules is ≡ true → length is ≤ 8
-at-most-8 is e = leb-true (length is) 8 (first (leb (length is) 8) (distinct (map titleOf is) && eachKept is) e)
-  where
-    first : (b c : Bool) → (b && c) ≡ true → b ≡ true
-    first true c e = refl
-    first false c e = e
+at-most-8 is e = leb-true (length is) 8 (both-true (leb (length is) 8) (distinct (map titleOf is) && eachKept is) e .0)

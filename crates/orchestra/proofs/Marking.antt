@@ -4,10 +4,11 @@ use native.Mathlib.Omega.{arith}
 use mathlib.Core.Path.{_≡_, refl, sym, ap, ap₂, _∙_}
 use mathlib.Core.Bool.{Bool, true, false, cond}
 use mathlib.Core.List.{List, [], _∷_, _++_, append-assoc, append-nil}
-use lib.ListN.{length, take, drop, set, getD, length-append, length-set, drop-of-length-le}
-use lib.Seq.{take-all, take-append-le, drop-cons}
+use lib.ListN.{length, take, drop, set, getD, length-append, length-set, drop-of-length-le, replicate}
+use lib.Seq.{take-all, take-append-le, drop-cons, set-at}
 use lib.Dec.{eqb, ltb}
 use borrow.Author.Tests.{eq-eqb, ne-eqb, lt-ltb, le-ltb, ltb-true, ltb-false}
+use Rattle.expressions.proofs.Laws.{by-arm}
 use Rattle.orchestra.specs.declared.Starts.{Starts}
 use Rattle.orchestra.specs.inside.Compiled.{padded}
 use Rattle.orchestra.specs.inside.Reading.{startsFrom}
@@ -32,15 +33,10 @@ marks h n [] = h
 marks h n (o ∷ os) = marks (markedAt h o n) (suc n) os
 
 fits-marked : (h : Starts) (o at : ℕ) → Fits h → Fits (markedAt h o at)
-fits-marked h o at f = by-op (eqb o 1)
-  where
-    by-room : (b : Bool) → ltb (h .count) 8 ≡ b → Fits (cond b (starting (h .count + 1) (set (h .places) (h .count) at)) h)
-    by-room true e = record { most = omega (arith, ltb-true (h .count) 8 e); cells = length-set (h .places) (h .count) at ∙ f .cells }
-    by-room false e = f
-
-    by-op : (b : Bool) → Fits (cond b (headedAt h at) h)
-    by-op true = by-room (ltb (h .count) 8) refl
-    by-op false = f
+fits-marked h o at f =
+    by-arm Fits (eqb o 1) _ _ (λ x.
+    by-arm Fits (ltb (h .count) 8) _ _ (λ e. record { most = omega (arith, ltb-true (h .count) 8 e); cells = length-set (h .places) (h .count) at ∙ f .cells }) (λ e. f))
+    (λ x. f)
 
 -- the turns so far, and those to come
 pub record Inv (ops : List ℕ) (h : Starts) (pc : ℕ) : Type 0 where
@@ -61,15 +57,15 @@ again ops n cells pc v lt e =
 
 -- places in an array: one more
 place-next : (hs : List ℕ) (n : ℕ) → length hs < 8 → set (padded 8 0 hs) (length hs) n ≡ padded 8 0 (hs ++ n ∷ [])
-place-next [] n lt = refl
-place-next (a ∷ []) n lt = refl
-place-next (a ∷ b ∷ []) n lt = refl
-place-next (a ∷ b ∷ c ∷ []) n lt = refl
-place-next (a ∷ b ∷ c ∷ d ∷ []) n lt = refl
-place-next (a ∷ b ∷ c ∷ d ∷ e ∷ []) n lt = refl
-place-next (a ∷ b ∷ c ∷ d ∷ e ∷ f ∷ []) n lt = refl
-place-next (a ∷ b ∷ c ∷ d ∷ e ∷ f ∷ g ∷ []) n lt = refl
-place-next (a ∷ b ∷ c ∷ d ∷ e ∷ f ∷ g ∷ h ∷ hs) n lt = absurd (omega arith)
+place-next hs n lt =
+    let r : List ℕ = replicate 8 0 in
+    let l : length (hs ++ n ∷ []) ≡ suc (length hs) = length-append hs (n ∷ []) ∙ omega arith in
+    rw (
+      l,
+      drop-cons r (length hs) 0 lt,
+      set-at hs (getD r (length hs) 0) (drop (suc (length hs)) r) n (length hs) refl,
+      append-assoc hs (n ∷ []) (drop (suc (length hs)) r),
+    )
 
 headed-in : (hs : List ℕ) (n : ℕ) → length hs < 8 → headedAt (startsIn hs) n ≡ startsIn (hs ++ n ∷ [])
 headed-in hs n lt =
@@ -105,7 +101,4 @@ marks-are hs (o ∷ os) n le = by-op hs os n le (λ gs l. marks-are gs os (suc n
 
 pub ends : (ops : List ℕ) (n : ℕ) (cells : List ℕ) (pc : ℕ) → Inv ops (starting n cells) pc → length ops ≤ pc → starting n cells ≡ startsIn (take 8 (startsFrom 0 ops))
 unfolding marks
-ends ops n cells pc v le = let h = starting n cells in sym (ap (marks h pc) (drop-past ops pc le)) ∙ v .rest ∙ marks-are [] ops 0 (omega arith)
-  where
-    drop-past : (l : List ℕ) (n : ℕ) → length l ≤ n → drop n l ≡ []
-    drop-past l n le = drop-of-length-le l {i = n} le
+ends ops n cells pc v le = sym (ap (marks (starting n cells) pc) (drop-of-length-le ops {i = pc} le)) ∙ v .rest ∙ marks-are [] ops 0 (omega arith)

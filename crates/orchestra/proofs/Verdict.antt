@@ -7,11 +7,11 @@ use mathlib.Core.List.{List, [], map}
 use lib.ListN.{length, take}
 use lib.Dec.{ltb}
 use borrow.Author.Tests.{ltb-true, ltb-false, lt-ltb, le-ltb}
-use Rattle.answer.specs.declared.Answer.the-variants.{Taken, BadGrammar, BadNames, BadRates, TooLarge}
+use Rattle.answer.specs.declared.Answer.the-variants.{Taken, BadGrammar, BadNames, BadRates}
 use Rattle.tokens.specs.declared.Token.{Token}
-use Rattle.tokens.specs.inside.Scanning.{Got, none, some, tokensOf, ScansSpelling}
+use Rattle.tokens.specs.inside.Scanning.{Got, none, some, tokensOf}
 use Rattle.tokens.specs.Measures.{longest, measured}
-use Rattle.tokens.proofs.Laws.{every-scan, spelt-found, one-spelling}
+use Rattle.tokens.proofs.Laws.{impossible as never, every-scan, spelt-found, one-spelling}
 use Rattle.syntax.specs.Tree.{Instrument}
 use Rattle.syntax.specs.Names.{nameRules}
 use Rattle.syntax.specs.inside.Placed.{placed}
@@ -19,7 +19,7 @@ use Rattle.syntax.specs.Rates.{rateRules}
 use Rattle.syntax.proofs.Rates.{rates-agree}
 use Rattle.syntax.specs.inside.Program.{program}
 use Rattle.expressions.specs.Reader.{Res, no, ok}
-use Rattle.expressions.proofs.Laws.{All, none as unread, some as read}
+use Rattle.expressions.proofs.Laws.{by-arm, All, none as unread, some as read}
 use Rattle.syntax.specs.Grammar.{Orchestra}
 use Rattle.grammar.specs.Reader.{orchestra}
 use Rattle.grammar.proofs.Complete.{complete}
@@ -32,15 +32,11 @@ use Rattle.rules.proofs.NamesLaw.{names-law}
 use Rattle.rules.proofs.PlacesLaw.{places-law, ops-stay, vals-stay}
 use Rattle.rules.proofs.RatesLaw.{rates-law}
 use Rattle.orchestra.specs.declared.Outcome.{Outcome}
-use Rattle.orchestra.specs.declared.Program.{Program}
 use Rattle.orchestra.specs.inside.Compiled.{laid, compile, blank}
 use Rattle.orchestra.specs.inside.Reading.{taken, refused, startsFrom, byRates, byNames, byGrammar, byTokens, readOf}
 use Rattle.orchestra.specs.Verdict.{Sized, Accepted, Verdict, tooLong, noTokens, tooLarge, outside, misnamed, misrated, accepted, EveryVerdict, VerdictGiven, AcceptedExactly, OneReading, RefusedBlank}
 use Rattle.orchestra.proofs.Formed.{formed}
 use Rattle.orchestra.proofs.Heads.{heads-are, all-heads, at-most-8}
-
-never : {A : Type 0} → _≡_ {A = ℕ} 0 1 → A
-never z = absurd (omega arith)
 
 module _ {is : List Instrument} {ts : List Token} (d : Orchestra is ts) where
   -- the program of a tree, judged by the name rules and then by the rate rules
@@ -64,15 +60,12 @@ module _ {is : List Instrument} {ts : List Token} (d : Orchestra is ts) where
 -- a reading by the grammar, judged
 module _ (bs : List ℕ) (ts : List Token) (s : Sized bs ts) where
   derived-verdict : (is : List Instrument) → Orchestra is ts → Verdict bs (byGrammar (ok (program is) []))
-  derived-verdict is d = by-names (nameRules is) refl
-    where
-      by-rates : nameRules is ≡ true → (b : Bool) → rateRules is ≡ b → Verdict bs (cond b (taken (compile is)) (refused BadRates))
-      by-rates n true e = accepted is (record { tokens = ts; sized = s; derived = d; named = n; rated = e })
-      by-rates n false e = misrated ts is s d n e
-
-      by-names : (b : Bool) → nameRules is ≡ b → Verdict bs (byGrammar (ok (program is) []))
-      by-names true e = rw (names-judged d true e, rates-judged d e (rateRules is) refl) (by-rates e (rateRules is) refl)
-      by-names false e = rw (names-judged d false e) (misnamed ts is s d e)
+  derived-verdict is d =
+      rw (names-law is (formed d))
+      (by-arm (Verdict bs) (nameRules is) _ _
+      (λ n. rw (rates-judged d n (rateRules is) refl)
+      (by-arm (Verdict bs) (rateRules is) _ _ (λ e. accepted is (record { tokens = ts; sized = s; derived = d; named = n; rated = e })) (λ e. misrated ts is s d n e)))
+      (λ n. misnamed ts is s d n))
 
   grammar-verdict : (x : Res) → orchestra ts ≡ x → All (Orchestrated ts) x → Verdict bs (byGrammar x)
   grammar-verdict no e unread = outside ts s (λ is d. let z = sym e ∙ complete d in let y : _≡_ {A = ℕ} 0 1 = cc in omega arith)
@@ -80,23 +73,15 @@ module _ (bs : List ℕ) (ts : List Token) (s : Sized bs ts) where
 
 pub every-verdict : EveryVerdict
 unfolding readOf
-every-verdict bs b = by-length (ltb 16384 (length bs)) refl
+every-verdict bs b =
+    by-arm (Verdict bs) (ltb 16384 (length bs)) _ _ (λ e. tooLong (ltb-true 16384 (length bs) e)) (λ e. by-tokens (ltb-false 16384 (length bs) e) (tokensOf bs) refl)
   where
-    scan : ScansSpelling bs
-    scan = every-scan bs b
-
-    by-measures : (ts : List Token) → length bs ≤ longest → tokensOf bs ≡ some ts → (b : Bool) → measured ts ≡ b
-        → Verdict bs (cond b (byGrammar (orchestra ts)) (refused TooLarge))
-    by-measures ts le e true m = grammar-verdict bs ts (record { short = le; spells = scan .found ts e; within = m }) (orchestra ts) refl (sound ts)
-    by-measures ts le e false m = tooLarge ts le (scan .found ts e) m
-
     by-tokens : length bs ≤ longest → (g : Got) → tokensOf bs ≡ g → Verdict bs (byTokens g)
-    by-tokens le none e = noTokens le (scan .unspelt e)
-    by-tokens le (some ts) e = by-measures ts le e (measured ts) refl
-
-    by-length : (b : Bool) → ltb 16384 (length bs) ≡ b → Verdict bs (cond b (refused TooLarge) (byTokens (tokensOf bs)))
-    by-length true e = tooLong (ltb-true 16384 (length bs) e)
-    by-length false e = by-tokens (ltb-false 16384 (length bs) e) (tokensOf bs) refl
+    by-tokens le none e = noTokens le (every-scan bs b .unspelt e)
+    by-tokens le (some ts) e =
+        let s = every-scan bs b .found ts e in
+        by-arm (Verdict bs) (measured ts) _ _ (λ m. grammar-verdict bs ts (record { short = le; spells = s; within = m }) (orchestra ts) refl (sound ts))
+        (λ m. tooLarge ts le s m)
 
 pub one-reading : OneReading
 one-reading bs is js a b =
@@ -148,27 +133,19 @@ accepted-exactly bs = ((λ b e. taken-accepted bs (readOf bs) (every-verdict bs 
 abbrev Blank : Outcome → Type 0
 Blank o = (o .answer ≡ Taken → ⊥) → o .program ≡ blank
 
-by-rules : (p : Program) (x y : Bool) → Blank (cond x (cond y (taken p) (refused BadRates)) (refused BadNames))
-by-rules p true true n = absurd (n refl)
-by-rules p true false n = refl
-by-rules p false y n = refl
+blank-if : (b : Bool) (x y : Outcome) → Blank x → Blank y → Blank (cond b x y)
+blank-if b x y f g = by-arm Blank b x y (λ e. f) (λ e. g)
 
 by-grammar : (x : Res) → Blank (byGrammar x)
-by-grammar no n = refl
-by-grammar (ok c r) n = by-rules _ (namesPass (opsOf c) (argsOf c)) (ratesPass (opsOf c) (placesPass (opsOf c) (argsOf c))) n
+by-grammar no = λ n. refl
+by-grammar (ok c r) =
+    blank-if (namesPass (opsOf c) (argsOf c)) _ _
+    (blank-if (ratesPass (opsOf c) (placesPass (opsOf c) (argsOf c))) _ _ (λ n. absurd (n refl)) (λ n. refl)) (λ n. refl)
 
 by-scan : (g : Got) → Blank (byTokens g)
-by-scan none n = refl
-by-scan (some ts) n = go (measured ts) n
-  where
-    go : (b : Bool) → Blank (cond b (byGrammar (orchestra ts)) (refused TooLarge))
-    go true n = by-grammar (orchestra ts) n
-    go false n = refl
+by-scan none = λ n. refl
+by-scan (some ts) = blank-if (measured ts) _ _ (by-grammar (orchestra ts)) (λ n. refl)
 
 pub refused-blank : RefusedBlank
 unfolding readOf
-refused-blank bs n = go (ltb 16384 (length bs)) n
-  where
-    go : (b : Bool) → Blank (cond b (refused TooLarge) (byTokens (tokensOf bs)))
-    go true n = refl
-    go false n = by-scan (tokensOf bs) n
+refused-blank bs = blank-if (ltb 16384 (length bs)) _ _ (λ n. refl) (by-scan (tokensOf bs))

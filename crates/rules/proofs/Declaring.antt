@@ -1,50 +1,36 @@
 -- All that an instrument declares, as one list of names.
 use Prim.Native.Nat.{ℕ}
-use mathlib.Core.Path.{_≡_, refl, ap, _∙_}
-use mathlib.Core.List.{List, [], _∷_, _++_, append-assoc}
+use mathlib.Core.Path.{_≡_, refl, ap}
+use mathlib.Core.List.{List, [], _∷_, _++_, map, append-assoc, map-append}
 use Rattle.syntax.specs.Tree.{Declaration, Instrument, fieldKind}
 use Rattle.syntax.specs.inside.Program.{Ins, insArg, actOf, instrOp, code, declare, declared, instrument}
 use Rattle.syntax.specs.Names.{Named, named, namedBy, namesOf}
 use Rattle.syntax.specs.declared.Act.the-variants.{Declare}
 use Rattle.rules.specs.Formed.{FormedKinds}
 
-unfoldable pub declareAll : List Named → List Ins
-declareAll [] = []
-declareAll (m ∷ ms) = insArg (m .kind) (m .name) ∷ declareAll ms
+abbrev entry : Named → Ins
+entry m = insArg (m .kind) (m .name)
+
+abbrev pub declareAll : List Named → List Ins
+declareAll ms = map entry ms
 
 unfoldable pub Kinds : List Named → Type 0
 Kinds [] = Unit {0}
 Kinds (m ∷ ms) = (actOf (m .kind) ≡ Declare) × Kinds ms
 
-declare-named : (k : ℕ) (ns : List ℕ) (c : List Ins) → declare k ns ++ c ≡ declareAll (named k ns) ++ c
-unfolding declare named declareAll
-declare-named k [] c = refl
-declare-named k (n ∷ ns) c = ap (λ l. insArg k n ∷ l) (declare-named k ns c)
+declare-named : (k : ℕ) (ns : List ℕ) → declare k ns ≡ declareAll (named k ns)
+unfolding declare named
+declare-named k [] = refl
+declare-named k (n ∷ ns) = ap (λ l. insArg k n ∷ l) (declare-named k ns)
 
-all-append : (ms ns : List Named) (c : List Ins) → declareAll ms ++ (declareAll ns ++ c) ≡ declareAll (ms ++ ns) ++ c
-unfolding declareAll
-all-append [] ns c = refl
-all-append (m ∷ ms) ns c = ap (λ l. insArg (m .kind) (m .name) ∷ l) (all-append ms ns c)
-
-declared-named : (ds : List Declaration) (c : List Ins) → declared ds ++ c ≡ declareAll (namedBy ds) ++ c
-unfolding declared namedBy declareAll
-declared-named [] c = refl
-declared-named (d ∷ ds) c =
-    append-assoc (declare (d .kind) (d .names)) (declared ds) c
-    ∙ ap (λ l. declare (d .kind) (d .names) ++ l) (declared-named ds c)
-    ∙ declare-named (d .kind) (d .names) (declareAll (namedBy ds) ++ c)
-    ∙ all-append (named (d .kind) (d .names)) (namedBy ds) c
+declared-named : (ds : List Declaration) → declared ds ≡ declareAll (namedBy ds)
+unfolding declared namedBy
+declared-named [] = refl
+declared-named (d ∷ ds) = simp (declare-named, declared-named ds, map-append entry)
 
 -- an instrument's program: its name, all that it declares, its statements
 pub instrument-is : (i : Instrument) (c : List Ins) → instrument i ++ c ≡ insArg instrOp (i .name) ∷ (declareAll (namesOf i) ++ (code (i .body) ++ c))
-instrument-is i c =
-    let f = declare fieldKind (i .fields) in
-    let d = declared (i .declarations) in
-    ap (λ l. insArg instrOp (i .name) ∷ l)
-    (append-assoc f (d ++ code (i .body)) c
-    ∙ ap (λ l. f ++ l) (append-assoc d (code (i .body)) c ∙ declared-named (i .declarations) (code (i .body) ++ c))
-    ∙ declare-named fieldKind (i .fields) (declareAll (namedBy (i .declarations)) ++ (code (i .body) ++ c))
-    ∙ all-append (named fieldKind (i .fields)) (namedBy (i .declarations)) (code (i .body) ++ c))
+instrument-is i c = simp (declare-named, declared-named, map-append entry, append-assoc)
 
 kinds-named : (k : ℕ) (ns : List ℕ) → actOf k ≡ Declare → Kinds (named k ns)
 unfolding Kinds named

@@ -3,16 +3,15 @@ use Prim.Native.Nat.{ℕ, zero, suc, _+_, _-_, _≤_, _<_, max}
 use native.Mathlib.Omega.{arith}
 use native.Mathlib.Numerals.{add-one}
 use mathlib.Core.Path.{_≡_, refl, sym, ap, ap₂, _∙_, subst}
-use mathlib.Core.List.{List, [], _∷_, _++_, append-assoc}
-use mathlib.Core.Bool.{Bool, true, false, not, _&&_, cond}
-use lib.ListN.{length, take, drop, getD, set, length-set, drop-of-length-le, replicate}
+use mathlib.Core.List.{List, [], _∷_, _++_, append-assoc, append-nil}
+use mathlib.Core.Bool.{Bool, true, false, not, _&&_}
+use lib.ListN.{length, take, drop, getD, set, length-set, drop-of-length-le, replicate, take-append-drop}
 use lib.Seq.{drop-cons, drop-set-lt, take-suc-set, take-all}
-use borrow.Author.Tests.{not-true, not-false}
+use borrow.Author.Tests.{le-leb, not-true, not-false}
 use Rattle.syntax.specs.inside.Program.{actOf}
 use Rattle.syntax.specs.Names.{Named}
 use Rattle.syntax.specs.declared.Act.{Act}
 use Rattle.syntax.specs.declared.Act.the-variants.{Value, Name, Store, Output, If, Else, End, Declare, Instr}
-use lib.Dec.{leb}
 use Rattle.name_rules.specs.Entries.{lawful, namesAfter, titlesAfter, placedName}
 use Rattle.rules.specs.Naming.{namesFrom, placedFrom, namesPass, placesPass}
 use Rattle.rate_rules.specs.Change.{rates, guard, entered, ratesLawful, ratesAfter}
@@ -106,25 +105,15 @@ unfolding placedFrom
 none-left [] ms = refl
 none-left (o ∷ os) ms = refl
 
-append-nothing : (l : List ℕ) → l ++ [] ≡ l
-append-nothing [] = refl
-append-nothing (a ∷ l) = ap (λ m. a ∷ m) (append-nothing l)
-
-take-drop : (i : ℕ) (l : List ℕ) → take i l ++ drop i l ≡ l
-take-drop zero [] = refl
-take-drop (suc i) [] = refl
-take-drop zero (a ∷ l) = refl
-take-drop (suc i) (a ∷ l) = ap (λ m. a ∷ m) (take-drop i l)
-
 module _ {os ws₀ ws ms ks : List ℕ} {count pc : ℕ} (v : Put os ws₀ ws ms ks count pc) where
   pub put-ends : length os ≤ pc → ws ≡ placesPass os ws₀
   unfolding placedFrom
-  put-ends le = sym (take-drop pc ws) ∙ rw (past os pc le) at (v .is)
+  put-ends le = sym (take-append-drop pc ws) ∙ rw (past os pc le) at (v .is)
 
   pub put-short : length ws ≤ pc → ws ≡ placesPass os ws₀
   put-short le =
       let e = rw (past ws pc le, none-left) at (v .is) in
-      sym (take-all pc ws le) ∙ sym (append-nothing (take pc ws)) ∙ e
+      sym (take-all pc ws le) ∙ sym (append-nil (take pc ws)) ∙ e
 
   pub put-again : {a : Act} {p : ℕ} → pc < length os → pc < length ws → a ≡ actOf (getD os pc 0) → p ≡ placedName a (getD ws pc 0) (own ms ks count) → (count′ : ℕ) (ms′ ks′ : List ℕ)
       → count′ ≤ 16 → own ms′ ks′ count′ ≡ namesAfter a (getD os pc 0) (getD ws pc 0) (own ms ks count) → length ms′ ≡ length ms → length ks′ ≡ length ks
@@ -158,13 +147,9 @@ pub rated-starts : (os ws : List ℕ) → Rated os ws (rates 0 0 0) 0
 rated-starts os ws = record { inside = omega arith; low-k = omega arith; low-a = omega arith; is = refl }
 
 entered-low : (m : ℕ) (q : Rates) → (entered m q .kdeep ≤ q .kdeep + 1) × (entered m q .adeep ≤ q .adeep + 1)
-entered-low m q = go (leb 2 m) (leb 1 m)
-  where
-    go : (x y : Bool) → (cond x (rates 0 (q .kdeep + 1) (q .adeep + 1)) (cond y (rates 0 (q .kdeep + 1) (q .adeep)) (rates 0 (q .kdeep) (q .adeep))) .kdeep ≤ q .kdeep + 1)
-        × (cond x (rates 0 (q .kdeep + 1) (q .adeep + 1)) (cond y (rates 0 (q .kdeep + 1) (q .adeep)) (rates 0 (q .kdeep) (q .adeep))) .adeep ≤ q .adeep + 1)
-    go true y = (omega arith, omega arith)
-    go false true = (omega arith, omega arith)
-    go false false = (omega arith, omega arith)
+entered-low zero q = (omega arith, omega arith)
+entered-low (suc zero) q = (omega arith, omega arith)
+entered-low (suc (suc m)) q = rw (le-leb 2 (suc (suc m)) (omega arith)) (omega arith, omega arith)
 
 after-low : (a : Act) (n : ℕ) (q : Rates) → (ratesAfter a n q .kdeep ≤ q .kdeep + 1) × (ratesAfter a n q .adeep ≤ q .adeep + 1)
 after-low Value n q = (omega arith, omega arith)

@@ -1,26 +1,27 @@
 -- The pass over the program of a placed tree says whether the tree keeps the rate rules.
-use Prim.Native.Nat.{ℕ, suc, _+_, _-_, _*_, _≤_, _<_, max}
+use Prim.Native.Nat.{ℕ, zero, suc, _+_, _-_, _*_, _≤_, max}
 use native.Mathlib.Omega.{arith}
 use mathlib.Core.Path.{_≡_, refl, sym, ap, ap₂, _∙_}
 use mathlib.Core.List.{List, [], _∷_, _++_, map, append-assoc}
 use mathlib.Core.Bool.{Bool, true, false, _&&_, cond, and-assoc}
 use lib.ListN.{length}
-use lib.Dec.{leb, ltb, eqb}
-use borrow.Author.Tests.{le-leb, lt-ltb, ltb-false, leb-true, leb-false}
+use lib.Dec.{ltb, eqb}
+use borrow.Author.Tests.{le-leb, lt-ltb}
+use Rattle.laws.proofs.Choice.{both-true}
 use Rattle.syntax.specs.Tree.{Expr, number, name, unary, binary, choose, Statements, done, assign, output, branch, Instrument}
-use Rattle.syntax.specs.inside.Program.{Ins, ins, insArg, actOf, storeOp, chooseOp, outputOp, ifOp, elseOp, endOp, instrOp, compile, code, program, unaryOp, binaryOp}
+use Rattle.syntax.specs.inside.Program.{Ins, ins, insArg, actOf, chooseOp, ifOp, elseOp, endOp, instrOp, compile, code, program, unaryOp, binaryOp}
 use Rattle.syntax.specs.Names.{Named, namesOf, namesKept, eachKept, nameRules}
 use Rattle.syntax.specs.inside.Placed.{placeFrom, putIn, put, placed, speed, speedOfKind, rateOf, rate, ratesKept, rateRules}
 use Rattle.syntax.specs.Rates.{Rate, iRate, kRate, aRate, rateOfKind}
 use Rattle.syntax.specs.declared.Act.{Act}
-use Rattle.syntax.specs.declared.Act.the-variants.{Value, Store, Output, If, Else, End, Declare, Instr}
+use Rattle.syntax.specs.declared.Act.the-variants.{Value, Declare, Instr}
 use Rattle.rate_rules.specs.Change.{rates, entered, ratesLawful, ratesAfter}
 use Rattle.rules.specs.Rating.{ratesFrom, ratesPass}
 use Rattle.syntax.proofs.Operations.{unary-value, binary-value}
 use Rattle.rules.specs.Formed.{FormedAll, opsOf, argsOf}
 use Rattle.rate_rules.specs.declared.Rates.{Rates}
 use Rattle.rules.proofs.Declaring.{declareAll, Kinds, instrument-is, kinds-of}
-use Rattle.rules.proofs.PlacesLaw.{and-left, and-right, at-most-16, each-kept}
+use Rattle.rules.proofs.PlacesLaw.{at-most-16, each-kept}
 
 abbrev on : List Ins → Rates → Bool
 on c q = ratesFrom (opsOf c) (argsOf c) q
@@ -42,22 +43,13 @@ module _ (k a : ℕ) where
   unfolding compile rate ratesFrom
   rates-expr (number x) c m = let z : m ≡ max m 0 = omega arith in ap (at c) z
   rates-expr (name n) c m = refl
-  rates-expr (unary o e) c m = simp append-assoc (rates-expr e (ins (unaryOp o) ∷ c) m ∙ rates-op (unaryOp o) c (rates (max m (rate e)) k a) (unary-value o))
+  rates-expr (unary o e) c m = simp (append-assoc, rates-expr e, rates-op (unaryOp o) c (rates (max m (rate e)) k a) (unary-value o))
   rates-expr (binary o x y) c m =
       let z : max (max m (rate x)) (rate y) ≡ max m (max (rate x) (rate y)) = omega arith in
-      simp append-assoc
-      (rates-expr x (compile y ++ ins (binaryOp o) ∷ c) m
-      ∙ rates-expr y (ins (binaryOp o) ∷ c) (max m (rate x))
-      ∙ rates-op (binaryOp o) c (rates (max (max m (rate x)) (rate y)) k a) (binary-value o)
-      ∙ ap (at c) z)
+      simp (append-assoc, rates-expr x, rates-expr y, rates-op (binaryOp o) c (rates (max (max m (rate x)) (rate y)) k a) (binary-value o)) (ap (at c) z)
   rates-expr (choose t x y) c m =
       let z : max (max (max m (rate t)) (rate x)) (rate y) ≡ max m (max (rate t) (max (rate x) (rate y))) = omega arith in
-      simp append-assoc
-      (rates-expr t (compile x ++ (compile y ++ ins chooseOp ∷ c)) m
-      ∙ rates-expr x (compile y ++ ins chooseOp ∷ c) (max m (rate t))
-      ∙ rates-expr y (ins chooseOp ∷ c) (max (max m (rate t)) (rate x))
-      ∙ rates-op chooseOp c (rates (max (max (max m (rate t)) (rate x)) (rate y)) k a) refl
-      ∙ ap (at c) z)
+      simp (append-assoc, rates-expr t, rates-expr x, rates-expr y, rates-op chooseOp c (rates (max (max (max m (rate t)) (rate x)) (rate y)) k a) refl) (ap (at c) z)
 
   rates-whole : (e : Expr) (c : List Ins) → at (compile e ++ c) 0 ≡ at c (rate e)
   rates-whole e c = let z : max 0 (rate e) ≡ rate e = omega arith in rates-expr e c 0 ∙ ap (at c) z
@@ -79,45 +71,20 @@ record Inside (k a m : ℕ) : Type 0 where
   back-a : ain - 1 ≡ a
 
 inside : (k a m : ℕ) → a ≤ k → around k a ≤ m → m ≤ 2 → Inside k a m
-inside k a m le g h = by-two (leb 2 m) refl
-  where
-    not-a : (b : Bool) → ltb 0 a ≡ b → m < 2 → cond b 2 (cond (ltb 0 k) 1 0) ≤ m → a ≡ 0
-    not-a true e lt g = absurd (omega arith)
-    not-a false e lt g = omega (arith, ltb-false 0 a e)
-
-    not-k : (b : Bool) → ltb 0 k ≡ b → a ≡ 0 → m < 1 → cond (ltb 0 a) 2 (cond b 1 0) ≤ m → k ≡ 0
-    not-k true e z lt g = absurd (omega (arith, rw z at g))
-    not-k false e z lt g = omega (arith, ltb-false 0 k e)
-
-    by-one : (b : Bool) → leb 1 m ≡ b → leb 2 m ≡ false → Inside k a m
-    by-one true e f =
-        let lo = leb-true 1 m e in
-        let hi = leb-false 2 m f in
-        let z = not-a (ltb 0 a) refl hi g in
-        let one : m ≡ 1 = omega arith in
-        record { kin = k + 1; ain = a; opens = λ x. rw (f, e); least = omega arith; guards = rw (z, lt-ltb 0 (k + 1) (omega arith)) (sym one); back-k = omega arith; back-a = omega arith }
-    by-one false e f =
-        let lo = leb-false 1 m e in
-        let hi = leb-false 2 m f in
-        let z = not-a (ltb 0 a) refl hi g in
-        let y = not-k (ltb 0 k) refl z lo g in
-        let none : m ≡ 0 = omega arith in
-        record { kin = k; ain = a; opens = λ x. rw (f, e); least = omega arith; guards = rw (z, y) (sym none); back-k = omega arith; back-a = omega arith }
-
-    by-two : (b : Bool) → leb 2 m ≡ b → Inside k a m
-    by-two true e =
-        let lo = leb-true 2 m e in
-        let two : m ≡ 2 = omega arith in
-        record { kin = k + 1; ain = a + 1; opens = λ x. rw e; least = omega arith; guards = rw (lt-ltb 0 (a + 1) (omega arith)) (sym two); back-k = omega arith; back-a = omega arith }
-    by-two false e = by-one (leb 1 m) refl e
+inside zero zero zero le g h = record { kin = 0; ain = 0; opens = λ x. refl; least = omega arith; guards = refl; back-k = refl; back-a = refl }
+inside (suc k) zero zero le g h = absurd (omega (arith, rw (lt-ltb 0 (suc k) (omega arith)) at g))
+inside k (suc a) zero le g h = absurd (omega (arith, rw (lt-ltb 0 (suc a) (omega arith)) at g))
+inside k zero (suc zero) le g h = record
+    { kin = k + 1; ain = 0; opens = λ x. refl; least = omega arith; guards = rw (lt-ltb 0 (k + 1) (omega arith)); back-k = omega arith; back-a = refl }
+inside k (suc a) (suc zero) le g h = absurd (omega (arith, rw (lt-ltb 0 (suc a) (omega arith)) at g))
+inside k a (suc (suc zero)) le g h = record
+    { kin = k + 1; ain = a + 1; opens = λ x. refl; least = omega arith; guards = rw (lt-ltb 0 (a + 1) (omega arith)); back-k = omega arith; back-a = omega arith }
+inside k a (suc (suc (suc m))) le g h = absurd (omega arith)
 
 around-low : (k a : ℕ) → around k a ≤ 2
-around-low k a = go (ltb 0 a) (ltb 0 k)
-  where
-    go : (x y : Bool) → cond x 2 (cond y 1 0) ≤ 2
-    go true y = omega arith
-    go false true = omega arith
-    go false false = omega arith
+around-low zero zero = omega arith
+around-low (suc k) zero = rw (lt-ltb 0 (suc k) (omega arith)) (omega arith)
+around-low k (suc a) = rw (lt-ltb 0 (suc a) (omega arith)) (omega arith)
 
 -- no guard is faster than a
 unfoldable Slow : Statements → Type 0
@@ -128,38 +95,11 @@ Slow (branch e a b r) = (rate e ≤ 2) × (Slow a × (Slow b × Slow r))
 
 -- ---- statements
 
-module _ (k a : ℕ) where
-  rates-store : (n f : ℕ) (c : List Ins) → on (insArg storeOp n ∷ c) (rates f k a) ≡ ((leb f (rateOf n) && leb (around k a) (rateOf n)) && on c (rates 0 k a))
-  rates-store n f c = rates-next (insArg storeOp n) c (rates f k a) Store refl
-
-  rates-output : (f : ℕ) (c : List Ins) → on (ins outputOp ∷ c) (rates f k a) ≡ on c (rates 0 k a)
-  rates-output f c = rates-next (ins outputOp) c (rates f k a) Output refl
-
-  rates-if : (f : ℕ) (c : List Ins) → on (ins ifOp ∷ c) (rates f k a) ≡ on c (entered (max (around k a) f) (rates f k a))
-  rates-if f c = rates-next (ins ifOp) c (rates f k a) If refl
-
-  rates-else : (c : List Ins) → on (ins elseOp ∷ c) (rates 0 k a) ≡ on c (rates 0 k a)
-  rates-else c = rates-next (ins elseOp) c (rates 0 k a) Else refl
-
-  rates-end : (c : List Ins) → on (ins endOp ∷ c) (rates 0 k a) ≡ on c (rates 0 (k - 1) (a - 1))
-  rates-end c = rates-next (ins endOp) c (rates 0 k a) End refl
-
 rates-code : (t : Statements) (c : List Ins) (k a : ℕ) → Slow t → a ≤ k → on (code t ++ c) (rates 0 k a) ≡ (ratesKept (around k a) t && on c (rates 0 k a))
-unfolding code ratesKept Slow
+unfolding code ratesKept Slow ratesFrom
 rates-code done c k a s le = refl
-rates-code (assign n e t) c k a s le =
-    let x = leb (rate e) (rateOf n) && leb (around k a) (rateOf n) in
-    simp append-assoc
-    (rates-whole k a e (insArg storeOp n ∷ (code t ++ c))
-    ∙ rates-store k a n (rate e) (code t ++ c)
-    ∙ ap (λ b. x && b) (rates-code t c k a s le)
-    ∙ sym (and-assoc x (ratesKept (around k a) t) (on c (rates 0 k a))))
-rates-code (output e t) c k a s le =
-    simp append-assoc
-    (rates-whole k a e (ins outputOp ∷ (code t ++ c))
-    ∙ rates-output k a (rate e) (code t ++ c)
-    ∙ rates-code t c k a s le
-    ∙ sym (ap (λ b. (b && ratesKept (around k a) t) && on c (rates 0 k a)) (le-leb (around k a) 2 (around-low k a))))
+rates-code (assign n e t) c k a s le = simp (append-assoc, rates-whole k a e, rates-code t c k a s le, and-assoc)
+rates-code (output e t) c k a s le = simp (append-assoc, rates-whole k a e, rates-code t c k a s le, le-leb (around k a) 2 (around-low k a))
 rates-code (branch e x y t) c k a s le =
     let C = code t ++ c in
     let B = code y ++ ins endOp ∷ C in
@@ -168,25 +108,16 @@ rates-code (branch e x y t) c k a s le =
     let low = around-low k a in
     let r = s .0 in
     let i = inside k a m le (omega arith) (omega arith) in
-    let K = i .kin in
-    let D = i .ain in
     let u = ratesKept m x in
     let v = ratesKept m y in
     let w = ratesKept (around k a) t in
     simp append-assoc
-    (rates-whole k a e (ins ifOp ∷ A)
-    ∙ rates-if k a (rate e) A
-    ∙ ap (on A) (i .opens (rate e))
-    ∙ rates-code x (ins elseOp ∷ B) K D (s .1 .0) (i .least)
+    (rates-whole k a e (ins ifOp ∷ A) ∙ ap (on A) (i .opens (rate e)) ∙ rates-code x (ins elseOp ∷ B) (i .kin) (i .ain) (s .1 .0) (i .least)
     ∙ ap₂ (λ (g : ℕ) b. ratesKept g x && b) (i .guards)
-    (rates-else K D B
-    ∙ rates-code y (ins endOp ∷ C) K D (s .1 .1 .0) (i .least)
+    (rates-code y (ins endOp ∷ C) (i .kin) (i .ain) (s .1 .1 .0) (i .least)
     ∙ ap₂ (λ (g : ℕ) b. ratesKept g y && b) (i .guards)
-    (rates-end K D C
-    ∙ ap₂ (λ (f g : ℕ). on C (rates 0 f g)) (i .back-k) (i .back-a)
-    ∙ rates-code t c k a (s .1 .1 .1) le))
-    ∙ sym (and-assoc u v (w && on c (rates 0 k a)))
-    ∙ sym (and-assoc (u && v) w (on c (rates 0 k a))))
+    (ap₂ (λ (f g : ℕ). on C (rates 0 f g)) (i .back-k) (i .back-a) ∙ rates-code t c k a (s .1 .1 .1) le))
+    ∙ sym (and-assoc u v (w && on c (rates 0 k a))) ∙ sym (and-assoc (u && v) w (on c (rates 0 k a))))
 
 -- ---- placed trees
 
@@ -224,7 +155,7 @@ module _ (ms : List Named) (h : length ms ≤ 16) where
   slow-put (branch e a b t) = (rate-low e, (slow-put a, (slow-put b, slow-put t)))
 
 rates-declare : (ns : List Named) (c : List Ins) (q : Rates) → Kinds ns → on (declareAll ns ++ c) q ≡ on c q
-unfolding declareAll Kinds
+unfolding Kinds
 rates-declare [] c q k = refl
 rates-declare (n ∷ ns) c q k = rates-next (insArg (n .kind) (n .name)) (declareAll ns ++ c) q Declare (k .0) ∙ rates-declare ns c q (k .1)
 
@@ -234,12 +165,12 @@ rates-program [] f e = refl
 rates-program (i ∷ is) f e =
     let ms = namesOf i in
     let r = program (map placed is) in
-    let k = at-most-16 i (and-left (namesKept i) (eachKept is) e) in
+    let (p, q) = both-true (namesKept i) (eachKept is) e in
     ap (λ l. on l (rates 0 0 0)) (instrument-is (placed i) r)
     ∙ rates-next (insArg instrOp (i .name)) (declareAll ms ++ (code (put ms (i .body)) ++ r)) (rates 0 0 0) Instr refl
     ∙ rates-declare ms (code (put ms (i .body)) ++ r) (rates 0 0 0) (kinds-of i (f .0))
-    ∙ rates-code (put ms (i .body)) r 0 0 (slow-put ms k (i .body)) (omega arith)
-    ∙ ap (λ b. ratesKept 0 (put ms (i .body)) && b) (rates-program is (f .1) (and-right (namesKept i) (eachKept is) e))
+    ∙ rates-code (put ms (i .body)) r 0 0 (slow-put ms (at-most-16 i p) (i .body)) (omega arith)
+    ∙ ap (λ b. ratesKept 0 (put ms (i .body)) && b) (rates-program is (f .1) q)
 
 -- the pass over a placed tree's program is the tree's rate rules
 pub rates-law : (is : List Instrument) → FormedAll is → nameRules is ≡ true

@@ -1,8 +1,8 @@
 -- The ways through the readers of statements.
-use Prim.Native.Nat.{ℕ, zero, suc, _+_, _-_, _<_}
+use Prim.Native.Nat.{ℕ, _+_, _-_, _<_}
 use native.Mathlib.Omega.{arith}
 use mathlib.Core.Path.{_≡_, refl, sym, _∙_}
-use mathlib.Core.List.{List, [], _∷_}
+use mathlib.Core.List.{List}
 use mathlib.Core.Bool.{Bool, true, false}
 use lib.ListN.{length, drop}
 use Rattle.tokens.specs.declared.Token.{Token}
@@ -12,14 +12,15 @@ use Rattle.expressions.specs.declared.Got.the-variants.{Next}
 use Rattle.expressions.specs.Roles.{signL}
 use Rattle.expressions.specs.Reader.{Res, seq, sign, emit, reader}
 use Rattle.expressions.specs.Areas.{Areas, left, Ready, gone, come, Runs}
-use Rattle.expressions.proofs.Laws.{All, All-weaken, reader-bounded}
-use Rattle.expressions.proofs.Runs.{runs-as, runs-after, stays, ready-runs, Past, past-start}
+use Rattle.expressions.proofs.Laws.{All}
+use Rattle.expressions.proofs.Moves.{in-tokens}
+use Rattle.expressions.proofs.Runs.{runs-as, runs-after, runs-by, stays, ready-less, Past, past-start, Took, ready-took}
 use Rattle.grammar.specs.declared.Start.{Start}
 use Rattle.grammar.specs.declared.Start.the-variants.{Name, Output, If, Stop}
 use Rattle.grammar.specs.Starts.{startL}
 use Rattle.grammar.specs.Reader.{close, otherwise, byStart, statements, stepStatements}
-use Rattle.grammar.proofs.Results.{Took}
-use Rattle.grammar.proofs.Whole.{whole-took}
+use Rattle.grammar.proofs.Results.{expr-took}
+use Rattle.grammar.proofs.Steady.{whole-took}
 use Rattle.grammar.proofs.Steps.{steady-statements, statements·law}
 
 -- a statement starts with a token
@@ -29,14 +30,8 @@ Goes Output = Unit {0}
 Goes If = Unit {0}
 Goes Stop = ⊥
 
-goes-in : (ts : List Token) (at : ℕ) → Goes (startL (drop at ts)) → at < length ts
-goes-in [] zero f = absurd f
-goes-in [] (suc at) f = absurd f
-goes-in (t ∷ ts) zero f = omega arith
-goes-in (t ∷ ts) (suc at) f = let h = goes-in ts at f in omega arith
-
 pub start-in : (ts : List Token) (at : ℕ) {k h : Start} → k ≡ startL (drop at ts) → k ≡ h → Goes h → at < length ts
-start-in ts at e q f = goes-in ts at (rw (sym e ∙ q) f)
+start-in ts at {h = h} e q f = in-tokens startL ts at (λ n. let z : h ≡ Stop = cc in rw z at f)
 
 pub start-past : (ts : List Token) {t : ℕ} {g : Got} {m : Areas} (at : ℕ) {out : ℕ} {k h : Start} → Ready ts 0 g m → left ts g ≡ t → g ≡ Next at out
     → k ≡ startL (drop at ts) → k ≡ h → Goes h → Past ts t 1 (Next (at + 1) out) m
@@ -46,7 +41,7 @@ pub statements-took : (ts : List Token) → All (Took 0 ts) (statements ts)
 statements-took ts = whole-took stepStatements steady-statements ts
 
 pub ready-expr : {ts : List Token} {k : ℕ} {g h : Got} {m n : Areas} (j : ℕ) → Ready ts k g m → Runs ts (reader .expr j) g m h n → Ready ts k h n
-ready-expr j r x = ready-runs (λ z. All-weaken (reader-bounded .expr j z) (λ c r h. h .0)) r x
+ready-expr j r x = ready-less (omega arith) (ready-took 0 (expr-took j) r x)
 
 -- the same place by another name
 pub ready-at : {ts : List Token} {k : ℕ} {g h : Got} {m : Areas} → g ≡ h → Ready ts k g m → Ready ts k h m
@@ -57,9 +52,7 @@ ready-at q (come at out e le r) = come at out (sym q ∙ e) le r
 pub statements-as : (ts : List Token) (at : ℕ) {out : ℕ} {g r : Got} {m n : Areas} {k : Start} (h : Start) (f : List Token → Res)
     → ((z : List Token) → byStart statements h z ≡ f (drop 1 z)) → g ≡ Next at out → k ≡ startL (drop at ts) → k ≡ h
     → Runs ts f (Next (at + 1) out) m r n → Runs ts statements g m r n
-statements-as ts at h f l q x y w =
-    let z : startL (drop at ts) ≡ h = sym x ∙ y in
-    rw q (runs-as statements refl (statements·law (drop at ts) ∙ rw z (l (drop at ts))) (runs-after w))
+statements-as ts at h f = runs-by ts at statements startL (byStart statements) h f statements·law
 
 pub statements-stop : (ts : List Token) (at : ℕ) {out : ℕ} {g : Got} {m : Areas} {k : Start} → Ready ts 0 g m → g ≡ Next at out
     → k ≡ startL (drop at ts) → k ≡ Stop → Runs ts statements g m (Next at out) m

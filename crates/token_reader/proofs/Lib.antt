@@ -1,4 +1,4 @@
 mod Standing
 mod Passing
 mod Storing
-mod Whole
+mod Judging

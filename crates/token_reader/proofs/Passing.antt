@@ -3,7 +3,7 @@ use Prim.Native.Nat.{ℕ, suc, _+_, _-_, _≤_, _<_}
 use native.Mathlib.Omega.{arith}
 use native.Mathlib.Numerals.{add-one}
 use mathlib.Core.Path.{_≡_, refl, sym, ap, _∙_, subst}
-use mathlib.Core.Bool.{Bool, true, false, not, _&&_, _||_, cond}
+use mathlib.Core.Bool.{Bool, true, false, not, _&&_, _||_, cond, and-assoc, and-comm, and-false}
 use mathlib.Core.List.{List, [], _∷_}
 use lib.ListN.{length, getD, drop, length-drop, drop-of-length-le}
 use lib.Seq.{drop-cons, drop-drop}
@@ -51,14 +51,12 @@ left-none bs at h = ap (tokensAfter 0) (drop-of-length-le bs {i = at} h)
 
 -- ---- one token more
 
+and-swap : (a b c : Bool) → (a && (b && c)) ≡ (b && (a && c))
+and-swap true b c = refl
+and-swap false b c = sym (and-false b)
+
 regroup : (f a b l x y : Bool) → (f && (l && ((a && x) && (b && y)))) ≡ ((f && (a && b)) && (l && (x && y)))
-regroup true true true l x y = refl
-regroup true true false true true y = refl
-regroup true true false true false y = refl
-regroup true true false false x y = refl
-regroup true false b true x y = refl
-regroup true false b false x y = refl
-regroup false a b l x y = refl
+regroup f a b l x y = simp (and-assoc, and-comm, and-swap)
 
 one-more : (c n : ℕ) → c + suc n ≡ c + 1 + n
 one-more c n = omega arith
@@ -72,22 +70,18 @@ finished-with m t (some ts) =
     let r = since (m .run) k in
     rw (one-more (m .count) (length ts), regroup (m .fits) (leb d 24) (leb r 128) (leb (m .count + 1 + length ts) 2048) (bracketsKept d ts) (stretchesKept r ts))
 
+-- both arms of a choice are at most n
+cond-le : (b : Bool) {x y n : ℕ} → x ≤ n → y ≤ n → cond b x y ≤ n
+cond-le true h k = h
+cond-le false h k = k
+
 opened-le : (n k : ℕ) → opened n k ≤ n + 1
 unfolding opened
-opened-le n k = go (eqb k 15 || eqb k 17) (eqb k 16 || eqb k 18)
-  where
-    go : (a b : Bool) → cond a (suc n) (cond b (n - 1) n) ≤ n + 1
-    go true b = omega arith
-    go false true = omega arith
-    go false false = omega arith
+opened-le n k = cond-le (eqb k 15 || eqb k 17) (omega arith) (cond-le (eqb k 16 || eqb k 18) (omega arith) (omega arith))
 
 since-le : (n k : ℕ) → since n k ≤ n + 1
 unfolding since
-since-le n k = go (eqb k 20 || (eqb k 17 || eqb k 18))
-  where
-    go : (a : Bool) → cond a 0 (suc n) ≤ n + 1
-    go true = omega arith
-    go false = omega arith
+since-le n k = cond-le (eqb k 20 || (eqb k 17 || eqb k 18)) (omega arith) (omega arith)
 
 -- ---- the loop
 
@@ -103,27 +97,18 @@ unfolding scanned
 starts bs = record { inside = omega arith; counted = omega arith; nested = omega arith; ran = omega arith; is = refl }
 
 more-le : (k : ℕ) → more k ≤ 4
-more-le k = go (eqb k 0xf0) (eqb k 0xf1) (eqb k 0xf2)
-  where
-    go : (a b c : Bool) → cond a 2 (cond b 4 (cond c 4 0)) ≤ 4
-    go true b c = omega arith
-    go false true c = omega arith
-    go false false true = omega arith
-    go false false false = omega arith
+more-le k = cond-le (eqb k 0xf0) (omega arith) (cond-le (eqb k 0xf1) (omega arith) (cond-le (eqb k 0xf2) (omega arith) (omega arith)))
 
 module _ {bs : List ℕ} {m : Measure} {at : ℕ} (i : Inv bs m at) where
   stepped : (k : ℕ) → at < length bs → k ≡ getD bs at 0 → (k ≡ 0xff → ⊥) → lawful (standing bs at) ≡ true → Inv bs (next m k) (at + 1 + more k)
   unfolding next
   stepped k lt e a l =
       let g = tokensAfter 0 (drop (at + 1 + more k) bs) in
-      let c = i .counted in
-      let d = i .nested in
-      let r = i .ran in
       record {
         inside = omega (arith, more-le k);
-        counted = omega (arith, c);
-        nested = omega (arith, opened-le (m .depth) k, d);
-        ran = omega (arith, since-le (m .run) k, r);
+        counted = omega (arith, i .counted);
+        nested = omega (arith, opened-le (m .depth) k, i .nested);
+        ran = omega (arith, since-le (m .run) k, i .ran);
         is = ap (λ (x : ℕ). finished (next m x) g) (sym (kind-is bs at k e)) ∙ sym (finished-with m (standing bs at) g) ∙ ap (finished m) (sym (left-next bs at lt k e a l)) ∙ i .is;
       }
 

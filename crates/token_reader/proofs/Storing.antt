@@ -3,30 +3,35 @@ use Prim.Native.Nat.{ℕ, suc, _+_, _-_, _≤_, _<_}
 use native.Mathlib.Omega.{arith}
 use native.Mathlib.Decide.{decLt}
 use native.Mathlib.Numerals.{add-one}
-use native.Mathlib.Nat.{zero-add}
 use mathlib.Core.Path.{_≡_, refl, sym, ap, _∙_}
-use mathlib.Core.Bool.{Bool, true, false, _&&_, cond}
-use mathlib.Core.List.{List, [], _∷_, _++_, map, append-assoc}
+use mathlib.Core.Bool.{Bool, true, false, cond}
+use mathlib.Core.List.{List, [], _∷_, _++_, map, append-assoc, map-append}
 use lib.ListN.{length, getD, take, drop, set, replicate, length-append, length-map, length-replicate, length-drop}
 use lib.Seq.{drop-cons, take-suc, set-at, take-all, length-take-le}
-use lib.Dec.{eqb, leb}
+use lib.Dec.{eqb}
 use lib.Ieee.{Float}
-use borrow.Author.Tests.{eqb-true, eqb-false, leb-true}
-use Rattle.answer.specs.Numbers.{numberOf}
-use Rattle.answer.specs.declared.Answer.{Answer}
-use Rattle.answer.specs.declared.Answer.the-variants.{Taken, BadToken, TooLarge}
+use borrow.Author.Tests.{eqb-true, eqb-false}
+use Rattle.answer.specs.declared.Answer.the-variants.{Taken}
 use Rattle.tokens.specs.inside.Token.{zeroF}
 use Rattle.tokens.specs.Spelling.{lawful}
-use Rattle.tokens.specs.inside.Scanning.{Got, none, some, more, tokensAfter, tokensOf, tokensIn}
-use Rattle.tokens.specs.Measures.{kindOf, bracketsKept, stretchesKept}
-use Rattle.tokens.specs.inside.Passes.{standing, found, finished, start, scanned}
+use Rattle.tokens.specs.inside.Scanning.{none, some, more, tokensAfter, tokensOf, tokensIn}
+use Rattle.tokens.specs.Measures.{kindOf}
+use Rattle.tokens.specs.inside.Passes.{standing, found, scanned}
 use Rattle.tokens.specs.inside.Reading.{wordOf, realOf, padded, stored, judged}
 use Rattle.tokens.specs.declared.Token.{Token}
 use Rattle.tokens.specs.declared.Token.the-variants.{Sign}
-use Rattle.tokens.specs.declared.Found.{Found}
 use Rattle.tokens.proofs.Laws.{impossible, with-first, with-rest}
 use Rattle.token_reader.proofs.Standing.{kind-is}
+use Rattle.token_reader.proofs.Judging.{Took, took}
 use Rattle.token_reader.proofs.Passing.{left-next, left-bad, left-end, left-none}
+
+-- bytes are left where tokens are
+some-inside : (bs : List ℕ) (at : ℕ) (ts : List Token) → tokensAfter 0 (drop at bs) ≡ some ts → at < length bs
+some-inside bs at ts e = go (decLt at (length bs))
+  where
+    go : Dec (at < length bs) → at < length bs
+    go (yes lt) = lt
+    go (no n) = let f = left-none bs at (omega arith) in impossible (cc)
 
 -- ---- the token that the tokens left begin with stands there
 
@@ -54,32 +59,21 @@ module _ (bs : List ℕ) (at : ℕ) (t : Token) (ts : List Token) (e : tokensAft
       impossible (end-of (eqb (length bs - at) 1) t ts f)
   by-end false q lt = by-law (lawful (standing bs at)) refl lt (eqb-false (getD bs at 0) 0xff q)
 
-  by-place : Dec (at < length bs) → Stands bs at t ts
-  by-place (yes lt) = by-end (eqb (getD bs at 0) 0xff) refl lt
-  by-place (no n) = let f = left-none bs at (omega arith) in impossible (cc)
-
   pub stands : Stands bs at t ts
-  stands = by-place (decLt at (length bs))
+  stands = by-end (eqb (getD bs at 0) 0xff) refl (some-inside bs at (t ∷ ts) e)
 
 -- ---- arrays
 
 module _ {A : Type 0} where
-  over-set : (r xs : List A) (v d : A) → length xs < length r → set (xs ++ drop (length xs) r) (length xs) v ≡ (xs ++ v ∷ []) ++ drop (length (xs ++ v ∷ [])) r
-  over-set r xs v d h =
-      let n : length (xs ++ v ∷ []) ≡ suc (length xs) = length-append xs (v ∷ []) ∙ add-one (length xs) in
-      rw (drop-cons r (length xs) d h, set-at xs (getD r (length xs) d) (drop (suc (length xs)) r) v (length xs) refl, n)
-      (sym (append-assoc xs (v ∷ []) (drop (suc (length xs)) r)))
-
   -- one more element goes in
   put-next : (d : A) (xs : List A) (n : ℕ) (v : A) → length xs ≡ n → n < 2048 → set (padded d xs) n v ≡ padded d (xs ++ v ∷ [])
-  put-next d xs n v e h = rw (← e) (over-set (replicate 2048 d) xs v d (rw length-replicate (omega arith)))
+  put-next d xs n v e h =
+      let r = replicate 2048 d in
+      let l : length (xs ++ v ∷ []) ≡ suc n = length-append xs (v ∷ []) ∙ omega arith in
+      rw (e, l, drop-cons r n d (rw length-replicate h), set-at xs (getD r n d) (drop (suc n) r) v n e, append-assoc xs (v ∷ []) (drop (suc n) r))
 
   map-next : (f : Token → A) (ts : List Token) (n : ℕ) → n < length ts → map f (take (n + 1) ts) ≡ map f (take n ts) ++ f (getD ts n (Sign 0)) ∷ []
-  map-next f ts n h = rw (add-one n, take-suc ts n (Sign 0) h) (map-end (take n ts) (getD ts n (Sign 0)))
-    where
-      map-end : (us : List Token) (u : Token) → map f (us ++ u ∷ []) ≡ map f us ++ f u ∷ []
-      map-end [] u = refl
-      map-end (a ∷ us) u = ap (λ l. f a ∷ l) (map-end us u)
+  map-next f ts n h = rw (add-one n, take-suc ts n (Sign 0) h, map-append f)
 
   -- the array with the next token's part put in
   pub put-token : (f : Token → A) (d : A) (ts : List Token) (n : ℕ) (v : A) → n < length ts → n < 2048 → v ≡ f (getD ts n (Sign 0))
@@ -90,43 +84,7 @@ module _ {A : Type 0} where
   pub length-padded : (d : A) (xs : List A) → length xs ≤ 2048 → length (padded d xs) ≡ 2048
   length-padded d xs h = length-append xs (drop (length xs) (replicate 2048 d)) ∙ rw (length-drop, length-replicate) (omega arith)
 
--- ---- bytes that the first pass took
-
-pub record Took (bs : List ℕ) (n : ℕ) : Type 0 where
-  pub some-is : tokensOf bs ≡ some (tokensIn (tokensOf bs))
-  pub count-is : n ≡ length (tokensIn (tokensOf bs))
-  pub room : length (tokensIn (tokensOf bs)) ≤ 2048
-  pub judged-is : judged (tokensOf bs) ≡ stored Taken (tokensIn (tokensOf bs))
-
-not-taken : (a : Answer) (m n : ℕ) → found a m ≡ found Taken n → eqb (numberOf a) 0 ≡ false → _≡_ {A = ℕ} 0 1
-not-taken a m n e f =
-    let p : a ≡ Taken = ap (λ (x : Found). x .answer) e in
-    let q : eqb (numberOf a) 0 ≡ true = ap (λ x. eqb (numberOf x) 0) p in
-    cc
-
-took-by : (g : Got) (n : ℕ) → finished start g ≡ found Taken n
-    → (g ≡ some (tokensIn g)) × (n ≡ length (tokensIn g)) × (length (tokensIn g) ≤ 2048) × (judged g ≡ stored Taken (tokensIn g))
-took-by none n e = impossible (not-taken BadToken 0 n e refl)
-took-by (some ts) n e = go (leb (length ts) 2048) (bracketsKept 0 ts && stretchesKept 0 ts) refl (simp zero-add at e)
-  where
-    go : (a b : Bool) → leb (length ts) 2048 ≡ a → cond (a && b) (found Taken (length ts)) (found TooLarge 0) ≡ found Taken n
-        → (some ts ≡ some ts) × (n ≡ length ts) × (length ts ≤ 2048) × (cond (a && b) (stored Taken ts) (stored TooLarge []) ≡ stored Taken ts)
-    go true true l f = let z : n ≡ length ts = sym (ap (λ (x : Found). x .count) f) in (refl, z, leb-true (length ts) 2048 l, refl)
-    go true false l f = impossible (not-taken TooLarge 0 n f refl)
-    go false b l f = impossible (not-taken TooLarge 0 n f refl)
-
-pub took : (bs : List ℕ) (n : ℕ) → scanned bs ≡ found Taken n → Took bs n
-unfolding scanned
-took bs n e = let p = took-by (tokensOf bs) n e in record { some-is = p .0; count-is = p .1; room = p .2; judged-is = p .3 }
-
 -- ---- the loop
-
-inside-by : (bs : List ℕ) (at : ℕ) (ts : List Token) → tokensAfter 0 (drop at bs) ≡ some ts → Dec (at < length bs) → at < length bs
-inside-by bs at ts e (yes lt) = lt
-inside-by bs at ts e (no n) = let f = left-none bs at (omega arith) in impossible (cc)
-
-some-inside : (bs : List ℕ) (at : ℕ) (ts : List Token) → tokensAfter 0 (drop at bs) ≡ some ts → at < length bs
-some-inside bs at ts e = inside-by bs at ts e (decLt at (length bs))
 
 pub record Filled (bs : List ℕ) (count : ℕ) (ks ws : List ℕ) (xs : List Float) (at n : ℕ) : Type 0 where
   pub took-all : Took bs count

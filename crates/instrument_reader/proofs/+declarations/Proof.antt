@@ -19,8 +19,7 @@ use Rattle.syntax.specs.Tree.{importsKind}
 use Rattle.expressions.specs.Reader.{seq, sign}
 use Rattle.expressions.specs.Areas.{left, gone}
 use Rattle.expressions.proofs.Toks.{length-toks}
-use Rattle.expressions.proofs.Runs.{runs-seq, runs-sign, past-ready, past-sign}
-use Rattle.statement_reader.proofs.Past.{past-took}
+use Rattle.expressions.proofs.Runs.{runs-seq, runs-sign, past-ready, past-sign, past-took}
 use Rattle.grammar.specs.Reader as R
 use Rattle.grammar.specs.declared.Lead.the-variants.{Kind, Imports}
 use Rattle.grammar.proofs.Steps.{listed-took}
@@ -49,16 +48,14 @@ pub +declarations-spec : {M : Type 1} → statement M
     let c₂ = c₁ .before .before in
     let c₃ = c₂ .before .before in
     let s = c₃ .before .before .before .before .before .before .before .before in
-    let T = toks (s .args .kinds .now) (s .args .words .now) (s .args .reals .now) in
-    let h = lead-in T (c₃ .got .given .0 .0) (c₂ .lead-at .ensures) (c₁ .k .given .1) tt in
+    let h = lead-in (toks (s .args .kinds .now) (s .args .words .now) (s .args .reals .now)) (c₃ .got .given .0 .0) (c₂ .lead-at .ensures) (c₁ .k .given .1) tt in
     omega (arith, length-toks (s .args .kinds .now) (s .args .words .now) (s .args .reals .now), s .good .0 .0))
     (λ c κs. let c₁ = c .before .before .before .before in
     let c₂ = c₁ .before .before in
     let c₃ = c₂ .before .before in
     let s = c₃ .before .before .before .before .before .before .before .before in
     let T = toks (s .args .kinds .now) (s .args .words .now) (s .args .reals .now) in
-    let p₀ = lead-past T (c₃ .got .given .0 .0) (s .pre .1) (s .pre .0) (c₃ .got .given .1) (c₂ .lead-at .ensures) (c₁ .k .given .1) tt in
-    past-ready p₀)
+    past-ready (lead-past T (c₃ .got .given .0 .0) (s .pre .1) (s .pre .0) (c₃ .got .given .1) (c₂ .lead-at .ensures) (c₁ .k .given .1) tt))
     (λ c κs. let c₁ = c .before .before .before .before .before .before .before .before .before in
     let c₂ = c₁ .before .before .before .before .before in
     let c₃ = c₂ .before .before in
@@ -66,8 +63,7 @@ pub +declarations-spec : {M : Type 1} → statement M
     let s = c₄ .before .before .before .before .before .before .before .before in
     let T = toks (s .args .kinds .now) (s .args .words .now) (s .args .reals .now) in
     let p₀ = lead-past T (c₄ .got .given .0 .0) (s .pre .1) (s .pre .0) (c₄ .got .given .1) (c₃ .lead-at .ensures) (c₂ .k .given .1) tt in
-    let p₁ = past-took 1 (listed-took (c₂ .k .given .0 .0)) p₀ (c₁ .listed .ensures) in
-    (p₁ .less, past-ready p₁))
+    let p₁ = past-took 1 (listed-took (c₂ .k .given .0 .0)) p₀ (c₁ .listed .ensures) in (p₁ .less, past-ready p₁))
     (λ c. search needs)
     (λ c. let c₁ = c .before .before in
     let c₂ = c₁ .before .before in
@@ -83,8 +79,7 @@ pub +declarations-spec : {M : Type 1} → statement M
     let s = c₄ .before .before .before .before .before .before .before .before in
     let T = toks (s .args .kinds .now) (s .args .words .now) (s .args .reals .now) in
     let p₀ = lead-past T (c₄ .got .given .0 .0) (s .pre .1) (s .pre .0) (c₄ .got .given .1) (c₃ .lead-at .ensures) (c₂ .enum-told2 .given .1) tt in
-    let p₁ = past-sign 3 p₀ (c₁ .pass .ensures) in
-    past-ready p₁)
+    past-ready (past-sign 3 p₀ (c₁ .pass .ensures)))
     (λ c κs. let c₁ = c .before .before .before .before .before .before .before .before .before in
     let c₂ = c₁ .before .before .before .before in
     let c₃ = c₂ .before in
@@ -93,9 +88,7 @@ pub +declarations-spec : {M : Type 1} → statement M
     let s = c₅ .before .before .before .before .before .before .before .before in
     let T = toks (s .args .kinds .now) (s .args .words .now) (s .args .reals .now) in
     let p₀ = lead-past T (c₅ .got .given .0 .0) (s .pre .1) (s .pre .0) (c₅ .got .given .1) (c₄ .lead-at .ensures) (c₃ .enum-told2 .given .1) tt in
-    let p₁ = past-sign 3 p₀ (c₂ .pass .ensures) in
-    let p₂ = past-took 1 (listed-took importsKind) p₁ (c₁ .listed2 .ensures) in
-    (p₂ .less, past-ready p₂))
+    let p₂ = past-took 1 (listed-took importsKind) (past-sign 3 p₀ (c₂ .pass .ensures)) (c₁ .listed2 .ensures) in (p₂ .less, past-ready p₂))
     (λ c. search needs) (λ c. search needs) (λ c. search needs) (λ c. search needs)
     (λ c. let c₁ = c .before .before .before .before .before .before in
     let c₂ = c₁ .before .before .before .before .before .before .before .before .before .before in

@@ -14,8 +14,7 @@ use mathlib.Core.Path.{refl}
 use Rattle.tokens.specs.inside.Token.{toks}
 use Rattle.expressions.specs.Areas.{left}
 use Rattle.expressions.proofs.Toks.{length-toks}
-use Rattle.expressions.proofs.Runs.{past-ready}
-use Rattle.statement_reader.proofs.Past.{runs-to, past-first}
+use Rattle.expressions.proofs.Runs.{past-ready, runs-to, past-first}
 use Rattle.grammar.proofs.Steps.{instrument-took}
 use Rattle.instrument_reader.proofs.Ways.{last-no, others-follow, last-one}
 
@@ -39,14 +38,11 @@ pub +instruments-spec : {M : Type 1} → statement M
     (K-instruments t) (instruments-at t) instruments.Post
     (λ c κs. c .before .before .before .before .before .before .before .before .before .pre .1)
     (λ c. search needs) (λ c. search needs) (λ c. search needs) (λ c. search needs) (λ c. search needs)
-    (λ c. let c₁ = c .before .before .before .before .before .before .before .before in
-    last-no (c₁ .instrument .ensures) (c .enum-told .given .1))
+    (λ c. last-no (c .before .before .before .before .before .before .before .before .instrument .ensures) (c .enum-told .given .1))
     (λ c κs. let c₁ = c .before .before .before .before .before in
     let c₂ = c₁ .before .before .before .before .before .before .before .before in
     let s = c₂ .before .before .before .before .before .before .before .before .before .before in
-    let T = toks (s .args .kinds .now) (s .args .words .now) (s .args .reals .now) in
-    let p = past-first 4 instrument-took (s .pre .1) (s .pre .0) (runs-to (c₁ .a .given .1) (c₂ .instrument .ensures)) refl in
-    (p .less, past-ready p))
+    let p = past-first 4 instrument-took (s .pre .1) (s .pre .0) (runs-to (c₁ .a .given .1) (c₂ .instrument .ensures)) refl in (p .less, past-ready p))
     (λ c. search needs) (λ c. search needs) (λ c. search needs)
     (λ c. let c₁ = c .before .before .before .before .before .before in
     let c₂ = c₁ .before .before .before .before in

@@ -41,14 +41,12 @@ pub +names-spec : {M : Type 1} → statement M
     (λ c κs. c .before .before .before .before .before .before .before .before .before .pre .1)
     (λ c. search needs) (λ c. search needs) (λ c. search needs) (λ c. search needs) (λ c. search needs)
     (λ c. let c₁ = c .before .before .before .before .before .before .before .before in
-    let s = c₁ .before .before .before .before .before .before .before .before .before .before in
-    names-no (s .args .kind) (c₁ .name .ensures) (c .enum-told .given .1))
+    names-no (c₁ .before .before .before .before .before .before .before .before .before .before .args .kind) (c₁ .name .ensures) (c .enum-told .given .1))
     (λ c κs. search needs)
     (λ c. let c₁ = c .before in
     let c₂ = c₁ .before .before in
     let s = c₂ .before .before .before .before .before .before .before .before .before .before .before .before .before .before .before .before .before .before in
-    let T = toks (s .args .kinds .now) (s .args .words .now) (s .args .reals .now) in
-    let h = sign-in T (c₂ .a .given .0 .0) 19 (sym (c₁ .sign-at .ensures) ∙ c .if1 .taken) in
+    let h = sign-in (toks (s .args .kinds .now) (s .args .words .now) (s .args .reals .now)) (c₂ .a .given .0 .0) 19 (sym (c₁ .sign-at .ensures) ∙ c .if1 .taken) in
     omega (arith, length-toks (s .args .kinds .now) (s .args .words .now) (s .args .reals .now), s .good .0 .0))
     (λ c κs. let c₁ = c .before .before .before in
     let c₂ = c₁ .before in

@@ -12,8 +12,7 @@ fields-spec =
     tie.close (tie.spec
     (λ c. search needs) (λ c. search needs) (λ c. gone (c .enum-told .given .1) refl refl) (λ c κs. search needs)
     (λ c κs. let c₁ = c .before .before .before .before .before .before in
-    let s = c₁ .before .before .before .before .before .before .before .before in
-    ready-at (c₁ .got .given .1) (s .pre))
+    ready-at (c₁ .got .given .1) (c₁ .before .before .before .before .before .before .before .before .pre))
     (λ c. let c₁ = c .before in
     let c₂ = c₁ .before .before in
     let s = c₂ .before .before .before .before .before .before .before .before in

@@ -3,8 +3,7 @@ use native.Mathlib.Omega.{arith}
 use Rattle.tokens.specs.inside.Token.{toks}
 use Rattle.syntax.specs.inside.Program.{instrOp}
 use Rattle.expressions.specs.Reader.{seq, sign}
-use Rattle.expressions.proofs.Runs.{runs-seq, runs-sign, ready-sign, ready-less}
-use Rattle.statement_reader.proofs.Past.{ready-took}
+use Rattle.expressions.proofs.Runs.{runs-seq, runs-sign, ready-sign, ready-less, ready-took}
 use Rattle.grammar.specs.Reader as R
 use Rattle.grammar.proofs.Steps.{name-took}
 use Rattle.instrument_reader.proofs.header.Statement.{statement}
@@ -17,11 +16,8 @@ header-spec =
     (λ c κs. search needs)
     (λ c κs. let c₁ = c .before .before .before in
     let c₂ = c₁ .before .before .before .before .before .before .before in
-    let s = c₂ .before .before .before .before .before .before .before .before .before .before in
-    let T = toks (s .args .kinds .now) (s .args .words .now) (s .args .reals .now) in
-    let r₁ = ready-took 0 (name-took instrOp) (s .pre) (c₂ .name .ensures) in
-    let r₂ = ready-sign 15 r₁ (c₁ .pass .ensures) in
-    ready-less (omega arith) r₂)
+    let r₁ = ready-took 0 (name-took instrOp) (c₂ .before .before .before .before .before .before .before .before .before .before .pre) (c₂ .name .ensures) in
+    ready-less (omega arith) (ready-sign 15 r₁ (c₁ .pass .ensures)))
     (λ c κs. search needs) (λ c. search needs) (λ c. search needs) (λ c. search needs)
     (λ c. let c₁ = c .before .before .before .before .before .before .before in
     let c₂ = c₁ .before .before .before .before in

@@ -12,5 +12,4 @@ listed-spec =
     (λ c κs. search needs) (λ c. search needs) (λ c. search needs) (λ c. search needs)
     (λ c. let c₁ = c .before .before .before .before .before .before .before in
     let s = c₁ .before .before .before .before .before .before .before .before .before .before in
-    let T = toks (s .args .kinds .now) (s .args .words .now) (s .args .reals .now) in
-    runs-seq (sign 20) (c₁ .names .ensures) (runs-sign T 20 _ (c .pass .ensures))))
+    runs-seq (sign 20) (c₁ .names .ensures) (runs-sign (toks (s .args .kinds .now) (s .args .words .now) (s .args .reals .now)) 20 _ (c .pass .ensures))))

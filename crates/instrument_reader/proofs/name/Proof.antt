@@ -18,17 +18,14 @@ name-spec =
     let c₂ = c₁ .before .before in
     let c₃ = c₂ .before .before in
     let s = c₃ .before .before .before .before .before .before .before .before in
-    let T = toks (s .args .kinds .now) (s .args .words .now) (s .args .reals .now) in
-    let h = word-in T (c₃ .got .given .0 .0) (c₂ .word-at .ensures) (c₁ .n .given .1) in
+    let h = word-in (toks (s .args .kinds .now) (s .args .words .now) (s .args .reals .now)) (c₃ .got .given .0 .0) (c₂ .word-at .ensures) (c₁ .n .given .1) in
     omega (arith, length-toks (s .args .kinds .now) (s .args .words .now) (s .args .reals .now), s .good .0 .0))
     (λ c κs. let c₁ = c .before .before .before .before in
     let c₂ = c₁ .before .before in
     let c₃ = c₂ .before .before in
     let s = c₃ .before .before .before .before .before .before .before .before in
-    let T = toks (s .args .kinds .now) (s .args .words .now) (s .args .reals .now) in
-    let h = word-in T (c₃ .got .given .0 .0) (c₂ .word-at .ensures) (c₁ .n .given .1) in
-    let r = ready-next (s .pre) (c₃ .got .given .1) h in
-    ready-place r)
+    let h = word-in (toks (s .args .kinds .now) (s .args .words .now) (s .args .reals .now)) (c₃ .got .given .0 .0) (c₂ .word-at .ensures) (c₁ .n .given .1) in
+    ready-place (ready-next (s .pre) (c₃ .got .given .1) h))
     (λ c. search needs) (λ c. search needs) (λ c. search needs) (λ c. search needs)
     (λ c. let c₁ = c .before .before .before .before .before .before in
     let c₂ = c₁ .before .before .before .before .before in
@@ -36,8 +33,7 @@ name-spec =
     let c₄ = c₃ .before .before in
     let s = c₄ .before .before .before .before .before .before .before .before in
     let T = toks (s .args .kinds .now) (s .args .words .now) (s .args .reals .now) in
-    let h = word-in T (c₄ .got .given .0 .0) (c₃ .word-at .ensures) (c₂ .n .given .1) in
-    let r = ready-next (s .pre) (c₄ .got .given .1) h in
+    let r = ready-next (s .pre) (c₄ .got .given .1) (word-in T (c₄ .got .given .0 .0) (c₃ .word-at .ensures) (c₂ .n .given .1)) in
     name-as T (s .args .op) (c₄ .got .given .0 .0) (c₄ .got .given .1) (c₃ .word-at .ensures) (c₂ .n .given .1) (runs-emit (insArg (s .args .op) (c₂ .n .given .0 .0)) r (c₁ .emit .ensures .0) (c₁ .emit .ensures .1)))
     (λ c. let c₁ = c .before .before in
     let c₂ = c₁ .before .before in

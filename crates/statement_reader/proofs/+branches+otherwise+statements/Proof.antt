@@ -30,8 +30,7 @@ use Rattle.expressions.specs.Reader.{seq}
 use Rattle.expressions.specs.Areas.{left, gone}
 use Rattle.expressions.proofs.Toks.{length-toks}
 use Rattle.expressions.proofs.Moves.{sign-in}
-use Rattle.expressions.proofs.Runs.{runs-seq, runs-sign, runs-emit, ready-place, ready-less, past-ready, past-sign, past-start}
-use Rattle.statement_reader.proofs.Past.{runs-to, past-took, past-first}
+use Rattle.expressions.proofs.Runs.{runs-seq, runs-sign, runs-emit, ready-place, ready-less, past-ready, past-sign, past-start, runs-to, past-took, past-first}
 use Rattle.statement_reader.proofs.Ways.{start-in, start-past, statements-took, ready-at, statements-as, statements-stop, else-on, else-off}
 use Rattle.grammar.specs.Reader as R
 use Rattle.grammar.specs.declared.Start.the-variants.{Name, Output, If}
@@ -89,29 +88,20 @@ pub +branches+otherwise+statements-spec : {M : Type 1} → statement M
     (λ c κs. let c₁ = c .before .before .before .before in
     let c₂ = c₁ .before .before .before .before .before .before .before .before in
     let s = c₂ .before .before .before .before .before .before .before .before .before .before in
-    let T = toks (s .args .kinds .now) (s .args .words .now) (s .args .reals .now) in
-    let b = runs-to (c₁ .at .given .1) (c₂ .bracketed .ensures) in
-    let p₁ = past-first 1 (bracketed-took 17 7) (s .pre .1) (s .pre .0) b refl in
-    (p₁ .less, past-ready p₁))
+    let p₁ = past-first 1 (bracketed-took 17 7) (s .pre .1) (s .pre .0) (runs-to (c₁ .at .given .1) (c₂ .bracketed .ensures)) refl in (p₁ .less, past-ready p₁))
     (λ c κs. let c₁ = c .before .before .before .before .before .before .before .before .before in
     let c₂ = c₁ .before .before .before .before .before in
     let c₃ = c₂ .before .before .before .before .before .before .before .before in
     let s = c₃ .before .before .before .before .before .before .before .before .before .before in
-    let T = toks (s .args .kinds .now) (s .args .words .now) (s .args .reals .now) in
-    let b = runs-to (c₂ .at .given .1) (c₃ .bracketed .ensures) in
-    let p₁ = past-first 1 (bracketed-took 17 7) (s .pre .1) (s .pre .0) b refl in
-    let p₂ = past-took 0 statements-took p₁ (c₁ .statements .ensures) in
-    past-ready p₂)
+    let p₁ = past-first 1 (bracketed-took 17 7) (s .pre .1) (s .pre .0) (runs-to (c₂ .at .given .1) (c₃ .bracketed .ensures)) refl in
+    past-ready (past-took 0 statements-took p₁ (c₁ .statements .ensures)))
     (λ c κs. let c₁ = c .before .before .before .before .before .before .before .before .before in
     let c₂ = c₁ .before .before .before .before .before .before .before .before .before .before in
     let c₃ = c₂ .before .before .before .before .before in
     let c₄ = c₃ .before .before .before .before .before .before .before .before in
     let s = c₄ .before .before .before .before .before .before .before .before .before .before in
-    let T = toks (s .args .kinds .now) (s .args .words .now) (s .args .reals .now) in
-    let b = runs-to (c₃ .at .given .1) (c₄ .bracketed .ensures) in
-    let p₁ = past-first 1 (bracketed-took 17 7) (s .pre .1) (s .pre .0) b refl in
-    let p₂ = past-took 0 statements-took p₁ (c₂ .statements .ensures) in
-    let p₃ = past-took 0 (sign-emit 18 (ins elseOp)) p₂ (c₁ .close .ensures) in
+    let p₁ = past-first 1 (bracketed-took 17 7) (s .pre .1) (s .pre .0) (runs-to (c₃ .at .given .1) (c₄ .bracketed .ensures)) refl in
+    let p₃ = past-took 0 (sign-emit 18 (ins elseOp)) (past-took 0 statements-took p₁ (c₂ .statements .ensures)) (c₁ .close .ensures) in
     (p₃ .less, ready-less (omega arith) (p₃ .ready)))
     (λ c. search (needs, c .before .before .before .before .before .before .otherwise .kept, c .before .before .before .before .before .before .before .before .before .before .before .before .before .before .before .before .close .kept, c .before .before .before .before .before .before .before .before .before .before .before .before .before .before .before .before .before .before .before .before .before .before .before .before .before .before .statements .kept, c .before .before .before .before .before .before .before .before .before .before .before .before .before .before .before .before .before .before .before .before .before .before .before .before .before .before .before .before .before .before .before .before .before .before .before .before .before .before .before .bracketed .kept))
     (λ c. search (needs, c .before .before .before .before .before .before .otherwise .kept, c .before .before .before .before .before .before .before .before .before .before .before .before .before .before .before .before .close .kept, c .before .before .before .before .before .before .before .before .before .before .before .before .before .before .before .before .before .before .before .before .before .before .before .before .before .before .statements .kept, c .before .before .before .before .before .before .before .before .before .before .before .before .before .before .before .before .before .before .before .before .before .before .before .before .before .before .before .before .before .before .before .before .before .before .before .before .before .before .before .bracketed .kept))
@@ -122,9 +112,7 @@ pub +branches+otherwise+statements-spec : {M : Type 1} → statement M
     let c₄ = c₃ .before .before .before .before .before in
     let c₅ = c₄ .before .before .before .before .before .before .before .before in
     let s = c₅ .before .before .before .before .before .before .before .before .before .before in
-    let T = toks (s .args .kinds .now) (s .args .words .now) (s .args .reals .now) in
-    let b = runs-to (c₄ .at .given .1) (c₅ .bracketed .ensures) in
-    runs-seq (λ p. seq (R.statements p) (λ q. seq (R.close elseOp q) (R.otherwise R.statements))) b
+    runs-seq (λ p. seq (R.statements p) (λ q. seq (R.close elseOp q) (R.otherwise R.statements))) (runs-to (c₄ .at .given .1) (c₅ .bracketed .ensures))
     (runs-seq (λ q. seq (R.close elseOp q) (R.otherwise R.statements)) (c₃ .statements .ensures) (runs-seq (R.otherwise R.statements) (c₂ .close .ensures) (c₁ .otherwise .ensures)))))
     (λ t. otherwise-lts.spec
     (K-otherwise t) (otherwise-at t) otherwise.Post (λ c. search needs) (λ c. search needs) (λ c. gone (c .enum-told .given .1) refl refl)
@@ -132,8 +120,7 @@ pub +branches+otherwise+statements-spec : {M : Type 1} → statement M
     (λ c. let c₁ = c .before in
     let c₂ = c₁ .before .before in
     let s = c₂ .before .before .before .before .before .before .before .before in
-    let T = toks (s .args .kinds .now) (s .args .words .now) (s .args .reals .now) in
-    let h = sign-in T (c₂ .got .given .0 .0) 8 (sym (c₁ .sign-at .ensures) ∙ c .if1 .taken) in
+    let h = sign-in (toks (s .args .kinds .now) (s .args .words .now) (s .args .reals .now)) (c₂ .got .given .0 .0) 8 (sym (c₁ .sign-at .ensures) ∙ c .if1 .taken) in
     omega (arith, length-toks (s .args .kinds .now) (s .args .words .now) (s .args .reals .now), s .good .0 .0))
     (λ c κs. search needs)
     (λ c κs. let c₁ = c .before .before .before in
@@ -141,26 +128,19 @@ pub +branches+otherwise+statements-spec : {M : Type 1} → statement M
     let c₃ = c₂ .before in
     let c₄ = c₃ .before .before in
     let s = c₄ .before .before .before .before .before .before .before .before in
-    let T = toks (s .args .kinds .now) (s .args .words .now) (s .args .reals .now) in
-    let h = sign-in T (c₄ .got .given .0 .0) 8 (sym (c₃ .sign-at .ensures) ∙ c₂ .if1 .taken) in
-    let p₀ = past-start (s .pre .1) (c₄ .got .given .1) (s .pre .0) h in
-    let p₁ = past-sign 17 p₀ (c₁ .pass .ensures) in
-    (p₁ .less, past-ready p₁))
+    let h = sign-in (toks (s .args .kinds .now) (s .args .words .now) (s .args .reals .now)) (c₄ .got .given .0 .0) 8 (sym (c₃ .sign-at .ensures) ∙ c₂ .if1 .taken) in
+    let p₁ = past-sign 17 (past-start (s .pre .1) (c₄ .got .given .1) (s .pre .0) h) (c₁ .pass .ensures) in (p₁ .less, past-ready p₁))
     (λ c κs. let c₁ = c .before .before .before .before .before .before .before .before .before in
     let c₂ = c₁ .before .before .before .before in
     let c₃ = c₂ .before in
     let c₄ = c₃ .before in
     let c₅ = c₄ .before .before in
     let s = c₅ .before .before .before .before .before .before .before .before in
-    let T = toks (s .args .kinds .now) (s .args .words .now) (s .args .reals .now) in
-    let h = sign-in T (c₅ .got .given .0 .0) 8 (sym (c₄ .sign-at .ensures) ∙ c₃ .if1 .taken) in
-    let p₀ = past-start (s .pre .1) (c₅ .got .given .1) (s .pre .0) h in
-    let p₁ = past-sign 17 p₀ (c₂ .pass .ensures) in
-    let p₂ = past-took 0 statements-took p₁ (c₁ .statements .ensures) in
+    let h = sign-in (toks (s .args .kinds .now) (s .args .words .now) (s .args .reals .now)) (c₅ .got .given .0 .0) 8 (sym (c₄ .sign-at .ensures) ∙ c₃ .if1 .taken) in
+    let p₂ = past-took 0 statements-took (past-sign 17 (past-start (s .pre .1) (c₅ .got .given .1) (s .pre .0) h) (c₂ .pass .ensures)) (c₁ .statements .ensures) in
     past-ready p₂)
     (λ c κs. let c₁ = c .before .before .before .before .before .before in
-    let s = c₁ .before .before .before .before .before .before .before .before in
-    ready-place (ready-at (c₁ .got .given .1) (s .pre .1)))
+    ready-place (ready-at (c₁ .got .given .1) (c₁ .before .before .before .before .before .before .before .before .pre .1)))
     (λ c. search needs) (λ c. search needs) (λ c. search needs)
     (λ c. let c₁ = c .before .before .before .before .before .before in
     let c₂ = c₁ .before .before .before .before .before .before .before .before .before .before in
@@ -188,16 +168,14 @@ pub +branches+otherwise+statements-spec : {M : Type 1} → statement M
     let c₂ = c₁ .before .before in
     let c₃ = c₂ .before .before in
     let s = c₃ .before .before .before .before .before .before .before .before in
-    let T = toks (s .args .kinds .now) (s .args .words .now) (s .args .reals .now) in
-    let h = start-in T (c₃ .got .given .0 .0) (c₂ .start-at .ensures) (c₁ .n .given .1) tt in
+    let h = start-in (toks (s .args .kinds .now) (s .args .words .now) (s .args .reals .now)) (c₃ .got .given .0 .0) (c₂ .start-at .ensures) (c₁ .n .given .1) tt in
     omega (arith, length-toks (s .args .kinds .now) (s .args .words .now) (s .args .reals .now), s .good .0 .0))
     (λ c κs. let c₁ = c .before .before .before .before in
     let c₂ = c₁ .before .before in
     let c₃ = c₂ .before .before in
     let s = c₃ .before .before .before .before .before .before .before .before in
     let T = toks (s .args .kinds .now) (s .args .words .now) (s .args .reals .now) in
-    let p₀ = start-past T (c₃ .got .given .0 .0) (s .pre .1) (s .pre .0) (c₃ .got .given .1) (c₂ .start-at .ensures) (c₁ .n .given .1) tt in
-    past-ready p₀)
+    past-ready (start-past T (c₃ .got .given .0 .0) (s .pre .1) (s .pre .0) (c₃ .got .given .1) (c₂ .start-at .ensures) (c₁ .n .given .1) tt))
     (λ c κs. let c₁ = c .before .before .before .before .before .before .before .before .before in
     let c₂ = c₁ .before .before .before .before .before in
     let c₃ = c₂ .before .before in
@@ -205,8 +183,7 @@ pub +branches+otherwise+statements-spec : {M : Type 1} → statement M
     let s = c₄ .before .before .before .before .before .before .before .before in
     let T = toks (s .args .kinds .now) (s .args .words .now) (s .args .reals .now) in
     let p₀ = start-past T (c₄ .got .given .0 .0) (s .pre .1) (s .pre .0) (c₄ .got .given .1) (c₃ .start-at .ensures) (c₂ .n .given .1) tt in
-    let p₁ = past-took 1 (setTo-took (c₂ .n .given .0 .0)) p₀ (c₁ .set-to .ensures) in
-    (p₁ .less, past-ready p₁))
+    let p₁ = past-took 1 (setTo-took (c₂ .n .given .0 .0)) p₀ (c₁ .set-to .ensures) in (p₁ .less, past-ready p₁))
     (λ c. search needs)
     (λ c. let c₁ = c .before .before in
     let c₂ = c₁ .before .before in
@@ -219,8 +196,7 @@ pub +branches+otherwise+statements-spec : {M : Type 1} → statement M
     let c₃ = c₂ .before .before in
     let s = c₃ .before .before .before .before .before .before .before .before in
     let T = toks (s .args .kinds .now) (s .args .words .now) (s .args .reals .now) in
-    let p₀ = start-past T (c₃ .got .given .0 .0) (s .pre .1) (s .pre .0) (c₃ .got .given .1) (c₂ .start-at .ensures) (c₁ .enum-told2 .given .1) tt in
-    past-ready p₀)
+    past-ready (start-past T (c₃ .got .given .0 .0) (s .pre .1) (s .pre .0) (c₃ .got .given .1) (c₂ .start-at .ensures) (c₁ .enum-told2 .given .1) tt))
     (λ c κs. let c₁ = c .before .before .before .before .before .before .before .before .before in
     let c₂ = c₁ .before .before .before .before in
     let c₃ = c₂ .before .before in
@@ -228,8 +204,7 @@ pub +branches+otherwise+statements-spec : {M : Type 1} → statement M
     let s = c₄ .before .before .before .before .before .before .before .before in
     let T = toks (s .args .kinds .now) (s .args .words .now) (s .args .reals .now) in
     let p₀ = start-past T (c₄ .got .given .0 .0) (s .pre .1) (s .pre .0) (c₄ .got .given .1) (c₃ .start-at .ensures) (c₂ .enum-told2 .given .1) tt in
-    let p₁ = past-took 2 (bracketed-took 20 6) p₀ (c₁ .bracketed .ensures) in
-    (p₁ .less, past-ready p₁))
+    let p₁ = past-took 2 (bracketed-took 20 6) p₀ (c₁ .bracketed .ensures) in (p₁ .less, past-ready p₁))
     (λ c. search needs)
     (λ c. let c₁ = c .before .before in
     let c₂ = c₁ .before .before in
@@ -251,8 +226,7 @@ pub +branches+otherwise+statements-spec : {M : Type 1} → statement M
     let s = c₄ .before .before .before .before .before .before .before .before in
     let T = toks (s .args .kinds .now) (s .args .words .now) (s .args .reals .now) in
     let p₀ = start-past T (c₄ .got .given .0 .0) (s .pre .1) (s .pre .0) (c₄ .got .given .1) (c₃ .start-at .ensures) (c₂ .enum-told3 .given .1) tt in
-    let p₁ = past-took 1 (branches-took R.statements statements-took) p₀ (c₁ .branches .ensures) in
-    (p₁ .less, past-ready p₁))
+    let p₁ = past-took 1 (branches-took R.statements statements-took) p₀ (c₁ .branches .ensures) in (p₁ .less, past-ready p₁))
     (λ c. search needs) (λ c. search needs) (λ c. search needs) (λ c. search needs)
     (λ c. let c₁ = c .before .before .before .before .before .before in
     let c₂ = c₁ .before .before .before .before .before .before .before .before .before .before in

@@ -14,22 +14,15 @@ bracketed-spec =
     tie.close (tie.spec
     (λ c κs. search needs)
     (λ c κs. let c₁ = c .before .before .before in
-    let s = c₁ .before .before .before .before .before .before .before in
-    let T = toks (s .args .kinds .now) (s .args .words .now) (s .args .reals .now) in
-    let r₁ = ready-sign 15 (s .pre) (c₁ .pass .ensures) in
-    ready-less (omega arith) r₁)
+    ready-less (omega arith) (ready-sign 15 (c₁ .before .before .before .before .before .before .before .pre) (c₁ .pass .ensures)))
     (λ c κs. search needs) (λ c κs. search needs)
     (λ c κs. let c₁ = c .before .before .before in
     let c₂ = c₁ .before in
     let c₃ = c₂ .before .before .before .before .before .before .before in
     let c₄ = c₃ .before .before .before .before in
     let s = c₄ .before .before .before .before .before .before .before in
-    let T = toks (s .args .kinds .now) (s .args .words .now) (s .args .reals .now) in
-    let r₁ = ready-sign 15 (s .pre) (c₄ .pass .ensures) in
-    let r₂ = ready-expr 0 r₁ (c₃ .expr .ensures) in
-    let r₃ = ready-sign 16 r₂ (c₂ .pass2 .ensures) in
-    let r₄ = ready-sign (s .args .s) r₃ (c₁ .pass3 .ensures) in
-    ready-place r₄)
+    let r₃ = ready-sign 16 (ready-expr 0 (ready-sign 15 (s .pre) (c₄ .pass .ensures)) (c₃ .expr .ensures)) (c₂ .pass2 .ensures) in
+    ready-place (ready-sign (s .args .s) r₃ (c₁ .pass3 .ensures)))
     (λ c. search needs) (λ c. search needs) (λ c. search needs)
     (λ c. let c₁ = c .before .before .before .before .before .before in
     let c₂ = c₁ .before .before .before .before in
@@ -38,9 +31,7 @@ bracketed-spec =
     let c₅ = c₄ .before .before .before .before in
     let s = c₅ .before .before .before .before .before .before .before in
     let T = toks (s .args .kinds .now) (s .args .words .now) (s .args .reals .now) in
-    let r₁ = ready-sign 15 (s .pre) (c₅ .pass .ensures) in
-    let r₂ = ready-expr 0 r₁ (c₄ .expr .ensures) in
-    let r₃ = ready-sign 16 r₂ (c₃ .pass2 .ensures) in
+    let r₃ = ready-sign 16 (ready-expr 0 (ready-sign 15 (s .pre) (c₅ .pass .ensures)) (c₄ .expr .ensures)) (c₃ .pass2 .ensures) in
     let r₄ = ready-sign (s .args .s) r₃ (c₂ .pass3 .ensures) in
     runs-seq (λ p. seq (reader .expr 0 p) (λ q. seq (sign 16 q) (λ r. seq (sign (s .args .s) r) (E.emit (ins (s .args .op)))))) (runs-sign T 15 (s .args .got) (c₅ .pass .ensures))
     (runs-seq (λ q. seq (sign 16 q) (λ r. seq (sign (s .args .s) r) (E.emit (ins (s .args .op))))) (c₄ .expr .ensures)

@@ -10,11 +10,7 @@ pub close-spec : {M : Type 1} → statement M
 close-spec =
     tie.close (tie.spec
     (λ c κs. search needs)
-    (λ c κs. let c₁ = c .before .before .before in
-    let s = c₁ .before .before .before .before .before .before .before in
-    let T = toks (s .args .kinds .now) (s .args .words .now) (s .args .reals .now) in
-    let r₁ = ready-sign 18 (s .pre) (c₁ .pass .ensures) in
-    ready-place r₁)
+    (λ c κs. let c₁ = c .before .before .before in ready-place (ready-sign 18 (c₁ .before .before .before .before .before .before .before .pre) (c₁ .pass .ensures)))
     (λ c. search needs) (λ c. search needs) (λ c. search needs)
     (λ c. let c₁ = c .before .before .before .before .before .before in
     let c₂ = c₁ .before .before .before .before in

@@ -14,20 +14,13 @@ set-to-spec =
     tie.close (tie.spec
     (λ c κs. search needs)
     (λ c κs. let c₁ = c .before .before .before in
-    let s = c₁ .before .before .before .before .before .before .before in
-    let T = toks (s .args .kinds .now) (s .args .words .now) (s .args .reals .now) in
-    let r₁ = ready-sign 21 (s .pre) (c₁ .pass .ensures) in
-    ready-less (omega arith) r₁)
+    ready-less (omega arith) (ready-sign 21 (c₁ .before .before .before .before .before .before .before .pre) (c₁ .pass .ensures)))
     (λ c κs. search needs)
     (λ c κs. let c₁ = c .before .before .before in
     let c₂ = c₁ .before .before .before .before .before .before .before in
     let c₃ = c₂ .before .before .before .before in
-    let s = c₃ .before .before .before .before .before .before .before in
-    let T = toks (s .args .kinds .now) (s .args .words .now) (s .args .reals .now) in
-    let r₁ = ready-sign 21 (s .pre) (c₃ .pass .ensures) in
-    let r₂ = ready-expr 0 r₁ (c₂ .expr .ensures) in
-    let r₃ = ready-sign 20 r₂ (c₁ .pass2 .ensures) in
-    ready-place r₃)
+    let r₂ = ready-expr 0 (ready-sign 21 (c₃ .before .before .before .before .before .before .before .pre) (c₃ .pass .ensures)) (c₂ .expr .ensures) in
+    ready-place (ready-sign 20 r₂ (c₁ .pass2 .ensures)))
     (λ c. search needs) (λ c. search needs) (λ c. search needs)
     (λ c. let c₁ = c .before .before .before .before .before .before in
     let c₂ = c₁ .before .before .before .before in
@@ -35,8 +28,6 @@ set-to-spec =
     let c₄ = c₃ .before .before .before .before in
     let s = c₄ .before .before .before .before .before .before .before in
     let T = toks (s .args .kinds .now) (s .args .words .now) (s .args .reals .now) in
-    let r₁ = ready-sign 21 (s .pre) (c₄ .pass .ensures) in
-    let r₂ = ready-expr 0 r₁ (c₃ .expr .ensures) in
-    let r₃ = ready-sign 20 r₂ (c₂ .pass2 .ensures) in
+    let r₃ = ready-sign 20 (ready-expr 0 (ready-sign 21 (s .pre) (c₄ .pass .ensures)) (c₃ .expr .ensures)) (c₂ .pass2 .ensures) in
     runs-seq (λ p. seq (reader .expr 0 p) (λ q. seq (sign 20 q) (E.emit (insArg storeOp (s .args .n))))) (runs-sign T 21 (s .args .got) (c₄ .pass .ensures))
     (runs-seq (λ q. seq (sign 20 q) (E.emit (insArg storeOp (s .args .n)))) (c₃ .expr .ensures) (runs-seq (E.emit (insArg storeOp (s .args .n))) (runs-sign T 20 _ (c₂ .pass2 .ensures)) (runs-emit (insArg storeOp (s .args .n)) r₃ (c₁ .emit .ensures .0) (c₁ .emit .ensures .1))))))

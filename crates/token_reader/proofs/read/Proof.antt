@@ -1,4 +1,4 @@
-use Rattle.token_reader.proofs.Whole.{read-long, read-taken, scan-taken, read-refused}
+use Rattle.token_reader.proofs.Judging.{read-long, read-taken, scan-taken, read-refused}
 use borrow.Author.Needs.{needs}
 use Rattle.token_reader.proofs.read.Statement.{statement}
 use Rattle.token_reader.proofs.read.Tie as tie
