@@ -1,5 +1,5 @@
 -- An if, an else and an instrument have their tokens.
-use Prim.Native.Nat.{ℕ, suc, _+_, _*_, _≤_}
+use Prim.Native.Nat.{_+_, _*_, _≤_}
 use native.Mathlib.Omega.{arith}
 use mathlib.Core.List.{List, [], _∷_}
 use lib.ListN.{length, length-append}
@@ -10,7 +10,7 @@ use Rattle.tokens.specs.declared.Token.{Token}
 use Rattle.tokens.specs.Measures.{mostTokens}
 use Rattle.syntax.specs.Tree.{Statements, done, assign, output, branch, Instrument}
 use Rattle.syntax.specs.Grammar.{Stmts, none, set, out, when, either, Instr, is as an·instr, Orchestra, last, next}
-use Rattle.bounds.specs.Ifs.{ifs, another, elses, allIfs, allElses, ifTokens, elseTokens, instrTokens, IfsByTokens, FewIfs, IfsFit}
+use Rattle.bounds.specs.Ifs.{ifs, another, elses, allIfs, allElses, ifTokens, elseTokens, instrTokens, IfsByTokens, IfsFit}
 use Rattle.bounds.proofs.Exprs.{depth-tokens}
 use Rattle.translation.proofs.Exprs.{depth-pos}
 
@@ -56,7 +56,4 @@ some (next d o) = omega arith
 pub ifs-fit : IfsFit
 ifs-fit is ts o m =
     let l = leb-true (length ts) mostTokens (both-true (leb (length ts) mostTokens) _ m .0) in
-    let h = ifs-by-tokens is ts o in
-    let k = all-elses-ifs is in
-    let s = some o in
-    record { ifs = omega arith; blocks = omega arith }
+    omega (arith, ifs-by-tokens is ts o, all-elses-ifs is, some o)

@@ -1,16 +1,15 @@
 -- Names put by their places change neither the parts that wait, nor the lengths.
 use Prim.Native.Nat.{ℕ, suc}
 use native.Mathlib.Omega.{arith}
-use mathlib.Core.Path.{_≡_, refl, sym, _∙_}
+use mathlib.Core.Path.{_≡_, refl}
 use mathlib.Core.List.{List, [], _∷_, map}
 use lib.ListN.{length, length-append}
 use Rattle.syntax.specs.Tree.{Expr, number, name, unary, binary, choose, Statements, done, assign, output, branch, Instrument}
 use Rattle.syntax.specs.inside.Program.{compile, code, instrument, program}
 use Rattle.syntax.specs.Names.{Named}
-use Rattle.syntax.specs.inside.Placed.{place, putIn, put, placed}
+use Rattle.syntax.specs.inside.Placed.{putIn, put, placed}
 use Rattle.translation.specs.Statements.{depth}
 use Rattle.bounds.specs.Sizes.{Shallow, Small}
-use Rattle.bounds.proofs.Exprs.{length-name, length-unary, length-binary, length-choose, length-assign, length-output, length-branch}
 
 module _ (ms : List Named) where
   pub depth-put : (e : Expr) → depth (putIn ms e) ≡ depth e
@@ -22,30 +21,19 @@ module _ (ms : List Named) where
   depth-put (choose c a b) = rw (depth-put c, depth-put a, depth-put b)
 
   pub compile-put : (e : Expr) → length (compile (putIn ms e)) ≡ length (compile e)
-  unfolding putIn
+  unfolding putIn compile
   compile-put (number x) = refl
-  compile-put (name c) = length-name (place ms c) ∙ sym (length-name c)
-  compile-put (unary o e) = omega (arith, length-unary o e, length-unary o (putIn ms e), compile-put e)
-  compile-put (binary o a b) =
-      omega (arith, length-binary o a b, length-binary o (putIn ms a) (putIn ms b), compile-put a, compile-put b)
-  compile-put (choose c a b) =
-      omega (arith, length-choose c a b, length-choose (putIn ms c) (putIn ms a) (putIn ms b), compile-put c, compile-put a, compile-put b)
+  compile-put (name c) = refl
+  compile-put (unary o e) = simp length-append (omega (arith, compile-put e))
+  compile-put (binary o a b) = simp length-append (omega (arith, compile-put a, compile-put b))
+  compile-put (choose c a b) = simp length-append (omega (arith, compile-put c, compile-put a, compile-put b))
 
   pub code-put : (t : Statements) → length (code (put ms t)) ≡ length (code t)
-  unfolding put
+  unfolding put code
   code-put done = refl
-  code-put (assign c e t) = omega (arith, length-assign c e t, length-assign (place ms c) (putIn ms e) (put ms t), compile-put e, code-put t)
-  code-put (output e t) = omega (arith, length-output 0 e t, length-output 0 (putIn ms e) (put ms t), compile-put e, code-put t)
-  code-put (branch e a b t) =
-      omega (
-        arith,
-        length-branch e a b t,
-        length-branch (putIn ms e) (put ms a) (put ms b) (put ms t),
-        compile-put e,
-        code-put a,
-        code-put b,
-        code-put t,
-      )
+  code-put (assign c e t) = simp length-append (omega (arith, compile-put e, code-put t))
+  code-put (output e t) = simp length-append (omega (arith, compile-put e, code-put t))
+  code-put (branch e a b t) = simp length-append (omega (arith, compile-put e, code-put a, code-put b, code-put t))
 
   pub shallow-put : (e : Expr) → Shallow e → Shallow (putIn ms e)
   shallow-put e s = record { deep = omega (arith, depth-put e) }
@@ -65,11 +53,4 @@ instrument-put i = simp (length-append, code-put)
 pub program-put : (is : List Instrument) → length (program (map placed is)) ≡ length (program is)
 unfolding program
 program-put [] = refl
-program-put (i ∷ is) =
-    omega (
-      arith,
-      length-append (instrument i) (program is),
-      length-append (instrument (placed i)) (program (map placed is)),
-      instrument-put i,
-      program-put is,
-    )
+program-put (i ∷ is) = simp length-append (omega (arith, simp length-append at (instrument-put i), program-put is))

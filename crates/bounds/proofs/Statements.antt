@@ -7,11 +7,11 @@ use lib.ListN.{length, length-append}
 use Rattle.tokens.specs.declared.Token.{Token}
 use Rattle.tokens.specs.declared.Token.the-variants.{Symbol, Sign}
 use Rattle.tokens.specs.Measures.{longestStretch}
-use Rattle.syntax.specs.Tree.{Expr, Statements, done}
+use Rattle.syntax.specs.Tree.{Expr, Statements}
 use Rattle.syntax.specs.inside.Program.{code}
 use Rattle.syntax.specs.Grammar.{IsExpr, Stmts, none, set, out, when, either}
 use Rattle.bounds.specs.Sizes.{Shallow, Small}
-use Rattle.bounds.proofs.Exprs.{depth-tokens, compile-tokens, length-done, length-assign, length-output, length-branch}
+use Rattle.bounds.proofs.Exprs.{depth-tokens, compile-tokens}
 use Rattle.bounds.proofs.Measures.{Kept, Plain, Inner, pass-plain, pass-round, pass-round-end, pass-block, pass-block-end, pass-semicolon, plain-symbol, plain-sign, within}
 
 -- the measures go on, with n brackets open and some tokens since the last of ; { }
@@ -88,10 +88,9 @@ statements-fit (either {ts = ts} {xs = xs} {ys = ys} {us = us} d t u s) g n r l 
 
 -- statements have no more instructions than tokens
 pub code-tokens : {t : Statements} {ts : List Token} → Stmts t ts → length (code t) ≤ length ts
-code-tokens none = omega (arith, length-done)
-code-tokens (set n {e = e} {r = r} d s) = simp length-append (omega (arith, length-assign n e r, compile-tokens d, code-tokens s))
-code-tokens (out {e = e} {r = r} d s) = simp length-append (omega (arith, length-output 0 e r, compile-tokens d, code-tokens s))
-code-tokens (when {e = e} {a = a} {r = r} d t s) =
-    simp length-append (omega (arith, length-branch e a done r, length-done, compile-tokens d, code-tokens t, code-tokens s))
-code-tokens (either {e = e} {a = a} {b = b} {r = r} d t u s) =
-    simp length-append (omega (arith, length-branch e a b r, compile-tokens d, code-tokens t, code-tokens u, code-tokens s))
+unfolding code
+code-tokens none = omega arith
+code-tokens (set n d s) = simp length-append (omega (arith, compile-tokens d, code-tokens s))
+code-tokens (out d s) = simp length-append (omega (arith, compile-tokens d, code-tokens s))
+code-tokens (when d t s) = simp length-append (omega (arith, compile-tokens d, code-tokens t, code-tokens s))
+code-tokens (either d t u s) = simp length-append (omega (arith, compile-tokens d, code-tokens t, code-tokens u, code-tokens s))

@@ -3,15 +3,14 @@ use mathlib.Core.Path.{_≡_, refl, sym, ap, _∙_, subst⁻¹}
 use mathlib.Core.Bool.{Bool, true, false, not, cond}
 use mathlib.Core.List.{List, [], _∷_}
 use Prim.Native.Nat.{ℕ}
-use Rattle.answer.specs.Numbers.{numberOf, isTaken}
+use Rattle.answer.specs.Numbers.{numberOf}
 use Rattle.answer.specs.declared.Answer.the-variants as answer
 use Rattle.score_line.specs.declared.Line.{Line}
 use Rattle.waiting.specs.declared.Queue.{Queue}
-use Rattle.waiting.specs.declared.Admitted.{Admitted}
 use Rattle.kept_orchestra.specs.declared.Instrument.{Instrument}
 use Rattle.players.specs.Lists.{each}
 use Rattle.players.specs.Calls.{Door, unit, mustBeTimed, hasTime, reads, Call, bring, burst, keyboard, cycle, After, afterAll, answersAll}
-use Rattle.players.proofs.Lists.{cond-true, cond-false}
+use Rattle.players.proofs.Lists.{cond-false}
 use Rattle.entrances.specs.Entrances.{lineIn, pushedAll, broughtIn}
 use Rattle.entrances.specs.declared.Pushed.{Pushed}
 use Rattle.calls.specs.OnState as onState
@@ -36,13 +35,7 @@ entered p l =
 by-door : (p : Panel) (d : Door) (a : List ℕ) (l : Line) → hasTime (l .when) ≡ true → reads d a .answer ≡ answer.Taken → reads d a .lines ≡ l ∷ []
     → broughtIn (p .state .playing .ended) (mustBeTimed d) (tableOf (p .program)) (p .state .queue) (reads d a) ≡ entered p l
 unfolding broughtIn pushedAll entered
-by-door p d a l h t q =
-    let table = tableOf (p .program) in
-    let queue = p .state .queue in
-    ap (cond (p .state .playing .ended) (record { queue = queue; answer = answer.Ended; line = 0 }))
-    (cond-true _ _ (ap isTaken t) ∙ ap (pushedAll (mustBeTimed d) table queue queue 0) q
-    ∙ ap (λ (x : Admitted). cond (isTaken (x .answer)) (record { queue = x .queue; answer = answer.Taken; line = 0 }) (record { queue = queue; answer = x .answer; line = 0 }))
-    (line-alike (mustBeTimed d) table queue l h))
+by-door p d a l h t q = rw (t, q, line-alike (mustBeTimed d) (tableOf (p .program)) (p .state .queue) l h)
 
 -- what every entrance leaves that reads it alone
 record Enters (p : Panel) (l : Line) (a : After Panel) : Type 0 where

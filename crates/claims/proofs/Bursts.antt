@@ -1,7 +1,7 @@
 -- What a burst leaves, of every panel: its units as if they came singly.
 use mathlib.Core.Path.{_≡_, refl, sym, ap, _∙_, subst⁻¹}
-use mathlib.Core.Bool.{Bool, true, false, cond}
-use mathlib.Core.List.{List, [], _∷_, _++_, append-assoc, append-nil}
+use mathlib.Core.Bool.{Bool, true, false, cond, true≢false}
+use mathlib.Core.List.{List, [], _∷_, _++_, append-nil}
 use Prim.Native.Nat.{ℕ, suc, _≤_, _<_}
 use lib.Dec.{eqb, leb}
 use lib.ListN.{length, take, drop}
@@ -19,36 +19,29 @@ use Rattle.score.specs.Score.{unitOf}
 use Rattle.bitstream.specs.Bits.{bitsOf}
 use Rattle.players.specs.Lists.{each, over}
 use Rattle.players.specs.Calls.{unit, mustBeTimed, single, reads, bring, burst, Answer, one, After, takenOf, afterAll, answersAll}
+use Rattle.players.proofs.Lists.{by-test, either-way}
 use Rattle.waiting.specs.Admission.{waitingIn}
 use Rattle.waiting.specs.declared.Queue.{Queue}
-use Rattle.waiting.specs.declared.Admitted.{Admitted}
 use Rattle.kept_orchestra.specs.declared.Instrument.{Instrument}
 use Rattle.entrances.specs.Entrances.{lineIn, pushedAll, broughtIn}
 use Rattle.entrances.specs.declared.Pushed.{Pushed}
 use Rattle.burst_entrance.specs.Singly.{singlyIn, sentIn, areaIn}
-use Rattle.burst_entrance.specs.declared.Sent.{Sent}
 use Rattle.calls.specs.OnState as onState
 use Rattle.calls.specs.OnState.{sentOf}
 use Rattle.panel.specs.State.{tableOf, withState, withQueue}
 use Rattle.panel.specs.Calls.{broughtOf, bringOf, receiveOf, areaAfter}
 use Rattle.panel.specs.declared.Panel.{Panel}
 use Rattle.claims.specs.Claims.{unitAnswer, afterOf, panel, refusedBurst, asUnits, BurstAsUnits}
-use Rattle.claims.proofs.Doors.{differ, Behind, Brings, takes, refuses, brings}
+use Rattle.claims.proofs.Doors.{Behind, behind-more, Brings, takes, refuses, brings}
 
 -- ---- a unit's answer is about its only line
 
 alone-line : (ended : Bool) (table : List Instrument) (q : Queue) (r : LineRead) → broughtIn ended false table q (single r) .line ≡ 0
 unfolding broughtIn pushedAll
 alone-line true table q r = refl
-alone-line false table q r = go (isTaken (r .answer))
-  where
-    by-line : (a : Admitted) (b : Bool) → _≡_ {A = ℕ} (cond {A = Pushed} b (record { queue = a .queue; answer = answer.Taken; line = 0 }) (record { queue = q; answer = a .answer; line = 0 }) .line) 0
-    by-line a true = refl
-    by-line a false = refl
-
-    go : (b : Bool) → cond b (pushedAll false table q q 0 (cond b (r .line ∷ []) [])) (record { queue = q; answer = r .answer; line = 0 }) .line ≡ 0
-    go true = by-line (lineIn false table q (r .line)) (isTaken (lineIn false table q (r .line) .answer))
-    go false = refl
+alone-line false table q r =
+    by-test (isTaken (r .answer))
+    (λ e. rw e (either-way (λ (x : Pushed). x .line ≡ 0) (isTaken (lineIn false table q (r .line) .answer)) refl refl)) (λ e. rw e)
 
 pub unit-line : (p : Panel) (u : List ℕ) → bringOf p unit u .line ≡ 0
 unfolding bringOf broughtOf onState.broughtOf
@@ -123,29 +116,23 @@ taken-burst p area us =
     record { player = singly p us .panel; answers = one 0 0 ++ each unitAnswer (singly p us .numbers); block = []; area = over (singly p us .numbers) area }
 
 module _ (p : Panel) (area : List ℕ) (us : List (List ℕ)) where
-  by-room : Bool → After Panel
-  by-room b =
-      let x = in-turn p us in
-      let r = cond {A = Sent} b (record { queue = x .panel .state .queue; answer = answer.Taken; units = length us }) (record { queue = p .state .queue; answer = answer.NoRoom; units = 0 }) in
-      let a = cond b (over (x .numbers) area) area in
-      record { player = withQueue p (r .queue); answers = one (numberOf (r .answer)) 0 ++ each unitAnswer (take (r .units) a); block = []; area = a }
-
-  left-units : (b : Bool) → leb (length us) (length area) ≡ b → left p area (units us) ≡ by-room b
-  unfolding left sentOf sentIn areaIn by-room withQueue
-  left-units b e = ap by-room e
-
   pub left-short : length area < length us → left p area (units us) ≡ refusedBurst p area 8
-  unfolding by-room each withQueue
-  left-short h = left-units false (lt-leb (length us) (length area) h)
+  unfolding left sentOf sentIn areaIn each
+  left-short h = rw (lt-leb (length us) (length area) h)
 
   pub left-taken : length us ≤ length area → left p area (units us) ≡ taken-burst p area us
-  unfolding by-room withQueue
+  unfolding left sentOf sentIn areaIn withQueue
   left-taken h =
       let ns = singly p us .numbers in
-      let first : take (length us) (over ns area) ≡ ns = ap (λ (n : ℕ). take n (over ns area)) (sym (length-singly us p)) ∙ take-append-seam ns (drop (length ns) area) in
-      left-units true (le-leb (length us) (length area) h)
-      ∙ ap (λ (x : Singly). record { player = x .panel; answers = one 0 0 ++ each unitAnswer (take (length us) (over (x .numbers) area)); block = []; area = over (x .numbers) area }) (singly-is us p)
-      ∙ ap (λ (l : List ℕ). record { player = singly p us .panel; answers = one 0 0 ++ each unitAnswer l; block = []; area = over ns area }) first
+      let first : take (length us) (over ns area) ≡ ns = cc (length-singly us p, take-append-seam ns (drop (length ns) area)) in
+      rw (le-leb (length us) (length area) h)
+      (ap (λ (x : Singly). record {
+        player = x .panel;
+        answers = one 0 0 ++ each unitAnswer (take (length us) (over (x .numbers) area));
+        block = [];
+        area = over (x .numbers) area;
+      }) (singly-is us p)
+      ∙ ap (λ (l : List ℕ). record { player = singly p us .panel; answers = one 0 0 ++ each unitAnswer l; block = []; area = over ns area }) first)
 
   units-singly : taken-burst p area us ≡ asUnits p area us
   units-singly =
@@ -174,15 +161,11 @@ pub data Receives (p : Panel) (bytes area : List ℕ) (a : After Panel) : Type 0
 pub receives : (p : Panel) (bytes area : List ℕ) → Receives p bytes area (afterOf p (burst bytes area))
 receives p bytes area = go (every-kind bytes) refl
   where
-    by-places : (us : List (List ℕ)) → burstOf bytes ≡ units us → (b : Bool) → leb (length us) (length area) ≡ b → Receives p bytes area (afterOf p (burst bytes area))
-    by-places us q true e = received us q (left-is p bytes area (units us) q ∙ left-enough us e)
-      where
-        left-enough : (vs : List (List ℕ)) → leb (length vs) (length area) ≡ true → left p area (units vs) ≡ taken-burst p area vs
-        left-enough vs h = left-taken p area vs (leb-true (length vs) (length area) h)
-    by-places us q false e = unreceived 8 refl (left-is p bytes area (units us) q ∙ left-short p area us (leb-false (length us) (length area) e))
-
     go : {b : Burst} → Kind b → burstOf bytes ≡ b → Receives p bytes area (afterOf p (burst bytes area))
-    go (is-units us) q = by-places us q (leb (length us) (length area)) refl
+    go (is-units us) q =
+        by-test (leb (length us) (length area))
+        (λ e. received us q (left-is p bytes area (units us) q ∙ left-taken p area us (leb-true (length us) (length area) e)))
+        (λ e. unreceived 8 refl (left-is p bytes area (units us) q ∙ left-short p area us (leb-false (length us) (length area) e)))
     go is-cut q = unreceived 1 refl (left-is p bytes area _ q ∙ left-fault p area answer.CutShort)
     go is-too-many q = unreceived 5 refl (left-is p bytes area _ q ∙ left-fault p area answer.TooManyValues)
 
@@ -198,7 +181,7 @@ pub record Leaves (p : Panel) (taken : List Line) (p′ : Panel) : Type 0 where
   pub behind : Behind (p .state .queue) taken queue
   pub none : p .state .playing .ended ≡ true → taken ≡ []
 
-first-number : List Answer → ℕ
+unfoldable pub first-number : List Answer → ℕ
 first-number [] = 0
 first-number (a ∷ given) = a .number
 
@@ -217,17 +200,6 @@ leaves (u ∷ us) p long = go (brings p unit u) (λ q h. leaves us q h)
         let b = f long in
         let y = rec (withQueue p q) (b .long) in
         subst⁻¹ Rest x
-        (record {
-          queue = y .queue;
-          same = y .same;
-          behind = record {
-            waits = y .behind .waits ∙ ap (λ (ws : List Line). ws ++ taken-of us (singly (withQueue p q) us .numbers)) (b .waits) ∙ append-assoc (waitingIn (p .state .queue)) (reads unit u .lines) (taken-of us (singly (withQueue p q) us .numbers));
-            long = y .behind .long;
-            ran = y .behind .ran ∙ b .ran;
-            last = y .behind .last ∙ b .last;
-          };
-          none = λ t. absurd (differ (sym t ∙ e));
-        })
+        (record { queue = y .queue; same = y .same; behind = behind-more b (y .behind); none = λ t. absurd (true≢false (sym t ∙ e)) })
     go (refuses n l z x) rec =
-        subst⁻¹ Rest x
-        (subst⁻¹ (λ (b : Bool). Leaves p (cond b (reads unit u .lines) [] ++ taken-of us (singly p us .numbers)) (singly p us .panel)) z (rec p long))
+        subst⁻¹ Rest x (rw z (rec p long))

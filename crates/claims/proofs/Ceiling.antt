@@ -1,9 +1,8 @@
 -- The ceiling binds, on a panel and on a core whatever it is lent; and a core that is lent its panel's own code goes as the panel does.
 use mathlib.Core.Path.{_≡_, refl, sym, ap, _∙_, subst, subst⁻¹}
-use mathlib.Core.Bool.{true}
+use mathlib.Core.Bool.{true, false≢true}
 use mathlib.Core.List.{List, [], _∷_, _++_}
 use Prim.Native.Nat.{ℕ, _≤_}
-use lib.IntN.{ℤ}
 use lib.Ieee.{Float}
 use lib.ListN.{take}
 use Rattle.answer.specs.Numbers.{numberOf}
@@ -14,13 +13,12 @@ use Rattle.players.specs.Calls.{Call, bring, burst, keyboard, cycle, one, After
 use Rattle.players.specs.Condition3.{WithinCeiling}
 use Rattle.players.proofs.Ceiling.{block-within}
 use Rattle.panel.specs.State.{voicesOf, holdsOf, settingsIn, withState}
-use Rattle.panel.specs.Calls.{broughtOf, bringOf, receiveOf, areaAfter, playKeysOf, cycleOf, blockAfter}
+use Rattle.panel.specs.Calls.{broughtOf, bringOf, receiveOf, playKeysOf, cycleOf}
 use Rattle.panel.specs.Core.{panelOf}
 use Rattle.panel.specs.declared.Panel.{Panel}
 use Rattle.panel.specs.declared.Core.{Core}
 use Rattle.claims.specs.Claims.{unitAnswer, afterOf, panel, settings, CeilingBinds}
 use Rattle.claims.specs.Core.{coreOf, core, CoreByContract, momentOnCore, GoesAsPanel, CoreAsPanel, LentCall, lentFrom, CoreCeilingBinds}
-use Rattle.claims.proofs.Doors.{differ′}
 use Rattle.claims.proofs.Cycles.{Cycles, off, over-before, ends, plays, cycles}
 use Rattle.claims.proofs.Past.{fresh-kept}
 
@@ -46,9 +44,9 @@ within p low high (cycle b) t = go (cycles p b)
     not-zero x = ap (λ (a : After Panel). isZero (a .answers)) (sym x) ∙ t
 
     go : Cycles p b (afterOf p (cycle b)) → All (Within (p .ceiling)) (afterOf p (cycle b) .block)
-    go (off w x) = absurd (differ′ (not-zero x))
-    go (over-before w e x) = absurd (differ′ (not-zero x))
-    go (ends w e d x) = absurd (differ′ (not-zero x))
+    go (off w x) = absurd (false≢true (not-zero x))
+    go (over-before w e x) = absurd (false≢true (not-zero x))
+    go (ends w e d x) = absurd (false≢true (not-zero x))
     go (plays w e d x) =
         subst⁻¹ (λ (a : After Panel). All (Within (p .ceiling)) (a .block)) x
         (block-within (voicesOf (p .program)) (settingsIn p) low high (dueOf (holdsOf p)) (holdsOf p .plays))

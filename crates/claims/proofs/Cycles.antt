@@ -1,11 +1,11 @@
 -- What a cycle call leaves, of every panel.
-use mathlib.Core.Path.{_≡_, refl, sym, ap, _∙_}
-use mathlib.Core.Bool.{Bool, true, false, not, cond, _&&_}
+use mathlib.Core.Path.{_≡_, refl, ap, _∙_}
+use mathlib.Core.Bool.{Bool, true, false, not, cond, true≢false}
 use mathlib.Core.List.{List, [], _∷_}
-use Prim.Native.Nat.{ℕ, _≤_}
+use Prim.Native.Nat.{ℕ}
 use native.Mathlib.Omega.{arith}
 use lib.IntN.{ℤ}
-use lib.ListN.{length, take, drop, length-take}
+use lib.ListN.{length, drop, length-take}
 use lib.Seq.{take-append-seam}
 use lib.Dec.{eqb}
 use Rattle.answer.specs.Numbers.{numberOf, isTaken}
@@ -15,9 +15,9 @@ use Rattle.notes.specs.declared.Note.{Note}
 use Rattle.players.specs.Lists.{each, keep, over}
 use Rattle.players.specs.Cycle.{isDue, samples}
 use Rattle.players.specs.Cycle as cycle
-use Rattle.players.specs.Holds.{Plays, laterThan, dueOf, endsBy, marked, blockOf, played}
+use Rattle.players.specs.Holds.{Plays, laterThan, dueOf, endsBy, blockOf, played}
 use Rattle.players.specs.inside.Holds.{capped}
-use Rattle.players.specs.Calls.{bring, burst, keyboard, cycle as cycle-call, one, numbered, After, isZero}
+use Rattle.players.specs.Calls.{Call, bring, burst, keyboard, cycle as cycle-call, one, numbered, After}
 use Rattle.players.specs.History.{at}
 use Rattle.players.proofs.Lists.{length-keep}
 use Rattle.players.proofs.Loops.{length-over}
@@ -29,15 +29,15 @@ use Rattle.sixteen_notes.proofs.Steps.{length-each}
 use Rattle.state.specs.Playing.{playsOf}
 use Rattle.steps.specs.Steps.{laidOver, advanced}
 use Rattle.state.specs.declared.Playing.{Playing}
-use Rattle.state.specs.States.{stopped, queueAfter}
+use Rattle.state.specs.States.{queueAfter}
 use Rattle.cycle.specs.OneCycle as oneCycle
 use Rattle.cycle.specs.IntoBlock.{cycledOf, blockLeft}
 use Rattle.calls.specs.declared.Left.{Left}
 use Rattle.panel.specs.State.{voicesOf, holdsOf, settingsIn, withState, endedOf}
 use Rattle.panel.specs.Calls.{cycleOf, blockAfter}
 use Rattle.panel.specs.declared.Panel.{Panel}
-use Rattle.claims.specs.Claims.{afterOf, reachedOf, findsEnd, Refused, RefusalsChangeNothing}
-use Rattle.claims.proofs.Doors.{differ, Brings, takes, refuses, brings}
+use Rattle.claims.specs.Claims.{afterOf, reachedOf, findsEnd, blockIn, areaOf, Refused, RefusalsChangeNothing}
+use Rattle.claims.proofs.Doors.{Brings, takes, refuses, brings}
 use Rattle.claims.proofs.Bursts.{Receives, received, unreceived, receives}
 use Rattle.claims.proofs.Keyboard.{Presses, keys-over, keys-faulty, keys-full, keys-taken, presses}
 
@@ -49,10 +49,7 @@ note-struct [] = refl
 note-struct (n ∷ ns) = ap (λ (l : List (cycle.Note Held)). n ∷ l) (note-struct ns)
 
 notes-back : (ns : List (cycle.Note Held)) (old : List Note) → notesIn (over (each structOf ns) old) (length ns) ≡ ns
-notes-back ns old =
-    ap (λ (n : ℕ). each noteOf (take n (over (each structOf ns) old))) (sym (length-each structOf ns))
-    ∙ ap (each noteOf) (take-append-seam (each structOf ns) (drop (length (each structOf ns)) old))
-    ∙ note-struct ns
+notes-back ns old = cc (length-each structOf ns, take-append-seam (each structOf ns) (drop (length (each structOf ns)) old), note-struct ns)
 
 plays-back : (old : Playing) (p : Plays Held) → playsOf (laidOver old p) ≡ p
 plays-back old p =
@@ -63,10 +60,6 @@ plays-back old p =
 -- steps 2 to 8
 unfoldable pub playedOf : Panel → Panel
 playedOf p = withState p (oneCycle.playedOf (voicesOf (p .program)) (settingsIn p) (p .state))
-
-pub holds-ended : (p : Panel) → holdsOf (endedOf p) ≡ record { waits = holdsOf p .waits; messages = holdsOf p .messages; plays = marked (holdsOf p .plays) }
-unfolding endedOf stopped marked
-holds-ended p = refl
 
 pub holds-played : (p : Panel) → holdsOf (playedOf p)
     ≡ record {
@@ -83,10 +76,6 @@ holds-played p =
       plays = plays-back (p .state .playing) (capped (played (voicesOf (p .program)) (settingsIn p) (dueOf (holdsOf p)) (holdsOf p .plays))) i;
     }
 
-pub reached-ended : (p : Panel) → reachedOf (endedOf p) ≡ reachedOf p
-unfolding endedOf stopped
-reached-ended p = refl
-
 pub reached-played : (p : Panel) → reachedOf (playedOf p) ≡ at (holdsOf p .plays .position)
 unfolding playedOf oneCycle.playedOf queueAfter
 reached-played p = refl
@@ -97,10 +86,7 @@ unfolding playedOf oneCycle.playedOf queueAfter laterThan
 played-long p h =
     let k : Line → Bool = λ (l : Line). not (isDue (p .state .playing .position) l) in
     let w = waitingIn (p .state .queue) in
-    let a = length-keep k w in
-    let b = length-take (p .state .queue .count) (p .state .queue .lines) in
-    let c : length (keep k w) ≤ length (p .state .queue .lines) = omega (arith, a, b) in
-    length-over (keep k w) (p .state .queue .lines) c ∙ h
+    length-over (keep k w) (p .state .queue .lines) (omega (arith, length-keep k w, length-take (p .state .queue .count) (p .state .queue .lines))) ∙ h
 
 -- ---- what the call leaves
 
@@ -136,33 +122,33 @@ cycles p b = go (eqb (length b) samples) (p .state .playing .ended) (endsBy (due
 
 -- ---- refusals
 
+refused-so : (p : Panel) (c : Call) {b : Bool} {n l : ℕ} → findsEnd p c ≡ b
+    → afterOf p c ≡ record { player = cond b (endedOf p) p; answers = one n l; block = blockIn c; area = areaOf c } → Refused p c
+refused-so p c f x = record { player = cc; block = cc; area = cc }
+
 pub refusals-change-nothing : RefusalsChangeNothing
 unfolding RefusalsChangeNothing
 refusals-change-nothing p (bring d handed) t = go (brings p d handed)
   where
     go : {ls : List Line} → Brings p ls (afterOf p (bring d handed)) → Refused p (bring d handed)
-    go (takes l q e f x) = absurd (differ (sym (ap (λ (a : After Panel). isZero (a .answers)) x) ∙ t))
-    go (refuses n l z x) = record { player = ap (λ (a : After Panel). a .player) x; block = ap (λ (a : After Panel). a .block) x; area = ap (λ (a : After Panel). a .area) x }
+    go (takes l q e f x) = absurd (true≢false (cc))
+    go (refuses n l z x) = refused-so p (bring d handed) refl x
 refusals-change-nothing p (burst bytes area) t = go (receives p bytes area)
   where
     go : Receives p bytes area (afterOf p (burst bytes area)) → Refused p (burst bytes area)
-    go (received us q x) = absurd (differ (sym (ap (λ (a : After Panel). isZero (a .answers)) x) ∙ t))
-    go (unreceived n z x) = record { player = ap (λ (a : After Panel). a .player) x; block = ap (λ (a : After Panel). a .block) x; area = ap (λ (a : After Panel). a .area) x }
+    go (received us q x) = absurd (true≢false (cc))
+    go (unreceived n z x) = refused-so p (burst bytes area) refl x
 refusals-change-nothing p (keyboard bytes) t = go (presses p bytes)
   where
     go : Presses p bytes (afterOf p (keyboard bytes)) → Refused p (keyboard bytes)
-    go (keys-over e x) = record { player = ap (λ (a : After Panel). a .player) x; block = ap (λ (a : After Panel). a .block) x; area = ap (λ (a : After Panel). a .area) x }
-    go (keys-faulty n e f z x) = record { player = ap (λ (a : After Panel). a .player) x; block = ap (λ (a : After Panel). a .block) x; area = ap (λ (a : After Panel). a .area) x }
-    go (keys-full ms e f l x) = record { player = ap (λ (a : After Panel). a .player) x; block = ap (λ (a : After Panel). a .block) x; area = ap (λ (a : After Panel). a .area) x }
-    go (keys-taken ms e f l x) = absurd (differ (sym (ap (λ (a : After Panel). isZero (a .answers)) x) ∙ t))
+    go (keys-over e x) = refused-so p (keyboard bytes) refl x
+    go (keys-faulty n e f z x) = refused-so p (keyboard bytes) refl x
+    go (keys-full ms e f l x) = refused-so p (keyboard bytes) refl x
+    go (keys-taken ms e f l x) = absurd (true≢false (cc))
 refusals-change-nothing p (cycle-call b) t = go (cycles p b)
   where
-    found : (w e d : Bool) → numbered (cycle-call b) ≡ w → p .state .playing .ended ≡ e → endsBy (dueOf (holdsOf p)) (holdsOf p .plays) ≡ d
-        → (q : Panel) → q ≡ cond (w && not e && d) (endedOf p) p → q ≡ cond (findsEnd p (cycle-call b)) (endedOf p) p
-    found w e d hw he hd q x = x ∙ (λ i. cond (sym hw i && not (sym he i) && sym hd i) (endedOf p) p)
-
     go : Cycles p b (afterOf p (cycle-call b)) → Refused p (cycle-call b)
-    go (off w x) = record { player = found false _ _ w refl refl _ (ap (λ (a : After Panel). a .player) x); block = ap (λ (a : After Panel). a .block) x; area = ap (λ (a : After Panel). a .area) x }
-    go (over-before w e x) = record { player = found true true _ w e refl _ (ap (λ (a : After Panel). a .player) x); block = ap (λ (a : After Panel). a .block) x; area = ap (λ (a : After Panel). a .area) x }
-    go (ends w e d x) = record { player = found true false true w e d _ (ap (λ (a : After Panel). a .player) x); block = ap (λ (a : After Panel). a .block) x; area = ap (λ (a : After Panel). a .area) x }
-    go (plays w e d x) = absurd (differ (sym (ap (λ (a : After Panel). isZero (a .answers)) x) ∙ t))
+    go (off w x) = refused-so p (cycle-call b) {b = false} (cc) x
+    go (over-before w e x) = refused-so p (cycle-call b) {b = false} (cc) x
+    go (ends w e d x) = refused-so p (cycle-call b) {b = true} (cc) x
+    go (plays w e d x) = absurd (true≢false (cc))

@@ -1,5 +1,5 @@
 -- Every call has a verdict, whatever was called before.
-use mathlib.Core.Path.{_≡_, refl, ap, _∙_, subst}
+use mathlib.Core.Path.{_≡_, refl, _∙_}
 use mathlib.Core.Bool.{Bool, true, false, not, cond, _&&_}
 use mathlib.Core.List.{List, [], _∷_, _++_}
 use Prim.Native.Nat.{ℕ, suc, _+_}
@@ -7,26 +7,25 @@ use native.Mathlib.Omega.{arith}
 use lib.IntN.{ℤ}
 use lib.ListN.{length}
 use lib.Dec.{eqb, ltb, leb}
-use borrow.Author.Tests.{ltb-true, ltb-false, leb-true, leb-false}
+use borrow.Author.Tests.{ltb-true, ltb-false, leb-true, leb-false, not-true, not-false}
+use Rattle.laws.proofs.Choice.{both-true}
 use Rattle.answer.specs.declared.Answer as kind
 use Rattle.answer.specs.declared.Answer.the-variants as answer
 use Rattle.score_line.specs.declared.Line.{Line}
 use Rattle.score_text.specs.inside.Reading.{lines}
 use Rattle.syntax.specs.Tree.{Instrument}
-use Rattle.syntax.specs.Names.{has}
 use Rattle.players.specs.Holds.{dueOf, endsBy}
 use Rattle.players.specs.Calls.{Door, unit, mustBeTimed, hasTime, reads, Call, bring, burst, cycle, Answer, one, numbered, keyboard}
 use Rattle.players.specs.History.{History}
+use Rattle.players.proofs.Lists.{by-test}
 use Rattle.bursts.specs.Bursts as bursts
-use Rattle.bursts.specs.Bursts.{Burst, units, mostUnits}
+use Rattle.bursts.specs.Bursts.{Burst, mostUnits}
 use Rattle.bursts.proofs.Meaning as burst-kinds
 use Rattle.bursts.proofs.Meaning.{every-burst, every-kind as every-kind-of-burst}
 use Rattle.claims.specs.Verdict.{Playable, tooLate, mostLines, Fits, AllFit, Faulty, untimed, unplayable, late, full, Verdict, AtDoor, AtCycle, over, badText, cut, notCarried, outOfRange, tooManyValues, leftOver, faulty, taken, otherLength, overBefore, findsEnd, plays, AtKeyboard, mostMessages, keysOver, keysCut, keysNotCarried, keysFull, keysTaken, withLines, InTurn, none, next, burstCut, burstTooLong, burstNoRoom, burstTaken, once}
-use Rattle.claims.proofs.Doors.{differ, differ′}
 use Rattle.messages.specs.Message.{none as noStatus}
 use Rattle.messages.specs.Writing as midi
 use Rattle.messages.specs.Writing.{Says}
-use Rattle.messages.specs.declared.Message.{Message}
 use Rattle.messages.proofs.Meaning.{every-call}
 use Rattle.messages.proofs.Faults.{Kind, is-whole, is-cut, is-not-carried, every-kind}
 use Rattle.claims.proofs.Fitting.{Judged, yes-so, no-so, event-judged}
@@ -44,35 +43,17 @@ module _ {S : Type 0} (is : List Instrument) (h : History S) where
       fit : Fits is d (h .reached) n l → OneLine n l
       unfit : (number : ℕ) → Faulty is d (h .reached) n l number → OneLine n l
 
-    implied : (a b : Bool) → (a && not b) ≡ false → a ≡ true → b ≡ true
-    implied true true e q = refl
-    implied true false e q = absurd (differ e)
-    implied false b e q = absurd (differ′ q)
-
-    both : (a b : Bool) → (a && not b) ≡ true → (a ≡ true) × (b ≡ false)
-    both true true e = absurd (differ′ e)
-    both true false e = (refl, refl)
-    both false b e = absurd (differ′ e)
-
     one-line : (n : ℕ) (l : Line) → OneLine n l
-    one-line n l = by-time (mustBeTimed d && not (hasTime (l .when))) refl
+    one-line n l =
+        by-test (mustBeTimed d && not (hasTime (l .when)))
+        (λ e. let x = both-true (mustBeTimed d) (not (hasTime (l .when))) e in unfit 6 (untimed (x .0) (not-true (hasTime (l .when)) (x .1))))
+        (λ e. by-fields (λ m. not-false (hasTime (l .when)) (cc)) (event-judged is (l .count) (l .event)))
       where
-        by-room : (mustBeTimed d ≡ true → hasTime (l .when) ≡ true) → Playable is (l .count) (l .event) → tooLate (h .reached) (l .when) ≡ false
-            → (b : Bool) → ltb n mostLines ≡ b → OneLine n l
-        by-room t u w true q = fit (record { timed = t; playable = u; early = w; room = ltb-true n mostLines q })
-        by-room t u w false q = unfit 8 (full t u w (ltb-false n mostLines q))
-
-        by-late : (mustBeTimed d ≡ true → hasTime (l .when) ≡ true) → Playable is (l .count) (l .event) → (b : Bool) → tooLate (h .reached) (l .when) ≡ b → OneLine n l
-        by-late t u true w = unfit 7 (late t u w)
-        by-late t u false w = by-room t u w (ltb n mostLines) refl
-
         by-fields : {b : Bool} → (mustBeTimed d ≡ true → hasTime (l .when) ≡ true) → Judged (Playable is (l .count) (l .event)) b → OneLine n l
-        by-fields t (yes-so u) = by-late t u (tooLate (h .reached) (l .when)) refl
         by-fields t (no-so u) = unfit 4 (unplayable t u)
-
-        by-time : (b : Bool) → (mustBeTimed d && not (hasTime (l .when))) ≡ b → OneLine n l
-        by-time true e = let x = both (mustBeTimed d) (hasTime (l .when)) e in unfit 6 (untimed (x .0) (x .1))
-        by-time false e = by-fields (implied (mustBeTimed d) (hasTime (l .when)) e) (event-judged is (l .count) (l .event))
+        by-fields t (yes-so u) =
+            by-test (tooLate (h .reached) (l .when)) (λ w. unfit 7 (late t u w)) (λ w. by-test (ltb n mostLines)
+            (λ q. fit (record { timed = t; playable = u; early = w; room = ltb-true n mostLines q })) (λ q. unfit 8 (full t u w (ltb-false n mostLines q))))
 
     data Parted (n : ℕ) (ls : List Line) : Type 0 where
       whole : AllFit is d (h .reached) n ls → Parted n ls
@@ -85,15 +66,15 @@ module _ {S : Type 0} (is : List Instrument) (h : History S) where
       where
         go : OneLine n l → Parted (suc n) ls → Parted n (l ∷ ls)
         go (unfit number f) r =
-            let same : n ≡ n + 0 = omega arith in
-            broken [] l ls number refl tt (subst (λ (k : ℕ). Faulty is d (h .reached) k l number) same f)
+            let same : n + 0 ≡ n = omega arith in broken [] l ls number refl tt (rw same f)
         go (fit t) (whole u) = whole (t, u)
         go (fit t) (broken before x later number e u f) =
-            let same : suc n + length before ≡ n + suc (length before) = omega arith in
-            broken (l ∷ before) x later number (ap (λ (xs : List Line). l ∷ xs) e) (t, u) (subst (λ (k : ℕ). Faulty is d (h .reached) k x number) same f)
+            let same : n + suc (length before) ≡ suc n + length before = omega arith in broken (l ∷ before) x later number (cc) (t, u) (rw same f)
 
     pub at-door : (handed : List ℕ) → Found (AtDoor is h d handed)
-    at-door handed = by-end (h .holds .plays .ended) refl
+    at-door handed =
+        by-test (h .holds .plays .ended) (λ e. record { number = 9; line = 0; verdict = over e })
+        (λ e. by-reading e (reads d handed .answer) refl (reads-so d handed .readable))
       where
         by-lines : h .holds .plays .ended ≡ false → reads d handed .answer ≡ answer.Taken → (ls : List Line) → reads d handed .lines ≡ ls
             → Parted (length (h .holds .waits)) ls → Found (AtDoor is h d handed)
@@ -110,34 +91,25 @@ module _ {S : Type 0} (is : List Instrument) (h : History S) where
         by-reading e _ q read-left-over = record { number = 11; line = 0; verdict = leftOver e q }
         by-reading e _ q read-bad-text = record { number = 18; line = reads d handed .line; verdict = badText e q }
 
-        by-end : (b : Bool) → h .holds .plays .ended ≡ b → Found (AtDoor is h d handed)
-        by-end true e = record { number = 9; line = 0; verdict = over e }
-        by-end false e = by-reading e (reads d handed .answer) refl (reads-so d handed .readable)
-
   at-keyboard : (bytes : List ℕ) → Found (AtKeyboard is h bytes)
-  at-keyboard bytes = by-end (h .holds .plays .ended) refl
+  at-keyboard bytes =
+      by-test (h .holds .plays .ended) (λ e. record { number = 9; line = 0; verdict = keysOver e }) (λ e. by-call e (every-call bytes) (every-kind bytes))
     where
-      by-room : (ms : List Message) → h .holds .plays .ended ≡ false → Says noStatus bytes (midi.whole ms) → (b : Bool) → leb (length (h .holds .messages) + length ms) mostMessages ≡ b → Found (AtKeyboard is h bytes)
-      by-room ms e s true q = record { number = 0; line = 0; verdict = keysTaken ms e s (leb-true (length (h .holds .messages) + length ms) mostMessages q) }
-      by-room ms e s false q = record { number = 8; line = 0; verdict = keysFull ms e s (leb-false (length (h .holds .messages) + length ms) mostMessages q) }
-
       by-call : h .holds .plays .ended ≡ false → {c : midi.Call} → Says noStatus bytes c → Kind c → Found (AtKeyboard is h bytes)
-      by-call e s (is-whole ms) = by-room ms e s (leb (length (h .holds .messages) + length ms) mostMessages) refl
+      by-call e s (is-whole ms) =
+          let many = length (h .holds .messages) + length ms in
+          by-test (leb many mostMessages) (λ q. record { number = 0; line = 0; verdict = keysTaken ms e s (leb-true many mostMessages q) })
+          (λ q. record { number = 8; line = 0; verdict = keysFull ms e s (leb-false many mostMessages q) })
       by-call e s is-cut = record { number = 1; line = 0; verdict = keysCut e s }
       by-call e s is-not-carried = record { number = 2; line = 0; verdict = keysNotCarried e s }
 
-      by-end : (b : Bool) → h .holds .plays .ended ≡ b → Found (AtKeyboard is h bytes)
-      by-end true e = record { number = 9; line = 0; verdict = keysOver e }
-      by-end false e = by-call e (every-call bytes) (every-kind bytes)
-
   at-cycle : (block : List ℤ) → Found (AtCycle is h block)
-  at-cycle block = go (numbered (cycle block)) (h .holds .plays .ended) (endsBy (dueOf (h .holds)) (h .holds .plays)) refl refl refl
-    where
-      go : (w e x : Bool) → numbered (cycle block) ≡ w → h .holds .plays .ended ≡ e → endsBy (dueOf (h .holds)) (h .holds .plays) ≡ x → Found (AtCycle is h block)
-      go true true x hw he hx = record { number = 9; line = 0; verdict = overBefore hw he }
-      go true false true hw he hx = record { number = 9; line = 0; verdict = findsEnd hw he hx }
-      go true false false hw he hx = record { number = 0; line = 0; verdict = plays hw he hx }
-      go false e x hw he hx = record { number = 10; line = 0; verdict = otherLength hw }
+  at-cycle block =
+      by-test (numbered (cycle block))
+      (λ w. by-test (h .holds .plays .ended) (λ e. record { number = 9; line = 0; verdict = overBefore w e })
+      (λ e. by-test (endsBy (dueOf (h .holds)) (h .holds .plays)) (λ x. record { number = 9; line = 0; verdict = findsEnd w e x })
+      (λ x. record { number = 0; line = 0; verdict = plays w e x })))
+      (λ w. record { number = 10; line = 0; verdict = otherLength w })
 
 -- units in turn have answers
 record Answers {S : Type 0} (is : List Instrument) (h : History S) (us : List (List ℕ)) : Type 0 where
@@ -159,13 +131,12 @@ module _ {S : Type 0} (is : List Instrument) (h : History S) where
   at-burst : (bytes area : List ℕ) → Decided (burst bytes area)
   at-burst bytes area = by-kind (every-burst bytes) (every-kind-of-burst bytes)
     where
-      by-room : (us : List (List ℕ)) → bursts.Says mostUnits bytes (units us) → (b : Bool) → leb (length us) (length area) ≡ b → Decided (burst bytes area)
-      by-room us s true q =
-          let y = in-turn is us h in record { answers = one 0 0 ++ y .told; verdict = burstTaken us (y .told) s (leb-true (length us) (length area) q) (y .so) }
-      by-room us s false q = record { answers = one 8 0; verdict = burstNoRoom us s (leb-false (length us) (length area) q) }
-
       by-kind : {b : Burst} → bursts.Says mostUnits bytes b → burst-kinds.Kind b → Decided (burst bytes area)
-      by-kind s (burst-kinds.is-units us) = by-room us s (leb (length us) (length area)) refl
+      by-kind s (burst-kinds.is-units us) =
+          let y = in-turn is us h in
+          by-test (leb (length us) (length area))
+          (λ q. record { answers = one 0 0 ++ y .told; verdict = burstTaken us (y .told) s (leb-true (length us) (length area) q) (y .so) })
+          (λ q. record { answers = one 8 0; verdict = burstNoRoom us s (leb-false (length us) (length area) q) })
       by-kind s burst-kinds.is-cut = record { answers = one 1 0; verdict = burstCut s }
       by-kind s burst-kinds.is-too-many = record { answers = one 5 0; verdict = burstTooLong s }
 

@@ -1,14 +1,12 @@
 -- What a call at a door leaves, of every panel.
-use mathlib.Core.Path.{_≡_, refl, sym, ap, _∙_, subst⁻¹}
-use mathlib.Core.Bool.{Bool, true, false, not, cond, _&&_}
+use mathlib.Core.Path.{_≡_, refl, sym, _∙_}
+use mathlib.Core.Bool.{Bool, true, false, not, _&&_, true≢false, false≢true}
 use mathlib.Core.List.{List, [], _∷_, _++_, append-assoc, append-nil}
 use Prim.Native.Nat.{ℕ, _+_}
-use native.Mathlib.Omega.{arith}
 use lib.ListN.{length}
 use lib.Dec.{eqb}
 use borrow.Author.Tests.{eqb-true}
 use Rattle.answer.specs.Numbers.{numberOf, isTaken}
-use Rattle.answer.specs.declared.Answer.the-variants as answer
 use Rattle.score_line.specs.declared.Line.{Line}
 use Rattle.score.specs.Score.{Score}
 use Rattle.waiting.specs.Admission.{admitted, pushed, waitingIn}
@@ -18,7 +16,8 @@ use Rattle.kept_orchestra.specs.declared.Fields.{Fields}
 use Rattle.waiting.proofs.Admission.{taken-pushed, taken-room, waiting-pushed, length-pushed}
 use Rattle.kept_orchestra.specs.Kept.{fieldsIn}
 use Rattle.kept_orchestra.specs.declared.Instrument.{Instrument}
-use Rattle.players.specs.Calls.{Door, mustBeTimed, hasTime, reads, bring, one, After, isZero}
+use Rattle.players.specs.Calls.{Door, mustBeTimed, hasTime, reads, bring, one, After}
+use Rattle.players.proofs.Lists.{by-test, either-way}
 use Rattle.entrances.specs.Entrances.{lineIn, pushedAll, broughtIn}
 use Rattle.entrances.specs.declared.Pushed.{Pushed}
 use Rattle.calls.specs.OnState as onState
@@ -26,12 +25,6 @@ use Rattle.panel.specs.State.{tableOf, withQueue}
 use Rattle.panel.specs.Calls.{broughtOf, bringOf}
 use Rattle.panel.specs.declared.Panel.{Panel}
 use Rattle.claims.specs.Claims.{afterOf, Takes, TakenCalls}
-
-pub differ : true ≡ false → ⊥
-differ q = let z : _≡_ {A = ℕ} 0 1 = cc in omega arith
-
-pub differ′ : false ≡ true → ⊥
-differ′ q = differ (sym q)
 
 -- ---- lines behind those that wait
 
@@ -41,21 +34,21 @@ pub record Behind (q : Queue) (ls : List Line) (q′ : Queue) : Type 0 where
   pub ran : q′ .ran ≡ q .ran
   pub last : q′ .last ≡ q .last
 
+pub behind-more : {q : Queue} {ls ms : List Line} {q′ q″ : Queue} → Behind q ls q′ → Behind q′ ms q″ → Behind q (ls ++ ms) q″
+behind-more {q} {ls} {ms} x y =
+    record { waits = cc (x .waits, y .waits, append-assoc (waitingIn q) ls ms); long = y .long; ran = y .ran ∙ x .ran; last = y .last ∙ x .last }
+
 module _ (timed : Bool) (table : List Instrument) where
   admits : (q : Queue) (l : Line) (f : Fields) → length (q .lines) ≡ 64 → isTaken (admitted q l f .answer) ≡ true → Behind q (l ∷ []) (admitted q l f .queue)
   unfolding pushed
   admits q l f long t =
-      subst⁻¹ (Behind q (l ∷ [])) (taken-pushed q l f t)
-      (record { waits = waiting-pushed q l f long (taken-room q l f t); long = length-pushed q l f ∙ long; ran = refl; last = refl })
+      rw (taken-pushed q l f t) (record { waits = waiting-pushed q l f long (taken-room q l f t); long = length-pushed q l f ∙ long; ran = refl; last = refl })
 
   line-took : (q : Queue) (l : Line) → length (q .lines) ≡ 64 → isTaken (lineIn timed table q l .answer) ≡ true → Behind q (l ∷ []) (lineIn timed table q l .queue)
   unfolding lineIn
-  line-took q l long = go (timed && not (hasTime (l .when)))
-    where
-      go : (b : Bool) → isTaken (cond {A = Admitted} b (record { queue = q; answer = answer.NoTime }) (admitted q l (fieldsIn table (l .event))) .answer) ≡ true
-          → Behind q (l ∷ []) (cond {A = Admitted} b (record { queue = q; answer = answer.NoTime }) (admitted q l (fieldsIn table (l .event))) .queue)
-      go true t = absurd (differ′ t)
-      go false t = admits q l (fieldsIn table (l .event)) long t
+  line-took q l long =
+      either-way (λ (a : Admitted). isTaken (a .answer) ≡ true → Behind q (l ∷ []) (a .queue)) (timed && not (hasTime (l .when)))
+      (λ t. absurd (false≢true t)) (admits q l (fieldsIn table (l .event)) long)
 
   -- what pushed lines leave: they all wait behind the others, or the old queue stays
   pub data Went (old q : Queue) (ls : List Line) (r : Pushed) : Type 0 where
@@ -66,33 +59,16 @@ module _ (timed : Bool) (table : List Instrument) where
   unfolding pushedAll
   all-lines old q i [] = in-all refl (λ long. record { waits = sym (append-nil (waitingIn q)); long = long; ran = refl; last = refl })
   all-lines old q i (l ∷ ls) =
-      go (lineIn timed table q l) (isTaken (lineIn timed table q l .answer)) refl (line-took q l) (all-lines old (lineIn timed table q l .queue) (i + 1) ls)
+      let a = lineIn timed table q l in
+      by-test (isTaken (a .answer)) (λ e. rw e (go a (λ long. line-took q l long e) (all-lines old (a .queue) (i + 1) ls))) (λ e. rw e (in-none e refl))
     where
-      go : (a : Admitted) (b : Bool) → isTaken (a .answer) ≡ b → (length (q .lines) ≡ 64 → isTaken (a .answer) ≡ true → Behind q (l ∷ []) (a .queue))
-          → Went old (a .queue) ls (pushedAll timed table old (a .queue) (i + 1) ls)
-          → Went old q (l ∷ ls) (cond b (pushedAll timed table old (a .queue) (i + 1) ls) (record { queue = old; answer = a .answer; line = i }))
-      go a true e first (in-all t rest) =
-          in-all t
-          (λ long.
-          let x = first long e in
-          let y = rest (x .long) in
-          record {
-            waits = y .waits ∙ ap (λ (ws : List Line). ws ++ ls) (x .waits) ∙ append-assoc (waitingIn q) (l ∷ []) ls;
-            long = y .long;
-            ran = y .ran ∙ x .ran;
-            last = y .last ∙ x .last;
-          })
-      go a true e first (in-none t s) = in-none t s
-      go a false e first r = in-none e refl
+      go : (a : Admitted) {r : Pushed} → (length (q .lines) ≡ 64 → Behind q (l ∷ []) (a .queue)) → Went old (a .queue) ls r → Went old q (l ∷ ls) r
+      go a first (in-all t rest) = in-all t (λ long. behind-more (first long) (rest (first long .long)))
+      go a first (in-none t s) = in-none t s
 
   pub went : (q : Queue) (s : Score) → Went q q (s .lines) (broughtIn false timed table q s)
   unfolding broughtIn
-  went q s = go (isTaken (s .answer)) refl (all-lines q q 0 (s .lines))
-    where
-      go : (b : Bool) → isTaken (s .answer) ≡ b → Went q q (s .lines) (pushedAll timed table q q 0 (s .lines))
-          → Went q q (s .lines) (cond b (pushedAll timed table q q 0 (s .lines)) (record { queue = q; answer = s .answer; line = s .line }))
-      go true e w = w
-      go false e w = in-none e refl
+  went q s = by-test (isTaken (s .answer)) (λ e. rw e (all-lines q q 0 (s .lines))) (λ e. rw e (in-none e refl))
 
 -- ---- what a door leaves: the lines read wait behind the others, or it is refused and the panel is as it was
 
@@ -125,7 +101,5 @@ unfolding TakenCalls
 taken-calls p d handed long t = go (brings p d handed)
   where
     go : Brings p (reads d handed .lines) (afterOf p (bring d handed)) → Takes p (reads d handed .lines) (afterOf p (bring d handed) .player)
-    go (takes l q e f x) =
-        let b = f long in
-        record { queue = q; left = ap (λ (a : After Panel). a .player) x; waits = b .waits; ran = b .ran; last = b .last }
-    go (refuses n l z x) = absurd (differ (sym t ∙ ap (λ (a : After Panel). isZero (a .answers)) x ∙ z))
+    go (takes l q e f x) = let b = f long in record { queue = q; left = cc; waits = b .waits; ran = b .ran; last = b .last }
+    go (refuses n l z x) = absurd (true≢false (cc))

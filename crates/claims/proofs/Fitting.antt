@@ -1,6 +1,6 @@
 -- Whether a line fits: 4 by the instruments, 6 and 7 by its time; each is decided.
-use mathlib.Core.Path.{_≡_, refl, sym, ap, _∙_, subst⁻¹}
-use mathlib.Core.Bool.{Bool, true, false, not, cond, _&&_, _||_}
+use mathlib.Core.Path.{_≡_, refl}
+use mathlib.Core.Bool.{Bool, true, false, not, cond, _&&_, false≢true}
 use mathlib.Core.List.{List, [], _∷_, map}
 use Prim.Native.Nat.{ℕ}
 use native.Mathlib.Omega.{arith}
@@ -15,63 +15,43 @@ use Rattle.syntax.specs.Tree.{Instrument}
 use Rattle.syntax.specs.Names.{has, titleOf}
 use Rattle.meaning.specs.Meaning.{instrumentOf}
 use Rattle.voices.specs.Tree.{fieldsOf}
-use Rattle.players.specs.Lists.{each}
-use Rattle.players.specs.Holds.{behind}
+use Rattle.players.proofs.Lists.{by-test}
 use Rattle.players.specs.History.{nowhere, at}
 use Rattle.waiting.specs.Waiting.{isLate}
 use Rattle.waiting.specs.Admission.{tooMany, unfitEvent}
 use Rattle.kept_orchestra.specs.declared.Fields.the-variants.{Count, NoSuch}
 use Rattle.claims.specs.Verdict.{HasFields, here, there, Playable, tooLate}
-use Rattle.claims.proofs.Doors.{differ′}
 
 pub data Judged (P : Type 0) : Bool → Type 0 where
   yes-so : P → Judged P false
   no-so : (P → ⊥) → Judged P true
 
-filled-list : {A : Type 0} (x : A) (xs : List A) → x ∷ xs ≡ [] → ⊥
-filled-list x xs e = let z = ap length e in omega (arith, z)
-
-nobody : {name n : ℕ} {is : List Instrument} → is ≡ [] → HasFields name n is → ⊥
-nobody e (here {i = i} {is = is} q h) = filled-list i is e
-nobody e (there {i = i} {is = is} q h) = filled-list i is e
+nobody : {name n : ℕ} → HasFields name n [] → ⊥
+nobody = elim [ ]
 
 -- the first instrument of the list, and those behind it
-not-here : (name n : ℕ) (i : Instrument) (is js : List Instrument) → i ∷ is ≡ js → i .name ≡ name → ltb (length (i .fields)) n ≡ true → HasFields name n js → ⊥
-not-here name n i is js e q t (here {i = k} {is = ks} r h) =
-    let same : i ≡ k = cc in
-    let f : length (i .fields) ≡ length (k .fields) = ap (λ (x : Instrument). length (x .fields)) same in
-    let lt = ltb-true (length (i .fields)) n t in
-    omega (arith, f, lt, h)
-not-here name n i is js e q t (there {i = k} {is = ks} r h) =
-    let same : i ≡ k = cc in
-    r (ap (λ (x : Instrument). x .name) (sym same) ∙ q)
+not-here : {name n : ℕ} (i : Instrument) (is : List Instrument) → i .name ≡ name → ltb (length (i .fields)) n ≡ true → HasFields name n (i ∷ is) → ⊥
+not-here {n = n} i is q t (here r h) = omega (arith, ltb-true (length (i .fields)) n t)
+not-here i is q t (there r h) = r q
 
-behind-it : (name n : ℕ) (i : Instrument) (is js : List Instrument) → i ∷ is ≡ js → (i .name ≡ name → ⊥) → (HasFields name n is → ⊥) → HasFields name n js → ⊥
-behind-it name n i is js e q f (here {i = k} {is = ks} r h) =
-    let same : i ≡ k = cc in
-    q (ap (λ (x : Instrument). x .name) same ∙ r)
-behind-it name n i is js e q f (there {i = k} {is = ks} r h) =
-    let same : is ≡ ks = cc in
-    f (subst⁻¹ (HasFields name n) same h)
+behind-it : {name n : ℕ} {i : Instrument} {is : List Instrument} → (i .name ≡ name → ⊥) → (HasFields name n is → ⊥) → HasFields name n (i ∷ is) → ⊥
+behind-it q f (here r h) = q r
+behind-it q f (there r h) = f h
 
 fields-judged : (is : List Instrument) (name n : ℕ)
     → Judged (HasFields name n is) (tooMany (cond (has name (map titleOf is)) (Count (length (instrumentOf is name .fields))) NoSuch) n)
 unfolding has instrumentOf
-fields-judged [] name n = no-so (nobody refl)
-fields-judged (i ∷ is) name n = go (eqb (i .name) name) refl (fields-judged is name n)
+fields-judged [] name n = no-so nobody
+fields-judged (i ∷ is) name n =
+    by-test (eqb (i .name) name)
+    (λ e. rw e (
+    let q = eqb-true (i .name) name e in
+    by-test (ltb (length (i .fields)) n) (λ t. rw t (no-so (not-here i is q t))) (λ t. rw t (yes-so (here q (ltb-false (length (i .fields)) n t))))))
+    (λ e. rw e (rest (eqb-false (i .name) name e) (fields-judged is name n)))
   where
-    first : (t : Bool) → i .name ≡ name → ltb (length (i .fields)) n ≡ t → Judged (HasFields name n (i ∷ is)) t
-    first true q t = no-so (not-here name n i is (i ∷ is) refl q t)
-    first false q t = yes-so (here q (ltb-false (length (i .fields)) n t))
-
-    rest : (t : Bool) → (i .name ≡ name → ⊥) → Judged (HasFields name n is) t → Judged (HasFields name n (i ∷ is)) t
-    rest t q (yes-so h) = yes-so (there q h)
-    rest t q (no-so f) = no-so (behind-it name n i is (i ∷ is) refl q f)
-
-    go : (b : Bool) → eqb (i .name) name ≡ b → Judged (HasFields name n is) (tooMany (cond (has name (map titleOf is)) (Count (length (instrumentOf is name .fields))) NoSuch) n)
-        → Judged (HasFields name n (i ∷ is)) (tooMany (cond (b || has name (map titleOf is)) (Count (length (cond b i (instrumentOf is name) .fields))) NoSuch) n)
-    go true e r = first (ltb (length (i .fields)) n) (eqb-true (i .name) name e) refl
-    go false e r = rest _ (eqb-false (i .name) name e) r
+    rest : {t : Bool} → (i .name ≡ name → ⊥) → Judged (HasFields name n is) t → Judged (HasFields name n (i ∷ is)) t
+    rest q (yes-so h) = yes-so (there q h)
+    rest q (no-so f) = no-so (behind-it q f)
 
 pub event-judged : (is : List Instrument) (n : ℕ) (e : Event) → Judged (Playable is n e) (unfitEvent (fieldsOf is e) n e)
 event-judged is n (Instr label name d) = fields-judged is name n
@@ -97,7 +77,7 @@ late-same false x Untimed = refl
 
 pub time-passes : (a b : Bool) → (a ≡ true → b ≡ true) → (a && not b) ≡ false
 time-passes true true f = refl
-time-passes true false f = absurd (differ′ (f refl))
+time-passes true false f = absurd (false≢true (f refl))
 time-passes false b f = refl
 
 pub time-fails : (a b : Bool) → a ≡ true → b ≡ false → (a && not b) ≡ true

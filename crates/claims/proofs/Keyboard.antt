@@ -1,6 +1,6 @@
 -- What a call at the keyboard leaves, of every panel.
-use mathlib.Core.Path.{_≡_, refl, sym, ap, _∙_}
-use mathlib.Core.Bool.{Bool, true, false, cond}
+use mathlib.Core.Path.{_≡_, refl, _∙_}
+use mathlib.Core.Bool.{Bool, true, false, cond, true≢false}
 use mathlib.Core.List.{List, [], _++_}
 use Prim.Native.Nat.{ℕ, _+_, _≤_, _<_}
 use native.Mathlib.Omega.{arith}
@@ -16,7 +16,7 @@ use Rattle.messages.specs.inside.Reading.{callOf}
 use Rattle.messages.specs.declared.Message.{Message}
 use Rattle.messages.proofs.Meaning.{one-meaning}
 use Rattle.messages.proofs.Faults.{Kind, is-whole, is-cut, is-not-carried, every-kind}
-use Rattle.players.specs.Calls.{keyboard, one, After, isZero}
+use Rattle.players.specs.Calls.{keyboard, one, After}
 use Rattle.players.proofs.Loops.{length-over}
 use Rattle.keyboard.specs.Keyboard.{mostMessages, messagesIn, behind, pressedIn}
 use Rattle.keyboard.specs.declared.Messages.{Messages}
@@ -28,7 +28,6 @@ use Rattle.panel.specs.State.{withState, withMessages}
 use Rattle.panel.specs.Calls.{playKeysOf}
 use Rattle.panel.specs.declared.Panel.{Panel}
 use Rattle.claims.specs.Claims.{afterOf, TakesKeys, TakenKeys}
-use Rattle.claims.proofs.Doors.{differ}
 
 -- ---- note messages behind those that wait
 
@@ -78,42 +77,14 @@ presses p bytes = by-end (p .state .playing .ended) refl
     by-end true e = keys-over e refl
     by-end false e = by-call e refl (every-kind bytes)
 
-pub whole-same : {ms ns : List Message} → whole ms ≡ whole ns → ms ≡ ns
-whole-same {ms} {ns} e = ap list e
-  where
-    list : Call → List Message
-    list (whole xs) = xs
-    list (fault a) = []
-
-pub fault-same : {f g : Answer} → fault f ≡ fault g → f ≡ g
-fault-same {f} {g} e = ap answer-of e
-  where
-    answer-of : Call → Answer
-    answer-of (whole xs) = answer.Taken
-    answer-of (fault a) = a
-
-pub no-fault : {ms : List Message} {f : Answer} → whole ms ≡ fault f → ⊥
-no-fault e = differ (ap is-whole-call e)
-  where
-    is-whole-call : Call → Bool
-    is-whole-call (whole xs) = true
-    is-whole-call (fault a) = false
-
 pub taken-keys : TakenKeys
 unfolding TakenKeys
 taken-keys p bytes ms s t = go (presses p bytes)
   where
-    zero : {a : After Panel} → afterOf p (keyboard bytes) ≡ a → isZero (a .answers) ≡ true
-    zero x = ap (λ (b : After Panel). isZero (b .answers)) (sym x) ∙ t
-
     go : Presses p bytes (afterOf p (keyboard bytes)) → TakesKeys p ms (afterOf p (keyboard bytes) .player)
-    go (keys-over e x) = absurd (differ (sym (zero x)))
-    go (keys-faulty f e q z x) = absurd (differ (sym (zero x) ∙ z))
-    go (keys-full ns e q l x) = absurd (differ (sym (zero x)))
+    go (keys-over e x) = absurd (true≢false (cc))
+    go (keys-faulty f e q z x) = absurd (true≢false (cc))
+    go (keys-full ns e q l x) = absurd (true≢false (cc))
     go (keys-taken ns e q l x) =
-        let same : ns ≡ ms = whole-same (sym q ∙ one-meaning bytes (whole ms) s) in
-        record {
-          messages = behind (p .state .messages) ns;
-          left = ap (λ (a : After Panel). a .player) x;
-          waits = waits-behind (p .state .messages) ns ∙ ap (λ (l : List Message). messagesIn (p .state .messages) ++ l) same;
-        }
+        let same : ns ≡ ms = cc (one-meaning bytes (whole ms) s) in
+        record { messages = behind (p .state .messages) ns; left = cc; waits = cc (waits-behind (p .state .messages) ns) }

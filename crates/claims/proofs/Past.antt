@@ -1,6 +1,6 @@
 -- The panel holds what its history says, its cycle is the cycle of its history, and so it keeps condition 3, notes by place.
 use mathlib.Core.Path.{_≡_, refl, sym, ap, _∙_, subst, subst⁻¹}
-use mathlib.Core.Bool.{Bool, true, false, cond, _&&_}
+use mathlib.Core.Bool.{Bool, true, false, cond, _&&_, true≢false, false≢true}
 use mathlib.Core.List.{List, [], _∷_, _++_, append-nil}
 use Prim.Native.Nat.{ℕ, _+_, _≤_}
 use native.Mathlib.Omega.{arith}
@@ -15,15 +15,15 @@ use Rattle.voices.specs.Tree.{treeVoices}
 use Rattle.voices.proofs.Laws.{Sixteen, alike}
 use Rattle.voices.proofs.Alike.{Alike, Notes, block-same, played-same, played-good}
 use Rattle.kept_voices.specs.Voices.{Held}
-use Rattle.players.specs.Lists.{each, All}
+use Rattle.players.specs.Lists.{each}
 use Rattle.players.specs.Cycle.{Voices, positionLimit}
 use Rattle.players.specs.Holds.{Settings, Due, settingsOf, sixty, Holds, behind, withMessages, laterThan, dueOf, endsBy, marked, answerOf, blockOf, played, cycled}
 use Rattle.players.specs.inside.Holds.{capped}
 use Rattle.players.specs.Plain.{plainStart}
 use Rattle.players.specs.Calls.{Door, unit, reads, Call, bring, burst, keyboard, cycle, wholeMessages, messagesIn, Answer, one, After, numbered, linesOf, takenOf, isZero, Last, none, cyclesWith, lastWith, momentOf, traceFrom, trace, afterAll}
 use Rattle.players.specs.Condition3.{PlainAlike}
-use Rattle.players.specs.History.{nowhere, at, History, unbegun, withCycle, withMoment, historyFrom, historyOf}
-use Rattle.players.proofs.Lists.{cond-true, cond-false, all-append, all-map}
+use Rattle.players.specs.History.{at, History, unbegun, withCycle, withMoment, historyFrom, historyOf}
+use Rattle.players.proofs.Lists.{either-way, cond-true, cond-false, all-append, all-map}
 use Rattle.players.proofs.Count.{AllSteady, steady, Slow, within-limit, cap-none, slow-played, starting}
 use Rattle.players.proofs.Alike.{AllFollow, plain-alike}
 use Rattle.waiting.specs.declared.Queue.{Queue}
@@ -43,15 +43,14 @@ use Rattle.bursts.specs.Bursts.{Burst, unitsIn}
 use Rattle.bursts.specs.inside.Reading.{burstOf}
 use Rattle.panel.specs.Calls.{freshOf}
 use Rattle.fresh_start.specs.Starting.{startOf, startingOf}
-use Rattle.fresh_start.specs.declared.Start.{Start}
 use Rattle.panel.specs.declared.Panel.{Panel}
 use Rattle.claims.specs.Claims.{unitAnswer, afterOf, panel, reachedOf, Given, fresh, settings, panelAfter}
 use Rattle.claims.proofs.Ranged.{ranged, ranged-steady, reads-ranged}
-use Rattle.claims.proofs.Doors.{differ, differ′, Behind, Brings, takes, refuses, brings}
+use Rattle.claims.proofs.Doors.{Behind, Brings, takes, refuses, brings}
 use Rattle.claims.proofs.Bursts.{singly, Receives, received, unreceived, receives, taken-of, leaves}
 use Rattle.claims.proofs.Keyboard.{waits-behind, length-behind, Presses, keys-over, keys-faulty, keys-full, keys-taken, presses}
 use Rattle.claims.proofs.Chosen.{chosen-there}
-use Rattle.claims.proofs.Cycles.{playedOf, holds-ended, holds-played, reached-ended, reached-played, played-long, Cycles, off, over-before, ends, plays, cycles}
+use Rattle.claims.proofs.Cycles.{playedOf, holds-played, reached-played, played-long, Cycles, off, over-before, ends, plays, cycles}
 
 -- the history that a panel's own fields tell
 abbrev pub own : Panel → History Held
@@ -68,16 +67,18 @@ unfolding each
 units-steady [] ns = tt
 units-steady (u ∷ us) [] = tt
 units-steady (u ∷ us) (n ∷ ns) =
-    all-append (λ (l : Line). steady (l .event)) (cond (eqb n 0) (reads unit u .lines) []) (taken-of us ns) (go (eqb n 0)) (units-steady us ns)
-  where
-    go : (b : Bool) → AllSteady (cond b (reads unit u .lines) [])
-    go true = reads-steady unit u
-    go false = tt
+    all-append (λ (l : Line). steady (l .event)) (cond (eqb n 0) (reads unit u .lines) []) (taken-of us ns)
+    (either-way AllSteady (eqb n 0) (reads-steady unit u) tt) (units-steady us ns)
 
--- no answer takes no line
-no-answer : (ls : List (List Line)) → takenOf ls [] ≡ []
-no-answer [] = refl
-no-answer (l ∷ ls) = refl
+-- a call that holds no line
+pub no-line : (given : List Answer) → takenOf ([] ∷ []) given ≡ []
+no-line [] = refl
+no-line (a ∷ given) = either-way (λ (l : List Line). l ++ [] ≡ []) (eqb (a .number) 0) refl refl
+
+-- one whose own answer is the only one
+pub no-others : (n : ℕ) (ls : List (List Line)) → takenOf ([] ∷ ls) (one n 0) ≡ []
+no-others n [] = no-line (one n 0)
+no-others n (l ∷ ls) = either-way (λ (l : List Line). l ++ [] ≡ []) (eqb n 0) refl refl
 
 -- ---- what the panel keeps true of itself
 
@@ -102,10 +103,10 @@ module _ (program : Program) (ceiling chosen : ℕ) (is : List Instrument) (r : 
   same = alike is (tableOf program) (program .code) (program .vals) r
 
   few : (p : Panel) → Kept p → length (holdsOf p .waits) ≤ 64
-  few p k = omega (arith, length-take (p .state .queue .count) (p .state .queue .lines), k .long)
+  few p k = omega (arith, length-take (p .state .queue .count) (p .state .queue .lines))
 
   brief : (p : Panel) → Kept p → length (holdsOf p .messages) ≤ 64
-  brief p k = omega (arith, length-take (p .state .messages .count) (p .state .messages .list), k .listed)
+  brief p k = omega (arith, length-take (p .state .messages .count) (p .state .messages .list))
 
   -- ---- lines and note messages behind
 
@@ -113,97 +114,59 @@ module _ (program : Program) (ceiling chosen : ℕ) (is : List Instrument) (r : 
   abbrev with : List Line → List Message → Panel → History Held
   with ls ms p = record { holds = withMessages ms (behind ls (holdsOf p)); reached = reachedOf p }
 
-  slow-behind : (h : Holds Held) (ls : List Line) → AllSteady ls → Slow h → AllSteady (h .waits ++ ls)
-  slow-behind h ls t x = all-append _ (h .waits) ls (x .lines) t
-
   own-takes : (p : Panel) (ls : List Line) (q : Queue) → Behind (p .state .queue) ls q
       → own (withQueue p q) ≡ with ls [] p
   unfolding behind withMessages withQueue
-  own-takes p ls q b =
-      λ i. record {
-        holds = record { waits = b .waits i; messages = sym (append-nil (holdsOf p .messages)) i; plays = holdsOf p .plays };
-        reached = cond (b .ran i) (at (b .last i)) nowhere;
-      }
+  own-takes p ls q b = rw (append-nil, b .waits, b .ran, b .last)
 
   kept-takes : (p : Panel) (ls : List Line) (q : Queue) → Behind (p .state .queue) ls q → AllSteady ls → Kept p → Kept (withQueue p q)
   unfolding withQueue
   kept-takes p ls q b t k =
-      record {
-        has = k .has;
-        locked = k .locked;
-        choice = k .choice;
-        long = b .long;
-        listed = k .listed;
-        slow = record { few = k .slow .few; lines = subst⁻¹ AllSteady (b .waits) (slow-behind (holdsOf p) ls t (k .slow)); tempo = k .slow .tempo };
-        good = k .good;
-      }
+      let lines = subst⁻¹ AllSteady (b .waits) (all-append _ (holdsOf p .waits) ls (k .slow .lines) t) in search
 
   own-presses : (p : Panel) (ms : List Message) → own (panelWith p (behindMessages (p .state .messages) ms)) ≡ with [] ms p
   unfolding behind withMessages panelWith
-  own-presses p ms =
-      λ i. record {
-        holds = record { waits = sym (append-nil (holdsOf p .waits)) i; messages = waits-behind (p .state .messages) ms i; plays = holdsOf p .plays };
-        reached = reachedOf p;
-      }
+  own-presses p ms = rw (append-nil, waits-behind (p .state .messages) ms)
 
   kept-presses : (p : Panel) (ms : List Message) → length (waitingMessages (p .state .messages)) + length ms ≤ mostMessages → Kept p
       → Kept (panelWith p (behindMessages (p .state .messages) ms))
   unfolding panelWith
   kept-presses p ms l k =
-      record {
-        has = k .has;
-        locked = k .locked;
-        choice = k .choice;
-        long = k .long;
-        listed = length-behind (p .state .messages) ms (k .listed) l;
-        slow = record { few = k .slow .few; lines = k .slow .lines; tempo = k .slow .tempo };
-        good = k .good;
-      }
+      let listed = length-behind (p .state .messages) ms (k .listed) l in search
 
   own-none : (p : Panel) → own p ≡ with [] [] p
   unfolding behind withMessages
-  own-none p =
-      λ i. record {
-        holds = record { waits = sym (append-nil (holdsOf p .waits)) i; messages = sym (append-nil (holdsOf p .messages)) i; plays = holdsOf p .plays };
-        reached = reachedOf p;
-      }
+  own-none p = rw (append-nil, append-nil)
 
   -- ---- a cycle of a history
 
   module _ (k : ℕ) (h : History Held) where
-    nine : h .holds .plays .ended ≡ true → answerOf (h .holds) ≡ 9
-    unfolding answerOf
-    nine e = cond-true _ _ e
+    -- its answer, and what it leaves
+    record Turns (n : ℕ) (x : History Held) : Type 0 where
+      answers : answerOf (h .holds) ≡ n
+      leaves-so : x ≡ withCycle w (settings ceiling chosen) k h
 
-    nine-found : h .holds .plays .ended ≡ false → endsBy (dueOf (h .holds)) (h .holds .plays) ≡ true → answerOf (h .holds) ≡ 9
-    unfolding answerOf
-    nine-found e d = cond-false _ _ e ∙ cond-true _ _ d
+    turns-so : {n : ℕ} {x : Holds Held} → answerOf (h .holds) ≡ n → cycled w s (h .holds) ≡ x
+        → Turns n (record { holds = x; reached = cond (eqb n 0) (at (h .holds .plays .position)) (h .reached) })
+    turns-so n x =
+        record { answers = n; leaves-so = sym (λ i. record { holds = x i; reached = cond (eqb (n i) 0) (at (h .holds .plays .position)) (h .reached) }) }
 
-    zero-found : h .holds .plays .ended ≡ false → endsBy (dueOf (h .holds)) (h .holds .plays) ≡ false → answerOf (h .holds) ≡ 0
-    unfolding answerOf
-    zero-found e d = cond-false _ _ e ∙ cond-false _ _ d
-
-    cycle-is : {n : ℕ} {x : Holds Held} → answerOf (h .holds) ≡ n → cycled w s (h .holds) ≡ x
-        → withCycle w (settings ceiling chosen) k h ≡ record { holds = x; reached = cond (eqb n 0) (at (h .holds .plays .position)) (h .reached) }
-    cycle-is n x = λ i. record { holds = x i; reached = cond (eqb (n i) 0) (at (h .holds .plays .position)) (h .reached) }
-
-    over-cycle : h .holds .plays .ended ≡ true → withCycle w (settings ceiling chosen) k h ≡ h
-    unfolding cycled
-    over-cycle e = cycle-is (nine e) (cond-true _ _ e)
+    over-cycle : h .holds .plays .ended ≡ true → Turns 9 h
+    unfolding answerOf cycled
+    over-cycle e = turns-so (cond-true _ _ e) (cond-true _ _ e)
 
     end-cycle : h .holds .plays .ended ≡ false → endsBy (dueOf (h .holds)) (h .holds .plays) ≡ true
-        → withCycle w (settings ceiling chosen) k h ≡ record { holds = record { waits = h .holds .waits; messages = h .holds .messages; plays = marked (h .holds .plays) }; reached = h .reached }
-    unfolding cycled
-    end-cycle e d = cycle-is (nine-found e d) (cond-false _ _ e ∙ cond-true _ _ d)
+        → Turns 9 (record { holds = record { waits = h .holds .waits; messages = h .holds .messages; plays = marked (h .holds .plays) }; reached = h .reached })
+    unfolding answerOf cycled
+    end-cycle e d = turns-so (cond-false _ _ e ∙ cond-true _ _ d) (cond-false _ _ e ∙ cond-true _ _ d)
 
     play-cycle : h .holds .plays .ended ≡ false → endsBy (dueOf (h .holds)) (h .holds .plays) ≡ false
-        → withCycle w (settings ceiling chosen) k h
-        ≡ record {
+        → Turns 0 (record {
           holds = record { waits = laterThan (h .holds .plays .position) (h .holds .waits); messages = []; plays = played w s (dueOf (h .holds)) (h .holds .plays) };
           reached = at (h .holds .plays .position);
-        }
-    unfolding cycled
-    play-cycle e d = cycle-is (zero-found e d) (cond-false _ _ e ∙ cond-false _ _ d)
+        })
+    unfolding answerOf cycled
+    play-cycle e d = turns-so (cond-false _ _ e ∙ cond-false _ _ d) (cond-false _ _ e ∙ cond-false _ _ d)
 
   -- ---- the panel's cycle
 
@@ -231,47 +194,28 @@ module _ (program : Program) (ceiling chosen : ℕ) (is : List Instrument) (r : 
             holds = record { waits = laterThan (holdsOf p .plays .position) (holdsOf p .waits); messages = []; plays = played w s due (holdsOf p .plays) };
             reached = at (holdsOf p .plays .position);
           }
-      own-played =
-          λ i. record {
-            holds = (holds-played p ∙ (λ j. record { waits = laterThan (holdsOf p .plays .position) (holdsOf p .waits); messages = []; plays = plays-is j })) i;
-            reached = reached-played p i;
-          }
-
-      played-has : playedOf p .program ≡ p .program
-      unfolding playedOf
-      played-has = refl
-
-      played-locked : playedOf p .ceiling ≡ p .ceiling
-      unfolding playedOf
-      played-locked = refl
-
-      played-choice : playedOf p .chosen ≡ p .chosen
-      unfolding playedOf
-      played-choice = refl
-
-      played-listed : length (playedOf p .state .messages .list) ≡ length (p .state .messages .list)
-      unfolding playedOf oneCycle.playedOf
-      played-listed = refl
+      own-played = rw (holds-played p, reached-played p, plays-is)
 
       kept-played : Kept (playedOf p)
       kept-played =
           let e = ap (λ (h : History Held). h .holds) own-played in
           record {
-            has = played-has ∙ k .has;
-            locked = played-locked ∙ k .locked;
-            choice = played-choice ∙ k .choice;
+            has = unfold playedOf in k .has;
+            locked = unfold playedOf in k .locked;
+            choice = unfold playedOf in k .choice;
             long = played-long p (k .long);
-            listed = played-listed ∙ k .listed;
+            listed = unfold playedOf oneCycle.playedOf in k .listed;
             slow = subst⁻¹ Slow e (slow-played w s (holdsOf p) (few p k) (brief p k) (k .slow) near);
             good = subst⁻¹ (λ (h : Holds Held). Notes Sixteen (h .plays .notes)) e (played-good Sixteen same s due (holdsOf p .plays) (k .good));
           }
 
     own-ended : own (endedOf p) ≡ record { holds = record { waits = holdsOf p .waits; messages = holdsOf p .messages; plays = marked (holdsOf p .plays) }; reached = reachedOf p }
-    own-ended = λ i. record { holds = holds-ended p i; reached = reached-ended p i }
+    unfolding endedOf stopped marked
+    own-ended = refl
 
     kept-ended : Kept (endedOf p)
     unfolding endedOf stopped
-    kept-ended = record { has = k .has; locked = k .locked; choice = k .choice; long = k .long; listed = k .listed; slow = record { few = k .slow .few; lines = k .slow .lines; tempo = k .slow .tempo }; good = k .good }
+    kept-ended = search
 
   -- ---- one call
 
@@ -295,8 +239,8 @@ module _ (program : Program) (ceiling chosen : ℕ) (is : List Instrument) (r : 
           record {
             kept = subst⁻¹ (λ (a : After Panel). Kept (a .player)) x y;
             next = ap (λ (a : After Panel). own (a .player)) x ∙ own-is ∙ ap (λ (a : After Panel). told c (a .answers)) (sym x) ∙ sym (cond-false _ _ u);
-            answer = λ t. absurd (differ (sym t ∙ u));
-            block = λ t. λ v. absurd (differ (sym v ∙ u));
+            answer = λ t. absurd (true≢false (sym t ∙ u));
+            block = λ t. λ v. absurd (true≢false (sym v ∙ u));
             over = λ e. ap (λ (a : After Panel). takenOf (linesOf c) (a .answers)) x ∙ no-more e;
           }
 
@@ -306,7 +250,8 @@ module _ (program : Program) (ceiling chosen : ℕ) (is : List Instrument) (r : 
           go : Brings p (reads d handed .lines) (afterOf p (bring d handed)) → Step (bring d handed)
           go (takes l q e f x) =
               still (bring d handed) refl x (kept-takes p (reads d handed .lines) q (f (k .long)) (reads-steady d handed) k)
-              (own-takes p (reads d handed .lines) q (f (k .long)) ∙ ap (λ (xs : List Line). with xs [] p) (sym (append-nil (reads d handed .lines)))) (λ u. absurd (differ (sym u ∙ e)))
+              (own-takes p (reads d handed .lines) q (f (k .long)) ∙ ap (λ (xs : List Line). with xs [] p) (sym (append-nil (reads d handed .lines))))
+              (λ u. absurd (true≢false (sym u ∙ e)))
           go (refuses n l e x) =
               still (bring d handed) refl x k (own-none p ∙ (λ i. with (cond (sym e i) (reads d handed .lines) [] ++ []) (cond (sym e i) [] []) p))
               (λ u. ap (λ (x : List Line). x ++ []) (cond-false _ _ e))
@@ -314,13 +259,6 @@ module _ (program : Program) (ceiling chosen : ℕ) (is : List Instrument) (r : 
       burst-step : (bytes area : List ℕ) → Step (burst bytes area)
       burst-step bytes area = go (receives p bytes area)
         where
-          nothing : (n : ℕ) → takenOf (linesOf (burst bytes area)) (one n 0) ≡ []
-          nothing n = (λ i. no-part (eqb n 0) i ++ no-answer (each (λ (u : List ℕ). reads unit u .lines) (unitsIn (burstOf bytes))) i)
-            where
-              no-part : (b : Bool) → cond {A = List Line} b [] [] ≡ []
-              no-part true = refl
-              no-part false = refl
-
           go : Receives p bytes area (afterOf p (burst bytes area)) → Step (burst bytes area)
           go (received us q x) =
               let y = leaves us p (k .long) in
@@ -329,16 +267,9 @@ module _ (program : Program) (ceiling chosen : ℕ) (is : List Instrument) (r : 
               still (burst bytes area) refl x (subst⁻¹ Kept (y .same) (kept-takes p ls (y .queue) (y .behind) (units-steady us (singly p us .numbers)) k))
               (ap own (y .same) ∙ own-takes p ls (y .queue) (y .behind) ∙ ap (λ (b : Burst). with (takenOf ([] ∷ each (λ (u : List ℕ). reads unit u .lines) (unitsIn b)) given) [] p) (sym q))
               (λ u. ap (λ (b : Burst). takenOf ([] ∷ each (λ (u : List ℕ). reads unit u .lines) (unitsIn b)) given) q ∙ y .none u)
-          go (unreceived n z x) = still (burst bytes area) refl x k (own-none p ∙ (λ i. with (sym (nothing n) i) (cond (sym z i) [] []) p)) (λ u. nothing n)
-
-      -- a call that holds no line
-      no-line : (given : List Answer) → takenOf ([] ∷ []) given ≡ []
-      no-line [] = refl
-      no-line (a ∷ given) = go (eqb (a .number) 0)
-        where
-          go : (x : Bool) → cond {A = List Line} x [] [] ++ [] ≡ []
-          go true = refl
-          go false = refl
+          go (unreceived n z x) =
+              let nothing = no-others n (each (λ (u : List ℕ). reads unit u .lines) (unitsIn (burstOf bytes))) in
+              still (burst bytes area) refl x k (own-none p ∙ (λ i. with (sym nothing i) (cond (sym z i) [] []) p)) (λ u. nothing)
 
       keyboard-step : (bytes : List ℕ) → Step (keyboard bytes)
       keyboard-step bytes = go (presses p bytes)
@@ -355,15 +286,16 @@ module _ (program : Program) (ceiling chosen : ℕ) (is : List Instrument) (r : 
               still (keyboard bytes) refl x (kept-presses p ms l k) (own-presses p ms ∙ ap (λ (y : midi.Call). with [] (wholeMessages y) p) (sym q)) (λ u. refl)
 
       -- a cycle of the list
-      turns : (b : List ℤ) {a : After Panel} → numbered (cycle b) ≡ true → afterOf p (cycle b) ≡ a → Kept (a .player) → own (a .player) ≡ withCycle w (settings ceiling chosen) n (own p)
-          → a .answers ≡ one (answerOf (holdsOf p)) 0 → (isZero (a .answers) ≡ true → a .block ≡ blockOf w s (dueOf (holdsOf p)) (holdsOf p .plays)) → Step (cycle b)
-      turns b u x y own-is told-is sounds =
+      turns : (b : List ℤ) {q : Panel} {m : ℕ} {bs : List ℤ} {h : History Held} → numbered (cycle b) ≡ true
+          → afterOf p (cycle b) ≡ record { player = q; answers = one m 0; block = bs; area = [] } → Kept q → own q ≡ h → Turns n (own p) m h
+          → (eqb m 0 ≡ true → bs ≡ blockOf w s (dueOf (holdsOf p)) (holdsOf p .plays)) → Step (cycle b)
+      turns b u x y own-is t sounds =
           record {
             kept = subst⁻¹ (λ (a : After Panel). Kept (a .player)) x y;
-            next = ap (λ (a : After Panel). own (a .player)) x ∙ own-is ∙ sym (cond-true _ _ u);
-            answer = λ t. ap (λ (a : After Panel). a .answers) x ∙ told-is;
-            block = λ t. λ v. ap (λ (a : After Panel). a .block) x ∙ sounds (ap (λ (a : After Panel). isZero (a .answers)) (sym x) ∙ t);
-            over = λ t. no-line (afterOf p (cycle b) .answers);
+            next = ap (λ (a : After Panel). own (a .player)) x ∙ own-is ∙ t .leaves-so ∙ sym (cond-true _ _ u);
+            answer = λ v. ap (λ (a : After Panel). a .answers) x ∙ ap (λ (m : ℕ). one m 0) (sym (t .answers));
+            block = λ v. λ w. ap (λ (a : After Panel). a .block) x ∙ sounds (ap (λ (a : After Panel). isZero (a .answers)) (sym x) ∙ v);
+            over = λ v. no-line (afterOf p (cycle b) .answers);
           }
 
       cycle-step : (b : List ℤ) → Step (cycle b)
@@ -371,11 +303,9 @@ module _ (program : Program) (ceiling chosen : ℕ) (is : List Instrument) (r : 
         where
           go : Cycles p b (afterOf p (cycle b)) → Step (cycle b)
           go (off u x) = still (cycle b) u x k (own-none p) (λ t. refl)
-          go (over-before u e x) = turns b u x k (sym (over-cycle n (own p) e)) (ap (λ (m : ℕ). one m 0) (sym (nine n (own p) e))) (λ t. absurd (differ′ t))
-          go (ends u e d x) =
-              turns b u x (kept-ended p k) (own-ended p k ∙ sym (end-cycle n (own p) e d)) (ap (λ (m : ℕ). one m 0) (sym (nine-found n (own p) e d))) (λ t. absurd (differ′ t))
-          go (plays u e d x) =
-              turns b u x (kept-played p k d) (own-played p k d ∙ sym (play-cycle n (own p) e d)) (ap (λ (m : ℕ). one m 0) (sym (zero-found n (own p) e d))) (λ t. block-is p k)
+          go (over-before u e x) = turns b u x k refl (over-cycle n (own p) e) (λ t. absurd (false≢true t))
+          go (ends u e d x) = turns b u x (kept-ended p k) (own-ended p k) (end-cycle n (own p) e d) (λ t. absurd (false≢true t))
+          go (plays u e d x) = turns b u x (kept-played p k d) (own-played p k d) (play-cycle n (own p) e d) (λ t. block-is p k)
 
       step : (c : Call) → Step c
       step (bring d handed) = door-step d handed
@@ -422,7 +352,7 @@ module _ (program : Program) (ceiling chosen : ℕ) (is : List Instrument) (r : 
   sounded p k b t = step 0 none p k (cycle b) .block t (is-numbered (cycles p b))
     where
       is-numbered : Cycles p b (afterOf p (cycle b)) → numbered (cycle b) ≡ true
-      is-numbered (off u x) = absurd (differ′ (ap (λ (a : After Panel). isZero (a .answers)) (sym x) ∙ t))
+      is-numbered (off u x) = absurd (false≢true (ap (λ (a : After Panel). isZero (a .answers)) (sym x) ∙ t))
       is-numbered (over-before u e x) = u
       is-numbered (ends u e d x) = u
       is-numbered (plays u e d x) = u
@@ -459,15 +389,8 @@ module _ (orchestra : List ℕ) (is : List Instrument) (ceiling chosen : ℕ) (g
   start-kept : Kept program ceiling chosen is stands begin
   unfolding startOf each noMessages
   start-kept =
-      record {
-        has = refl;
-        locked = refl;
-        choice = refl;
-        long = length-replicate 64 emptyLine;
-        listed = length-replicate 64 blank;
-        slow = record { few = omega arith; lines = tt; tempo = starting };
-        good = tt;
-      }
+      let slow : Slow (holdsOf begin) = record { few = omega arith; lines = tt; tempo = starting } in
+      record { has = refl; locked = refl; choice = refl; long = length-replicate 64 emptyLine; listed = length-replicate 64 blank; slow = slow; good = tt }
 
   pub fresh-kept : Kept program ceiling chosen is stands (fresh orchestra ceiling chosen)
   fresh-kept = subst⁻¹ (Kept program ceiling chosen is stands) fresh-is start-kept
@@ -485,17 +408,15 @@ module _ (orchestra : List ℕ) (is : List Instrument) (ceiling chosen : ℕ) (g
 
   follows-past : (cs : List Call) → AllFollow panel (treeVoices is) (settings ceiling chosen) (unbegun (settingsOf ceiling chosen)) (trace panel (fresh orchestra ceiling chosen) cs)
   follows-past cs =
-      subst (λ (h : History Held). AllFollow panel (treeVoices is) (settings ceiling chosen) h (trace panel (fresh orchestra ceiling chosen) cs)) fresh-own
-      (follows program ceiling chosen is stands cs 0 none (fresh orchestra ceiling chosen) fresh-kept)
+      rw fresh-own at (follows program ceiling chosen is stands cs 0 none (fresh orchestra ceiling chosen) fresh-kept)
 
--- what a cycle leaves, and condition 3, with the notes' values by place
-pub block-by-place : (orchestra : List ℕ) (is : List Instrument) (ceiling chosen : ℕ) → Given orchestra is ceiling chosen → (cs : List Call) (lent : List ℤ)
-    → isZero (afterOf (panelAfter orchestra is ceiling chosen cs) (cycle lent) .answers) ≡ true
-    → afterOf (panelAfter orchestra is ceiling chosen cs) (cycle lent) .block
-    ≡ blockOf (treeVoices is) (settingsOf ceiling chosen) (dueOf (placedPast orchestra is ceiling chosen cs .holds)) (placedPast orchestra is ceiling chosen cs .holds .plays)
-block-by-place orchestra is ceiling chosen g cs lent t =
-    sounded (loadOf orchestra .program) ceiling chosen is (stands orchestra is ceiling chosen g) (panelAfter orchestra is ceiling chosen cs) (kept-after orchestra is ceiling chosen g cs) lent t
-    ∙ ap (λ (h : History Held). blockOf (treeVoices is) (settingsOf ceiling chosen) (dueOf (h .holds)) (h .holds .plays)) (past-is orchestra is ceiling chosen g cs)
+  -- what a cycle leaves, and condition 3, with the notes' values by place
+  pub block-by-place : (cs : List Call) (lent : List ℤ) → isZero (afterOf (panelAfter orchestra is ceiling chosen cs) (cycle lent) .answers) ≡ true
+      → afterOf (panelAfter orchestra is ceiling chosen cs) (cycle lent) .block
+      ≡ blockOf (treeVoices is) (settingsOf ceiling chosen) (dueOf (placedPast orchestra is ceiling chosen cs .holds)) (placedPast orchestra is ceiling chosen cs .holds .plays)
+  block-by-place cs lent t =
+      sounded program ceiling chosen is stands (panelAfter orchestra is ceiling chosen cs) (kept-after cs) lent t
+      ∙ ap (λ (h : History Held). blockOf (treeVoices is) (settingsOf ceiling chosen) (dueOf (h .holds)) (h .holds .plays)) (past-is cs)
 
-pub by-place : (orchestra : List ℕ) (is : List Instrument) (ceiling chosen : ℕ) → Given orchestra is ceiling chosen → PlainAlike panel (treeVoices is) (settings ceiling chosen) (fresh orchestra ceiling chosen)
-by-place orchestra is ceiling chosen g = plain-alike panel (treeVoices is) (settings ceiling chosen) (fresh orchestra ceiling chosen) (follows-past orchestra is ceiling chosen g)
+  pub by-place : PlainAlike panel (treeVoices is) (settings ceiling chosen) (fresh orchestra ceiling chosen)
+  by-place = plain-alike panel (treeVoices is) (settings ceiling chosen) (fresh orchestra ceiling chosen) follows-past

@@ -1,6 +1,6 @@
 -- Lines on a queue: those that fit go in, and the first that does not gives its number.
-use mathlib.Core.Path.{_≡_, refl, sym, ap, _∙_, subst, subst⁻¹}
-use mathlib.Core.Bool.{Bool, true, false, not, cond}
+use mathlib.Core.Path.{_≡_, refl, sym, ap, _∙_}
+use mathlib.Core.Bool.{Bool, true, false, cond}
 use mathlib.Core.List.{List, [], _∷_, _++_}
 use Prim.Native.Nat.{ℕ, suc, _+_, _≤_, _<_}
 use native.Mathlib.Omega.{arith}
@@ -8,7 +8,6 @@ use lib.ListN.{length, length-take, length-append}
 use Rattle.answer.specs.Numbers.{numberOf, isTaken}
 use Rattle.answer.specs.declared.Answer.the-variants as answer
 use Rattle.score_line.specs.declared.Line.{Line}
-use Rattle.score.specs.Score.{Lines, all}
 use Rattle.score_text.specs.inside.Reading.{lines}
 use Rattle.syntax.specs.Tree.{Instrument}
 use Rattle.voices.proofs.Lines.{fields-tree}
@@ -50,17 +49,16 @@ module _ (is : List Instrument) (g : Program) (r : StandsFor is g) (d : Door) (r
     judged : Judged (Playable is (l .count) (l .event)) (unfitEvent f (l .count) (l .event))
     unfolding f
     judged =
-        subst⁻¹ (λ (x : Fields). Judged (Playable is (l .count) (l .event)) (unfitEvent x (l .count) (l .event)))
-        (fields-tree is (tableOf g) (g .code) (g .vals) r (l .event)) (event-judged is (l .count) (l .event))
+        rw (fields-tree is (tableOf g) (g .code) (g .vals) r (l .event)) (event-judged is (l .count) (l .event))
 
     on-time : (b : Bool) → tooLate reached (l .when) ≡ b → isLate (q .ran) (q .last) (l .when) ≡ b
     on-time b e = sym (late-same (q .ran) (q .last) (l .when)) ∙ ap (λ (x : Reached). tooLate x (l .when)) (h .is-reached) ∙ e
 
     room : n < 64 → q .count < 64
-    room lt = omega (arith, lt, length-take (q .count) (q .lines), h .long, h .many)
+    room lt = omega (arith, length-take (q .count) (q .lines))
 
     no-room : 64 ≤ n → 64 ≤ q .count
-    no-room le = omega (arith, le, length-take (q .count) (q .lines), h .long, h .many)
+    no-room le = omega (arith, length-take (q .count) (q .lines))
 
     timely : (mustBeTimed d ≡ true → hasTime (l .when) ≡ true) → lineIn (mustBeTimed d) (tableOf g) q l ≡ admitted q l f
     unfolding lineIn f
@@ -78,20 +76,18 @@ module _ (is : List Instrument) (g : Program) (r : StandsFor is g) (d : Door) (r
           is-reached = h .is-reached;
         }
 
+    told-as : {a : Admitted} → lineIn (mustBeTimed d) (tableOf g) q l ≡ a
+        → (numberOf (lineIn (mustBeTimed d) (tableOf g) q l .answer) ≡ numberOf (a .answer))
+        × (isTaken (lineIn (mustBeTimed d) (tableOf g) q l .answer) ≡ isTaken (a .answer))
+    told-as e = (ap (λ (a : Admitted). numberOf (a .answer)) e, ap (λ (a : Admitted). isTaken (a .answer)) e)
+
     faulty-admits : (number : ℕ) → Faulty is d reached n l number → (numberOf (lineIn (mustBeTimed d) (tableOf g) q l .answer) ≡ number) × (isTaken (lineIn (mustBeTimed d) (tableOf g) q l .answer) ≡ false)
     unfolding lineIn f
     faulty-admits number (untimed m t) =
-        let e = cond-true {A = Admitted} (record { queue = q; answer = answer.NoTime }) (admitted q l (fieldsIn (tableOf g) (l .event))) (time-fails (mustBeTimed d) (hasTime (l .when)) m t) in
-        (ap (λ (a : Admitted). numberOf (a .answer)) e, ap (λ (a : Admitted). isTaken (a .answer)) e)
-    faulty-admits number (unplayable t u) =
-        let e = timely t ∙ admit-unfit q l f (judged-no judged u) in
-        (ap (λ (a : Admitted). numberOf (a .answer)) e, ap (λ (a : Admitted). isTaken (a .answer)) e)
-    faulty-admits number (late t u w) =
-        let e = timely t ∙ admit-late q l f (judged-yes judged u) (on-time true w) in
-        (ap (λ (a : Admitted). numberOf (a .answer)) e, ap (λ (a : Admitted). isTaken (a .answer)) e)
-    faulty-admits number (full t u w x) =
-        let e = timely t ∙ admit-full q l f (judged-yes judged u) (on-time false w) (no-room x) in
-        (ap (λ (a : Admitted). numberOf (a .answer)) e, ap (λ (a : Admitted). isTaken (a .answer)) e)
+        told-as {a = record { queue = q; answer = answer.NoTime }} (cond-true _ _ (time-fails (mustBeTimed d) (hasTime (l .when)) m t))
+    faulty-admits number (unplayable t u) = told-as (timely t ∙ admit-unfit q l f (judged-no judged u))
+    faulty-admits number (late t u w) = told-as (timely t ∙ admit-late q l f (judged-yes judged u) (on-time true w))
+    faulty-admits number (full t u w x) = told-as (timely t ∙ admit-full q l f (judged-yes judged u) (on-time false w) (no-room x))
 
   -- ---- all the lines of a call
 
@@ -101,9 +97,7 @@ module _ (is : List Instrument) (g : Program) (r : StandsFor is g) (d : Door) (r
 
     step : (q : Queue) (n i : ℕ) (l : Line) (ls : List Line) → Has q n → Fits is d reached n l → pushes q i (l ∷ ls) ≡ pushes (pushed q l) (i + 1) ls
     unfolding pushedAll
-    step q n i l ls h t =
-        ap (λ (a : Admitted). cond (isTaken (a .answer)) (pushedAll (mustBeTimed d) (tableOf g) old (a .queue) (i + 1) ls) (record { queue = old; answer = a .answer; line = i }))
-        (fits-admits q n h l t)
+    step q n i l ls h t = rw (fits-admits q n h l t)
 
     pub all-fit : (ls : List Line) (q : Queue) (n i : ℕ) → Has q n → AllFit is d reached n ls → told (pushes q i ls) ≡ one 0 0
     unfolding pushedAll
@@ -115,7 +109,7 @@ module _ (is : List Instrument) (g : Program) (r : StandsFor is g) (d : Door) (r
     unfolding pushedAll
     first-faulty [] l later number q n i h t f =
         let same : n + 0 ≡ n = omega arith in
-        let x = faulty-admits q n h l number (subst (λ (k : ℕ). Faulty is d reached k l number) same f) in
+        let x = faulty-admits q n h l number (rw same at f) in
         let i-same : i ≡ i + 0 = omega arith in
         ap told (cond-false _ _ (x .1)) ∙ (λ j. one (x .0 j) (i-same j))
     first-faulty (b ∷ before) l later number q n i h t f =
@@ -123,5 +117,4 @@ module _ (is : List Instrument) (g : Program) (r : StandsFor is g) (d : Door) (r
         let i-same : i + 1 + length before ≡ i + suc (length before) = omega arith in
         ap told (step q n i b (before ++ (l ∷ later)) h (t .0))
         ∙ first-faulty before l later number (pushed q b) (suc n) (i + 1) (fits-has q n h b (t .0)) (t .1)
-        (subst (λ (k : ℕ). Faulty is d reached k l number) same f)
-        ∙ ap (one number) i-same
+        (rw same at f) ∙ ap (one number) i-same

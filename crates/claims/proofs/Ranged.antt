@@ -20,23 +20,25 @@ use Rattle.timebase.specs.Time.{cycleIn, tempoBits}
 use Rattle.timebase.proofs.Laws.{tempo-from-to, cycle-from-to}
 use Rattle.formats.specs.Format.{Source, bitSource, keypadSource, Read, got, refused, andThen, numberFrom}
 use Rattle.formats.specs.Format as format
-use Rattle.formats.specs.Description.{pair, choose, format as formatOf}
-use Rattle.formats.specs.declared.Fault.the-variants as fault
+use Rattle.formats.specs.Description.{Description, flag, pair, choose, format as formatOf}
+use Rattle.formats.specs.declared.Fault.{Fault}
 use Rattle.score_line.specs.LineFormat.{inRange, symbol, labelled, float, when, Kind, instr, control, end, tempo, kind, Body, body, Values, values, Parts, afterTime, parts, eventOf, line}
 use Rattle.score_line.specs.inside.Reading.{floatFrom}
 use Rattle.score_line.specs.Reading.{lineOf, lineFrom, refusedLine, lineRead, lineAt, wholeRun, lineInWords, keypadLine}
 use Rattle.score_line.specs.declared.Range.the-variants as range
+use Rattle.score_line.specs.declared.When.{When}
 use Rattle.score_line.specs.declared.Event.{Event}
 use Rattle.score_line.specs.declared.Event.the-variants.{Instr, Control, End, Tempo}
 use Rattle.score_line.specs.declared.Line.{Line}
 use Rattle.score_line.specs.declared.LineRead.{LineRead}
-use Rattle.score.specs.Score.{Lines, all, faulty, before, lineThen, linesFrom, Score, taken, refusedScore, ended, counted, scoreOf, wholeLine, opened, unitOf}
+use Rattle.score.specs.Score.{Lines, all, faulty, before, lineThen, linesFrom, Score, ended, counted, scoreOf, wholeLine, opened, unitOf}
 use Rattle.score_text.specs.Said.{Said, wordsOf, lineSaid, judgedFrom, judgement}
 use Rattle.score_text.specs.inside.Reading.{Text, lines, bad, judged, textOf}
 use Rattle.score_text.specs.inside.Reading as text-form
 use Rattle.meaning.specs.Meaning.{noSymbol}
 use Rattle.players.specs.Lists.{All}
 use Rattle.players.specs.Calls.{Door, stick, unit, keypad, text, reads, single}
+use Rattle.players.proofs.Lists.{either-way}
 use Rattle.players.proofs.Count.{steady}
 
 abbrev pub ranged : Event → Type 0
@@ -71,126 +73,97 @@ unfolding ReadHolds
 any-holds Q (got a p) k f = f a p
 any-holds Q (refused g) k f = tt
 
-slow-enough : (b : ℕ) → tempoBits b ≡ true → 1024 ≤ cycleIn (ofBits binary32 b)
-slow-enough b h = let t = tempo-from-to b h in cycle-from-to (ofBits binary32 b) (t .0) (t .1) .0
-
-tempo-float : (s : Source) (at : ℕ) → ReadHolds (λ (t : Float). 1024 ≤ cycleIn t) (floatFrom s range.Tempo at)
-unfolding float ReadHolds inRange
-tempo-float s at = any-holds _ (numberFrom s 32 at) _ (λ b p. go b p (tempoBits b) refl)
-  where
-    go : (b p : ℕ) (c : Bool) → tempoBits b ≡ c → ReadHolds (λ (t : Float). 1024 ≤ cycleIn t) (cond c (got (ofBits binary32 b) p) (refused fault.OutOfRange))
-    go b p true e = slow-enough b e
-    go b p false e = tt
-
 every-holds : {A : Type 0} (P : A → Type 0) (x : Read A) → ((a : A) → P a) → ReadHolds P x
 unfolding ReadHolds
 every-holds P (got a p) f = f a
 every-holds P (refused g) f = tt
 
-symbol-below : (s : Source) (at : ℕ) → ReadHolds (λ (x : ℕ). x < noSymbol) (formatOf symbol .from s at)
-unfolding format.small ReadHolds
-symbol-below s at = any-holds _ (numberFrom s 16 at) _ (λ v p. go v p (leb v 65535) refl)
-  where
-    go : (v p : ℕ) (c : Bool) → leb v 65535 ≡ c → ReadHolds (λ (x : ℕ). x < noSymbol) (cond c (got v p) (refused fault.OutOfRange))
-    go v p true e = let l = leb-true v 65535 e in omega (arith, l)
-    go v p false e = tt
-
--- an event's kind and fields
-abbrev RangedBody : (k : Kind) → Body k → Type 0
-RangedBody k x = ranged (eventOf k x)
+-- of a value that passes a test, and else of nothing
+tested-holds : {A : Type 0} (P : A → Type 0) (a : A) (p : ℕ) (f : Fault) (c : Bool) → (c ≡ true → P a) → ReadHolds P (cond c (got a p) (refused f))
+unfolding ReadHolds
+tested-holds P a p f true h = h refl
+tested-holds P a p f false h = tt
 
 module _ (s : Source) where
-  control-ranged : (at : ℕ) → ReadHolds (RangedBody control) (formatOf labelled .from s at)
-  unfolding labelled ReadHolds
-  control-ranged at =
-      any-holds (RangedBody control) (formatOf symbol .from s at) _ (λ label p.
-      then-holds (λ (x : ℕ × Float). x .0 < noSymbol) (RangedBody control) (formatOf (pair symbol (float range.Value)) .from s p) _
-      (then-holds (λ (x : ℕ). x < noSymbol) (λ (x : ℕ × Float). x .0 < noSymbol) (formatOf symbol .from s p) _ (symbol-below s p) (λ x q h.
-      any-holds (λ (x : ℕ × Float). x .0 < noSymbol) (formatOf (float range.Value) .from s q) _ (λ y r. h)))
-      (λ x q h. h))
-
-  set-ranged : (has : Bool) (at : ℕ) → ReadHolds (RangedBody control) (cond has (formatOf labelled .from s at) (refused fault.NotCarried))
+  -- of the first of two, and of what follows it
+  first-holds : {K : Type 0} {B : K → Type 0} (P : K → Type 0) (d : Description K) (e : (k : K) → Description (B k)) (at : ℕ) → ReadHolds P (formatOf d .from s at)
+      → ReadHolds (λ (x : (k : K) × B k). P (x .0)) (formatOf (choose d e) .from s at)
   unfolding ReadHolds
-  set-ranged true at = control-ranged at
-  set-ranged false at = tt
+  first-holds P d e at h = then-holds P _ (formatOf d .from s at) _ h (λ k p r. any-holds _ (formatOf (e k) .from s p) _ (λ b q. r))
+
+  second-holds : {K : Type 0} {B : K → Type 0} (Q : (k : K) → B k → Type 0) (d : Description K) (e : (k : K) → Description (B k)) (at : ℕ)
+      → ((k : K) (p : ℕ) → ReadHolds (Q k) (formatOf (e k) .from s p)) → ReadHolds (λ (x : (k : K) × B k). Q (x .0) (x .1)) (formatOf (choose d e) .from s at)
+  unfolding ReadHolds
+  second-holds Q d e at h = any-holds _ (formatOf d .from s at) _ (λ k p. then-holds (Q k) _ (formatOf (e k) .from s p) _ (h k p) (λ b q r. r))
+
+  tempo-float : (at : ℕ) → ReadHolds (λ (t : Float). 1024 ≤ cycleIn t) (floatFrom s range.Tempo at)
+  unfolding float inRange
+  tempo-float at = any-holds _ (numberFrom s 32 at) _
+      (λ b p. tested-holds _ _ _ _ (tempoBits b) (λ h. let t = tempo-from-to b h in cycle-from-to (ofBits binary32 b) (t .0) (t .1) .0))
+
+  symbol-below : (at : ℕ) → ReadHolds (λ (x : ℕ). x < noSymbol) (formatOf symbol .from s at)
+  unfolding format.small
+  symbol-below at = any-holds _ (numberFrom s 16 at) _ (λ v p. tested-holds _ _ _ _ (leb v 65535) (λ h. omega (arith, leb-true v 65535 h)))
+
+  -- an event's kind and fields
+  abbrev RangedBody : (k : Kind) → Body k → Type 0
+  RangedBody k x = ranged (eventOf k x)
 
   body-ranged : (k : Kind) (at : ℕ) → ReadHolds (RangedBody k) (formatOf (body k) .from s at)
-  unfolding body
+  unfolding body labelled
   body-ranged instr at = every-holds (RangedBody instr) _ (λ x. tt)
-  body-ranged control at = any-holds (RangedBody control) (format.flag .from s at) _ (λ has p. set-ranged has p)
+  body-ranged control at =
+      any-holds (RangedBody control) (format.flag .from s at) _ (λ has p. either-way (ReadHolds (RangedBody control)) has
+      (second-holds (λ (l : ℕ) (x : ℕ × Float). x .0 < noSymbol) symbol (λ l. pair symbol (float range.Value)) p
+      (λ l q. first-holds (λ (x : ℕ). x < noSymbol) symbol (λ x. float range.Value) q (symbol-below q))) (unfold ReadHolds in tt))
   body-ranged end at = every-holds (RangedBody end) _ (λ x. tt)
-  body-ranged tempo at = tempo-float s at
-
-  fields-ranged : (k : Kind) (at : ℕ) → ReadHolds (λ (y : Body k × Values k). RangedBody k (y .0)) (formatOf (pair (body k) (values k)) .from s at)
-  unfolding ReadHolds
-  fields-ranged k at =
-      then-holds (RangedBody k) (λ (y : Body k × Values k). RangedBody k (y .0)) (formatOf (body k) .from s at) _ (body-ranged k at)
-      (λ x p h. any-holds (λ (y : Body k × Values k). RangedBody k (y .0)) (formatOf (values k) .from s p) _ (λ v q. h))
-
-  after-ranged : (at : ℕ) → ReadHolds (λ (y : Bool × ((k : Kind) × (Body k × Values k))). RangedBody (y .1 .0) (y .1 .1 .0)) (formatOf afterTime .from s at)
-  unfolding ReadHolds afterTime
-  after-ranged at =
-      any-holds (λ (y : Bool × ((k : Kind) × (Body k × Values k))). RangedBody (y .1 .0) (y .1 .1 .0)) (format.flag .from s at) _ (λ b p.
-      then-holds (λ (z : (k : Kind) × (Body k × Values k)). RangedBody (z .0) (z .1 .0)) (λ (y : Bool × ((k : Kind) × (Body k × Values k))). RangedBody (y .1 .0) (y .1 .1 .0))
-      (formatOf (choose {B = λ (k : Kind). Body k × Values k} kind (λ k. pair (body k) (values k))) .from s p) _
-      (any-holds (λ (z : (k : Kind) × (Body k × Values k)). RangedBody (z .0) (z .1 .0)) (formatOf kind .from s p) _ (λ k q.
-      then-holds (λ (y : Body k × Values k). RangedBody k (y .0)) (λ (z : (k : Kind) × (Body k × Values k)). RangedBody (z .0) (z .1 .0)) (formatOf (pair (body k) (values k)) .from s q) _ (fields-ranged k q) (λ y r h. h)))
-      (λ z q h. h))
+  body-ranged tempo at = tempo-float at
 
   line-ranged : (at : ℕ) → ReadHolds (λ (l : Line). ranged (l .event)) (lineFrom s at)
-  unfolding line parts ReadHolds
+  unfolding line parts afterTime ReadHolds
   line-ranged at =
       then-holds (λ (x : Parts). RangedBody (x .1 .1 .0) (x .1 .1 .1 .0)) (λ (l : Line). ranged (l .event)) (formatOf parts .from s at) _
-      (any-holds (λ (x : Parts). RangedBody (x .1 .1 .0) (x .1 .1 .1 .0)) (formatOf when .from s at) _ (λ w p.
-      then-holds (λ (y : Bool × ((k : Kind) × (Body k × Values k))). RangedBody (y .1 .0) (y .1 .1 .0)) (λ (x : Parts). RangedBody (x .1 .1 .0) (x .1 .1 .1 .0)) (formatOf afterTime .from s p) _ (after-ranged p) (λ y q h. h)))
+      (second-holds (λ (w : When) (y : Bool × ((k : Kind) × (Body k × Values k))). RangedBody (y .1 .0) (y .1 .1 .0)) when (λ w. afterTime) at (λ w p.
+      second-holds (λ (b : Bool) (z : (k : Kind) × (Body k × Values k)). RangedBody (z .0) (z .1 .0)) flag (λ b. choose kind (λ k. pair (body k) (values k))) p (λ b q.
+      second-holds (λ (k : Kind) (y : Body k × Values k). RangedBody k (y .0)) kind (λ k. pair (body k) (values k)) q (λ k r.
+      first-holds (RangedBody k) (body k) (λ y. values k) r (body-ranged k r)))))
       (λ x p h. h)
 
 -- ---- what the calls read
 
-read-ranged : (r : Read Line) → ReadHolds (λ (l : Line). ranged (l .event)) r → ranged (lineRead r .line .event)
+abbrev RangedRead : LineRead → Type 0
+RangedRead r = ranged (r .line .event)
+
+read-ranged : (r : Read Line) → ReadHolds (λ (l : Line). ranged (l .event)) r → RangedRead (lineRead r)
 unfolding ReadHolds lineRead refusedLine lineOf
 read-ranged (got l p) h = h
 read-ranged (refused f) h = tt
 
-refused-ranged : (a : Answer) → ranged (refusedLine a .line .event)
+refused-ranged : (a : Answer) → RangedRead (refusedLine a)
 unfolding refusedLine lineOf
 refused-ranged a = tt
 
-keypad-ranged : (words : List ℕ) → ranged (keypadLine words .line .event)
+-- a line with nothing behind it
+alone-ranged : (a b : Bool) (r : LineRead) → RangedRead r → RangedRead (cond a (cond b r (refusedLine answer.LeftOver)) r)
+alone-ranged a b r h = either-way RangedRead a (either-way RangedRead b h (refused-ranged _)) h
+
+keypad-ranged : (words : List ℕ) → RangedRead (keypadLine words)
 unfolding keypadLine wholeRun lineInWords
-keypad-ranged words = go (lineRead (lineFrom (keypadSource words) 0)) (read-ranged (lineFrom (keypadSource words) 0) (line-ranged (keypadSource words) 0))
-  where
-    go : (r : LineRead) → ranged (r .line .event) → ranged (cond (isTaken (r .answer)) (cond (eqb (r .next) (length words)) r (refusedLine answer.LeftOver)) r .line .event)
-    go r h = go2 (isTaken (r .answer)) (eqb (r .next) (length words))
-      where
-        go2 : (a b : Bool) → ranged (cond a (cond b r (refusedLine answer.LeftOver)) r .line .event)
-        go2 true true = h
-        go2 true false = refused-ranged _
-        go2 false b = h
+keypad-ranged words =
+    let r = lineRead (lineFrom (keypadSource words) 0) in
+    alone-ranged (isTaken (r .answer)) (eqb (r .next) (length words)) r (read-ranged (lineFrom (keypadSource words) 0) (line-ranged (keypadSource words) 0))
 
-whole-ranged : (bits : List Bool) (r : LineRead) → ranged (r .line .event) → ranged (wholeLine bits r .line .event)
-unfolding wholeLine
-whole-ranged bits r h = go (isTaken (r .answer)) (filled bits (r .next))
-  where
-    go : (a b : Bool) → ranged (cond a (cond b r (refusedLine answer.LeftOver)) r .line .event)
-    go true true = h
-    go true false = refused-ranged _
-    go false b = h
-
-unit-ranged : (bits : List Bool) → ranged (unitOf bits .line .event)
-unfolding unitOf opened lineAt
+unit-ranged : (bits : List Bool) → RangedRead (unitOf bits)
+unfolding unitOf opened lineAt wholeLine
 unit-ranged bits = go (readAt bits 0 2)
   where
-    at-ranged : (p : ℕ) → ranged (lineAt bits p .line .event)
-    at-ranged p = read-ranged (lineFrom (bitSource bits) p) (line-ranged (bitSource bits) p)
-
-    pick : (b : Bool) (p : ℕ) → ranged (cond b (wholeLine bits (lineAt bits p)) (refusedLine answer.NotCarried) .line .event)
-    pick true p = whole-ranged bits (lineAt bits p) (at-ranged p)
-    pick false p = refused-ranged _
-
-    go : (g : Got) → ranged (opened bits g .line .event)
-    go (gives.Value k p) = pick (eqb k 0) p
-    go gives.Short = refused-ranged _
+    go : (g : Got) → RangedRead (opened bits g)
+    go (gives.Value k p) =
+        let r = lineAt bits p in
+        either-way RangedRead (eqb k 0)
+        (alone-ranged (isTaken (r .answer)) (filled bits (r .next)) r (read-ranged (lineFrom (bitSource bits) p) (line-ranged (bitSource bits) p)))
+        (refused-ranged answer.NotCarried)
+    go gives.Short = refused-ranged answer.CutShort
 
 LinesHold : Lines → Type 0
 LinesHold (all ls p) = AllRanged ls
@@ -214,11 +187,7 @@ lines-ranged bits (suc n) i at =
 
 ended-ranged : (bits : List Bool) (r : Lines) → LinesHold r → AllRanged (ended bits r .lines)
 unfolding ended LinesHold
-ended-ranged bits (all ls p) h = go (filled bits p)
-  where
-    go : (b : Bool) → AllRanged (cond {A = Score} b (taken ls) (refusedScore answer.LeftOver 0) .lines)
-    go true = h
-    go false = tt
+ended-ranged bits (all ls p) h = either-way (λ (s : Score). AllRanged (s .lines)) (filled bits p) h tt
 ended-ranged bits (faulty f i) h = tt
 
 score-ranged : (bits : List Bool) → AllRanged (scoreOf bits .lines)
@@ -250,11 +219,7 @@ text-ranged bytes = go (text-form.linesFrom (length bytes) 0 bytes)
 -- ---- at each door
 
 single-ranged : (r : LineRead) → ranged (r .line .event) → AllRanged (single r .lines)
-single-ranged r h = go (isTaken (r .answer))
-  where
-    go : (b : Bool) → AllRanged (cond b (r .line ∷ []) [])
-    go true = (h, tt)
-    go false = tt
+single-ranged r h = either-way AllRanged (isTaken (r .answer)) (h, tt) tt
 
 pub reads-ranged : (d : Door) (handed : List ℕ) → AllRanged (reads d handed .lines)
 reads-ranged stick b = score-ranged (bitsOf b)

@@ -1,12 +1,11 @@
 -- The answers of a reading: which there are, and that 11 comes with the number 0.
-use mathlib.Core.Path.{_≡_, refl, ap}
-use mathlib.Core.Bool.{Bool, true, false, cond}
+use mathlib.Core.Path.{_≡_, refl}
+use mathlib.Core.Bool.{Bool, cond}
 use mathlib.Core.List.{List, []}
 use Prim.Native.Nat.{ℕ}
-use native.Mathlib.Omega.{arith}
 use lib.ListN.{length}
 use lib.Dec.{eqb}
-use Rattle.answer.specs.Numbers.{numberOf, isTaken}
+use Rattle.answer.specs.Numbers.{isTaken}
 use Rattle.answer.specs.declared.Answer as kind
 use Rattle.answer.specs.declared.Answer.the-variants as answer
 use Rattle.bitstream.specs.Bits.{bitsOf}
@@ -24,7 +23,7 @@ use Rattle.score.specs.Score.{Score, Lines, all, faulty as faulty-lines, linesF
 use Rattle.score_text.specs.inside.Reading.{Text, lines, bad, linesFrom as text-from, judged as judged-text, textOf}
 use Rattle.score_text.specs.Said.{judgedFrom, judgement}
 use Rattle.players.specs.Calls.{Door, stick, unit, keypad, text, reads, Answer}
-use Rattle.claims.specs.Verdict.{there, next}
+use Rattle.players.proofs.Lists.{either-way}
 
 -- the answers of a reading
 pub data Readable : kind.Answer → Type 0 where
@@ -36,35 +35,25 @@ pub data Readable : kind.Answer → Type 0 where
   read-left-over : Readable answer.LeftOver
   read-bad-text : Readable answer.BadText
 
-fault-readable : (x : Fault) → Readable (answerOf x)
-unfolding answerOf
-fault-readable fault.CutShort = read-cut
-fault-readable fault.NotCarried = read-not-carried
-fault-readable fault.OutOfRange = read-out-of-range
-fault-readable fault.TooManyValues = read-too-many
-
-not-left : (x : Fault) → answerOf x ≡ answer.LeftOver → ⊥
-unfolding answerOf
-not-left fault.CutShort e = let z = ap numberOf e in omega (arith, z)
-not-left fault.NotCarried e = let z = ap numberOf e in omega (arith, z)
-not-left fault.OutOfRange e = let z = ap numberOf e in omega (arith, z)
-not-left fault.TooManyValues e = let z = ap numberOf e in omega (arith, z)
-
 pub record ReadSo (s : Score) : Type 0 where
   pub readable : Readable (s .answer)
   pub from-0 : s .answer ≡ answer.LeftOver → s .line ≡ 0
+
+fault-so : (x : Fault) (i : ℕ) → ReadSo (record { answer = answerOf x; line = i; lines = [] })
+unfolding answerOf
+fault-so fault.CutShort i = record { readable = read-cut; from-0 = λ e. cc }
+fault-so fault.NotCarried i = record { readable = read-not-carried; from-0 = λ e. cc }
+fault-so fault.OutOfRange i = record { readable = read-out-of-range; from-0 = λ e. cc }
+fault-so fault.TooManyValues i = record { readable = read-too-many; from-0 = λ e. cc }
 
 score-so : (bits : List Bool) → ReadSo (scoreOf bits)
 unfolding scoreOf counted ended-score
 score-so bits = by-count (readAt bits 0 20)
   where
     by-lines : (x : Lines) → ReadSo (ended-score bits x)
-    by-lines (all ls p) = go (filled bits p)
-      where
-        go : (b : Bool) → ReadSo (cond b (record { answer = answer.Taken; line = 0; lines = ls }) (record { answer = answer.LeftOver; line = 0; lines = [] }))
-        go true = record { readable = read-whole; from-0 = λ e. refl }
-        go false = record { readable = read-left-over; from-0 = λ e. refl }
-    by-lines (faulty-lines f i) = record { readable = fault-readable f; from-0 = λ e. absurd (not-left f e) }
+    by-lines (all ls p) =
+        either-way ReadSo (filled bits p) (record { readable = read-whole; from-0 = λ e. refl }) (record { readable = read-left-over; from-0 = λ e. refl })
+    by-lines (faulty-lines f i) = fault-so f i
 
     by-count : (x : Got) → ReadSo (counted bits x)
     by-count (Value n p) = by-lines (linesFrom bits n 0 p)
@@ -77,33 +66,30 @@ text-so bytes = go (text-from (length bytes) 0 bytes)
   where
     by-lines : (x : Lines) → ReadSo (judgement x)
     by-lines (all ls p) = record { readable = read-whole; from-0 = λ e. refl }
-    by-lines (faulty-lines f i) = record { readable = fault-readable f; from-0 = λ e. absurd (not-left f e) }
+    by-lines (faulty-lines f i) = fault-so f i
 
     go : (t : Text) → ReadSo (judged-text t)
     go (lines ss) = by-lines (judgedFrom 0 ss)
-    go (bad i) = record { readable = read-bad-text; from-0 = λ e. absurd (let z = ap numberOf e in omega (arith, z)) }
+    go (bad i) = record { readable = read-bad-text; from-0 = λ e. cc }
 
 line-readable : (x : Read Line) → Readable (lineRead x .answer)
 unfolding lineRead refusedLine
 line-readable (got l p) = read-whole
-line-readable (refused f) = fault-readable f
+line-readable (refused f) = fault-so f 0 .readable
 
 left-or : (a b : Bool) (r : LineRead) → Readable (r .answer) → Readable (cond a (cond b r (refusedLine answer.LeftOver)) r .answer)
 unfolding refusedLine
-left-or true true r h = h
-left-or true false r h = read-left-over
-left-or false b r h = h
+left-or a b r h = let P : LineRead → Type 0 = λ (x : LineRead). Readable (x .answer) in either-way P a (either-way P b h read-left-over) h
 
 unit-readable : (bits : List Bool) → Readable (unitOf bits .answer)
 unfolding unitOf opened wholeLine lineAt refusedLine
 unit-readable bits = go (readAt bits 0 2)
   where
-    whole : (k : Bool) (r : LineRead) → Readable (r .answer) → Readable (cond k (wholeLine bits r) (refusedLine answer.NotCarried) .answer)
-    whole true r h = left-or (isTaken (r .answer)) (filled bits (r .next)) r h
-    whole false r h = read-not-carried
-
     go : (x : Got) → Readable (opened bits x .answer)
-    go (Value k p) = whole (eqb k 0) (lineAt bits p) (line-readable (lineFrom (bitSource bits) p))
+    go (Value k p) =
+        let r = lineAt bits p in
+        either-way (λ (x : LineRead). Readable (x .answer)) (eqb k 0)
+        (left-or (isTaken (r .answer)) (filled bits (r .next)) r (line-readable (lineFrom (bitSource bits) p))) read-not-carried
     go Short = read-cut
 
 pub reads-so : (d : Door) (handed : List ℕ) → ReadSo (reads d handed)

@@ -1,19 +1,17 @@
 -- Each call has the verdict of its history, whose notes are those of the orchestra as it is written.
-use mathlib.Core.Path.{_≡_, ap, _∙_, subst⁻¹}
+use mathlib.Core.Path.{_≡_, _∙_}
 use mathlib.Core.Bool.{_||_, cond}
 use mathlib.Core.List.{List, [], _++_}
-use Prim.Native.Nat.{ℕ, _+_, _≤_, _<_}
+use Prim.Native.Nat.{ℕ, _+_}
 use lib.IntN.{ℤ}
-use lib.ListN.{length}
 use lib.Dec.{eqb, ltb}
 use Rattle.score_line.specs.declared.Line.{Line}
 use Rattle.syntax.specs.Tree.{Instrument}
-use Rattle.messages.specs.declared.Message.{Message}
 use Rattle.players.specs.Cycle.{anyEnd, positionLimit}
 use Rattle.players.specs.Holds.{behind, dueAt, dueOf, endsBy}
 use Rattle.players.specs.Calls.{Door, unit, reads, Call, bring, burst, keyboard, cycle, Answer}
-use Rattle.players.specs.History.{Reached, History}
-use Rattle.claims.specs.Verdict.{mostMessages, AllFit, Faulty, AtDoor, over, badText, cut, notCarried, outOfRange, tooManyValues, leftOver, faulty, taken, AtKeyboard, keysOver, keysCut, keysNotCarried, keysFull, keysTaken, AtCycle, otherLength, overBefore, findsEnd, plays, withLines, InTurn, none, next, AtBurst, burstCut, burstTooLong, burstNoRoom, burstTaken, once, Verdict}
+use Rattle.players.specs.History.{History}
+use Rattle.claims.specs.Verdict.{AtDoor, over, badText, cut, notCarried, outOfRange, tooManyValues, leftOver, faulty, taken, AtKeyboard, keysOver, keysCut, keysNotCarried, keysFull, keysTaken, AtCycle, otherLength, overBefore, findsEnd, plays, withLines, InTurn, none, next, AtBurst, burstCut, burstTooLong, burstNoRoom, burstTaken, once, Verdict}
 use Rattle.claims.specs.Claims.{past, VerdictGiven, CallVerdict}
 use Rattle.claims.proofs.Past.{placedPast}
 use Rattle.claims.proofs.Answers.{verdict-by-place}
@@ -31,17 +29,6 @@ module _ {S S′ : Type 0} (is : List Instrument) where
     reached : g .reached ≡ h .reached
 
   module _ (h : History S) (g : History S′) (a : Agree h g) where
-    fitting : (d : Door) (ls : List Line) → AllFit is d (h .reached) (length (h .holds .waits)) ls → AllFit is d (g .reached) (length (g .holds .waits)) ls
-    fitting d ls t =
-        subst⁻¹ (λ (r : Reached). AllFit is d r (length (g .holds .waits)) ls) (a .reached)
-        (subst⁻¹ (λ (ws : List Line). AllFit is d (h .reached) (length ws) ls) (a .waits) t)
-
-    fault-stays : (d : Door) (n number : ℕ) (l : Line) → Faulty is d (h .reached) (length (h .holds .waits) + n) l number
-        → Faulty is d (g .reached) (length (g .holds .waits) + n) l number
-    fault-stays d n number l f =
-        subst⁻¹ (λ (r : Reached). Faulty is d r (length (g .holds .waits) + n) l number) (a .reached)
-        (subst⁻¹ (λ (ws : List Line). Faulty is d (h .reached) (length ws + n) l number) (a .waits) f)
-
     door-agrees : (d : Door) (handed : List ℕ) (n l : ℕ) → AtDoor is h d handed n l → AtDoor is g d handed n l
     door-agrees d handed n l (over e) = over (a .ended ∙ e)
     door-agrees d handed n l (badText e q) = badText (a .ended ∙ e) q
@@ -51,18 +38,15 @@ module _ {S S′ : Type 0} (is : List Instrument) where
     door-agrees d handed n l (tooManyValues e q) = tooManyValues (a .ended ∙ e) q
     door-agrees d handed n l (leftOver e q) = leftOver (a .ended ∙ e) q
     door-agrees d handed n l (faulty {number = m} before x later s t f) =
-        faulty before x later (a .ended ∙ s .0, s .1, s .2) (fitting d before t) (fault-stays d (length before) m x f)
-    door-agrees d handed n l (taken ls s t) = taken ls (a .ended ∙ s .0, s .1, s .2) (fitting d ls t)
-
-    room-agrees : (ms : List Message) → length (g .holds .messages) + length ms ≡ length (h .holds .messages) + length ms
-    room-agrees ms = ap (λ (waiting : List Message). length waiting + length ms) (a .messages)
+        faulty {number = m} before x later (a .ended ∙ s .0, s .1, s .2) (rw (a .reached, a .waits) t) (rw (a .reached, a .waits) f)
+    door-agrees d handed n l (taken ls s t) = taken ls (a .ended ∙ s .0, s .1, s .2) (rw (a .reached, a .waits) t)
 
     keys-agree : (bytes : List ℕ) (n l : ℕ) → AtKeyboard is h bytes n l → AtKeyboard is g bytes n l
     keys-agree bytes n l (keysOver e) = keysOver (a .ended ∙ e)
     keys-agree bytes n l (keysCut e s) = keysCut (a .ended ∙ e) s
     keys-agree bytes n l (keysNotCarried e s) = keysNotCarried (a .ended ∙ e) s
-    keys-agree bytes n l (keysFull ms e s r) = keysFull ms (a .ended ∙ e) s (subst⁻¹ (λ (k : ℕ). mostMessages < k) (room-agrees ms) r)
-    keys-agree bytes n l (keysTaken ms e s r) = keysTaken ms (a .ended ∙ e) s (subst⁻¹ (λ (k : ℕ). k ≤ mostMessages) (room-agrees ms) r)
+    keys-agree bytes n l (keysFull ms e s r) = keysFull ms (a .ended ∙ e) s (rw (a .messages) r)
+    keys-agree bytes n l (keysTaken ms e s r) = keysTaken ms (a .ended ∙ e) s (rw (a .messages) r)
 
     ends-agree : endsBy (dueOf (g .holds)) (g .holds .plays) ≡ endsBy (dueOf (h .holds)) (h .holds .plays)
     unfolding endsBy

@@ -1,12 +1,12 @@
 -- Every line taken fits, so every cycle and condition 3 are those of the orchestra as it is written.
-use mathlib.Core.Path.{_≡_, refl, ap, _∙_, subst, subst⁻¹}
-use mathlib.Core.Bool.{Bool, true, false, cond}
+use mathlib.Core.Path.{_≡_, ap, _∙_, subst⁻¹}
+use mathlib.Core.Bool.{cond}
 use mathlib.Core.List.{List, [], _∷_, _++_, append-nil}
 use Prim.Native.Nat.{ℕ, _≤_}
 use native.Mathlib.Omega.{arith}
 use lib.ListN.{length, length-take}
 use lib.Dec.{eqb}
-use borrow.Author.Tests.{eqb-true, eq-eqb}
+use borrow.Author.Tests.{eq-eqb, ne-eqb}
 use Rattle.score_line.specs.declared.Event.{Event}
 use Rattle.score_line.specs.declared.Event.the-variants.{Instr, Control, End, Tempo}
 use Rattle.score_line.specs.declared.Line.{Line}
@@ -20,22 +20,22 @@ use Rattle.written_voices.specs.Voices as written
 use Rattle.written_voices.proofs.Written.{every-piece, every-past}
 use Rattle.kept_voices.specs.Voices as byPlace
 use Rattle.answer.specs.Numbers.{numberOf}
-use Rattle.bursts.specs.Bursts.{Burst, unitsIn}
+use Rattle.bursts.specs.Bursts.{unitsIn}
 use Rattle.bursts.specs.inside.Reading.{burstOf}
 use Rattle.players.specs.Lists.{All, each}
 use Rattle.players.specs.Holds.{Settings, settingsOf}
-use Rattle.players.specs.Calls.{Door, unit, reads, Call, bring, burst, keyboard, cycle, Answer, one, After, linesOf, takenOf, Last, none, latest, Moment, takenIn, cyclesWith, lastWith, momentOf, traceFrom, trace, allTaken, afterAll}
+use Rattle.players.specs.Calls.{Door, unit, reads, Call, bring, burst, keyboard, cycle, one, linesOf, takenOf, Last, none, latest, Moment, takenIn, cyclesWith, lastWith, momentOf, traceFrom, trace, allTaken, afterAll}
 use Rattle.players.specs.Condition3.{above, inTime, InTime, AsPlain, PlainAlike}
 use Rattle.players.specs.History.{Reached, History}
-use Rattle.players.proofs.Lists.{cond-true, all-append, all-map}
+use Rattle.players.proofs.Lists.{all-append, all-map}
 use Rattle.loader.specs.Loading.{loadOf}
 use Rattle.loader_claims.specs.Claims.{StandsFor}
 use Rattle.panel.specs.declared.Panel.{Panel}
 use Rattle.claims.specs.Verdict.{HasFields, here, there, Playable, Fits, AllFit, Faulty, untimed, unplayable, late, full, AtDoor, over, badText, cut, notCarried, outOfRange, tooManyValues, leftOver, faulty, taken}
 use Rattle.panel.specs.Calls.{bringOf}
-use Rattle.claims.specs.Claims.{unitAnswer, afterOf, panel, Given, fresh, settings, past, LinesFit, CycleByTree, Condition3}
+use Rattle.claims.specs.Claims.{afterOf, panel, Given, fresh, settings, past, LinesFit, CycleByTree, Condition3}
 use Rattle.claims.proofs.Ranged.{ranged, AllRanged, reads-ranged}
-use Rattle.claims.proofs.Past.{Kept, own, kept-all, stands, fresh-kept, past-is, block-by-place, by-place}
+use Rattle.claims.proofs.Past.{no-line, no-others, Kept, own, kept-all, stands, fresh-kept, past-is, block-by-place, by-place}
 use Rattle.claims.proofs.Bursts.{singly, Receives, received, unreceived, receives, taken-of}
 use Rattle.claims.proofs.Answers.{at-door-given, past-unit}
 use Rattle.claims.proofs.Decided.{at-door}
@@ -44,13 +44,8 @@ use Rattle.claims.proofs.Decided.{at-door}
 
 enough-fields : {name n : ℕ} {is : List Instrument} → HasFields name n is → n ≤ length (instrumentOf is name .fields)
 unfolding instrumentOf
-enough-fields {name} {n} (here {i = i} {is = is} q h) =
-    subst⁻¹ (λ (x : Instrument). n ≤ length (x .fields)) (cond-true i (instrumentOf is name) (eq-eqb (i .name) name q)) h
-enough-fields {name} {n} (there {i = i} {is = is} q h) = go (eqb (i .name) name) refl (enough-fields h)
-  where
-    go : (b : Bool) → eqb (i .name) name ≡ b → n ≤ length (instrumentOf is name .fields) → n ≤ length (cond b i (instrumentOf is name) .fields)
-    go true e r = absurd (q (eqb-true (i .name) name e))
-    go false e r = r
+enough-fields {name} (here {i = i} q h) = rw (eq-eqb (i .name) name q) h
+enough-fields {name} (there {i = i} q h) = rw (ne-eqb (i .name) name q) (enough-fields h)
 
 module _ (is : List Instrument) where
   abbrev AllTakable : List Line → Type 0
@@ -88,22 +83,13 @@ module _ (is : List Instrument) where
   door-fits p d handed number line (taken ls s t) =
       all-append (λ (l : Line). written.Fits is l (l .event)) (reads d handed .lines) []
       (lines-fitting d (own p .reached) (reads d handed .lines) (length (own p .holds .waits))
-      (subst⁻¹ (AllFit is d (own p .reached) (length (own p .holds .waits))) (s .2) t) (reads-ranged d handed)) tt
-
-  none-taken : (given : List Answer) → AllTakable (takenOf ([] ∷ []) given)
-  none-taken [] = tt
-  none-taken (a ∷ given) = go (eqb (a .number) 0)
-    where
-      go : (b : Bool) → AllTakable (cond {A = List Line} b [] [] ++ [])
-      go true = tt
-      go false = tt
+      (rw (s .2) t) (reads-ranged d handed)) tt
 
   bring-fits : (p : Panel) → StandsFor is (p .program) → length (p .state .queue .lines) ≡ 64 → (d : Door) (handed : List ℕ)
       → AllTakable (takenOf (linesOf (bring d handed)) (afterOf p (bring d handed) .answers))
   bring-fits p r long d handed =
       let x = at-door is (own p) d handed in
-      subst⁻¹ (λ (a : List Answer). AllTakable (takenOf (linesOf (bring d handed)) a)) (at-door-given is p r long d handed (x .number) (x .line) (x .verdict))
-      (door-fits p d handed (x .number) (x .line) (x .verdict))
+      rw (at-door-given is p r long d handed (x .number) (x .line) (x .verdict)) (door-fits p d handed (x .number) (x .line) (x .verdict))
 
   -- the units of a burst, each as it comes
   units-fit : (us : List (List ℕ)) (p : Panel) → StandsFor is (p .program) → length (p .state .queue .lines) ≡ 64 → AllTakable (taken-of us (singly p us .numbers))
@@ -112,35 +98,22 @@ module _ (is : List Instrument) where
   units-fit (u ∷ us) p r long =
       let y = past-unit p long u in
       all-append (λ (l : Line). written.Fits is l (l .event)) (cond (eqb (numberOf (bringOf p unit u .answer)) 0) (reads unit u .lines) []) (taken-of us (singly (bringOf p unit u .panel) us .numbers))
-      (subst AllTakable (append-nil (cond (eqb (numberOf (bringOf p unit u .answer)) 0) (reads unit u .lines) [])) (bring-fits p r long unit u))
-      (units-fit us (bringOf p unit u .panel) (subst⁻¹ (StandsFor is) (y .has) r) (y .long))
+      (rw append-nil at (bring-fits p r long unit u)) (units-fit us (bringOf p unit u .panel) (rw (y .has) r) (y .long))
 
   burst-fits : (p : Panel) → StandsFor is (p .program) → length (p .state .queue .lines) ≡ 64 → (bytes area : List ℕ)
       → AllTakable (takenOf (linesOf (burst bytes area)) (afterOf p (burst bytes area) .answers))
   burst-fits p r long bytes area = go (receives p bytes area)
     where
-      refused : (n : ℕ) (ls : List (List Line)) → AllTakable (takenOf ([] ∷ ls) (one n 0))
-      refused n ls = by-number (eqb n 0) ls
-        where
-          by-number : (b : Bool) (ls : List (List Line)) → AllTakable (cond {A = List Line} b [] [] ++ takenOf ls [])
-          by-number true [] = tt
-          by-number true (l ∷ ls) = tt
-          by-number false [] = tt
-          by-number false (l ∷ ls) = tt
-
       go : Receives p bytes area (afterOf p (burst bytes area)) → AllTakable (takenOf (linesOf (burst bytes area)) (afterOf p (burst bytes area) .answers))
       go (received us q x) =
-          subst⁻¹ (λ (a : After Panel). AllTakable (takenOf (linesOf (burst bytes area)) (a .answers))) x
-          (subst⁻¹ (λ (b : Burst). AllTakable (takenOf ([] ∷ each (λ (u : List ℕ). reads unit u .lines) (unitsIn b)) (one 0 0 ++ each unitAnswer (singly p us .numbers)))) q (units-fit us p r long))
-      go (unreceived n z x) =
-          subst⁻¹ (λ (a : After Panel). AllTakable (takenOf (linesOf (burst bytes area)) (a .answers))) x
-          (refused n (each (λ (u : List ℕ). reads unit u .lines) (unitsIn (burstOf bytes))))
+          rw (x, q) (units-fit us p r long)
+      go (unreceived n z x) = rw (x, no-others n (each (λ (u : List ℕ). reads unit u .lines) (unitsIn (burstOf bytes)))) tt
 
   call-fits : (p : Panel) → StandsFor is (p .program) → length (p .state .queue .lines) ≡ 64 → (c : Call) → AllTakable (takenOf (linesOf c) (afterOf p c .answers))
   call-fits p r long (bring d handed) = bring-fits p r long d handed
   call-fits p r long (burst bytes area) = burst-fits p r long bytes area
-  call-fits p r long (keyboard bytes) = none-taken (afterOf p (keyboard bytes) .answers)
-  call-fits p r long (cycle b) = none-taken (afterOf p (cycle b) .answers)
+  call-fits p r long (keyboard bytes) = rw (no-line (afterOf p (keyboard bytes) .answers)) tt
+  call-fits p r long (cycle b) = rw (no-line (afterOf p (cycle b) .answers)) tt
 
 -- ---- every list of calls
 

@@ -2,11 +2,11 @@
 use Prim.Native.Nat.{ℕ, zero, suc, _≤_}
 use native.Mathlib.Omega.{arith}
 use mathlib.Core.Path.{_≡_, refl, sym, ap, _∙_}
-use mathlib.Core.Bool.{Bool, true, false, cond}
+use mathlib.Core.Bool.{true, false, true≢false}
 use mathlib.Core.List.{List, [], _∷_, _++_, map, append-assoc, append-nil}
 use lib.ListN.{length, take, replicate}
 use lib.Dec.{eqb}
-use borrow.Author.Tests.{eqb-true}
+use borrow.Author.Tests.{ne-eqb}
 use Rattle.laws.proofs.Lists.{map-append}
 use Rattle.tokens.specs.declared.Token.{Token}
 use Rattle.syntax.specs.Tree.{Expr, number, name, unary, binary, choose, Statements, done, assign, output, branch, Declaration, Instrument, fieldKind}
@@ -60,21 +60,15 @@ pub data Known : List Declaration → Type 0 where
   nil : Known []
   cons : (d : Declaration) {ds : List Declaration} → declares (d .kind) ≡ true → eqb (d .kind) fieldKind ≡ false → Known ds → Known (d ∷ ds)
 
-kind-declares : {k : ℕ} {ts : List Token} → Kinds k ts → declares k ≡ true
-kind-declares grammar.ivar = refl
-kind-declares grammar.ksig = refl
-kind-declares grammar.asig = refl
-kind-declares grammar.imports = refl
-
-kind-no-field : {k : ℕ} {ts : List Token} → Kinds k ts → eqb k fieldKind ≡ false
-kind-no-field grammar.ivar = refl
-kind-no-field grammar.ksig = refl
-kind-no-field grammar.asig = refl
-kind-no-field grammar.imports = refl
+kind-known : {k : ℕ} {ts : List Token} → Kinds k ts → (declares k ≡ true) × (eqb k fieldKind ≡ false)
+kind-known grammar.ivar = (refl, refl)
+kind-known grammar.ksig = (refl, refl)
+kind-known grammar.asig = (refl, refl)
+kind-known grammar.imports = (refl, refl)
 
 decls-known : {ds : List Declaration} {ts : List Token} → Decls ds ts → Known ds
 decls-known grammar.none = nil
-decls-known (grammar.some k ns d) = cons _ (kind-declares k) (kind-no-field k) (decls-known d)
+decls-known (grammar.some k ns d) = cons _ (kind-known k .0) (kind-known k .1) (decls-known d)
 
 instr-known : {i : Instrument} {ts : List Token} → Instr i ts → Known (i .declarations)
 instr-known (grammar.is n f d b) = decls-known d
@@ -92,13 +86,7 @@ all-known (grammar.next i o) = cons _ (instr-known i) (all-known o)
 ends-fields : {c : List Ins} → Ends c → fieldCount (opsOf c) ≡ 0
 unfolding fieldCount
 ends-fields nil = refl
-ends-fields (cons i c e) = go (eqb (i .op) 0) refl
-  where
-    go : (b : Bool) → eqb (i .op) 0 ≡ b → cond b (suc (fieldCount (opsOf c))) 0 ≡ 0
-    go true h =
-        let z : true ≡ false = sym (ap declares (eqb-true (i .op) 0 h)) ∙ e in
-        let y : _≡_ {A = ℕ} 0 1 = cc in absurd (omega arith)
-    go false h = refl
+ends-fields (cons i c e) = rw (ne-eqb (i .op) 0 (λ h. true≢false (sym (ap declares h) ∙ e)))
 
 names-fields : (k : ℕ) → eqb k fieldKind ≡ false → (ns : List ℕ) (c : List Ins) → fieldCount (opsOf c) ≡ 0 → fieldCount (opsOf (declare k ns ++ c)) ≡ 0
 unfolding fieldCount declare
@@ -109,8 +97,7 @@ declared-fields : {ds : List Declaration} → Known ds → (c : List Ins) → fi
 unfolding declared
 declared-fields nil c h = h
 declared-fields (cons d {ds = ds} e f k) c h =
-    ap (λ l. fieldCount (opsOf l)) (append-assoc (declare (d .kind) (d .names)) (declared ds) c)
-    ∙ names-fields (d .kind) f (d .names) (declared ds ++ c) (declared-fields k c h)
+    rw append-assoc (names-fields (d .kind) f (d .names) (declared ds ++ c) (declared-fields k c h))
 
 own-fields : (fs : List ℕ) (c : List Ins) → fieldCount (opsOf c) ≡ 0 → fieldCount (opsOf (declare fieldKind fs ++ c)) ≡ length fs
 unfolding fieldCount declare
@@ -135,11 +122,13 @@ declared-imports : {ds : List Declaration} → Known ds → (c : List Ins)
 unfolding declared namedBy
 declared-imports nil c = refl
 declared-imports (cons d {ds = ds} e f k) c =
-    ap (λ l. importsAt (opsOf l) (argsOf l)) (append-assoc (declare (d .kind) (d .names)) (declared ds) c)
-    ∙ names-imports (d .kind) e (d .names) (declared ds ++ c)
-    ∙ ap (λ l. map importOf (named (d .kind) (d .names)) ++ l) (declared-imports k c)
-    ∙ sym (append-assoc (map importOf (named (d .kind) (d .names))) (map importOf (namedBy ds)) (importsAt (opsOf c) (argsOf c)))
-    ∙ ap (λ l. l ++ importsAt (opsOf c) (argsOf c)) (sym (map-append importOf (named (d .kind) (d .names)) (namedBy ds)))
+    rw (
+      append-assoc,
+      names-imports (d .kind) e (d .names) (declared ds ++ c),
+      declared-imports k c,
+      map-append importOf (named (d .kind) (d .names)) (namedBy ds),
+      append-assoc,
+    )
 
 -- ---- an instrument, with a program behind it
 
@@ -152,25 +141,18 @@ module _ (i : Instrument) (k : Known (i .declarations)) (behind : List Instrumen
   body = code (i .body) ++ program behind
 
   parted : restOf i ++ program behind ≡ declare fieldKind (i .fields) ++ (declared (i .declarations) ++ body)
-  parted =
-      append-assoc (declare fieldKind (i .fields)) (declared (i .declarations) ++ code (i .body)) (program behind)
-      ∙ ap (λ l. declare fieldKind (i .fields) ++ l) (append-assoc (declared (i .declarations)) (code (i .body)) (program behind))
+  parted = rw (append-assoc, append-assoc)
 
   ends : Ends body
   ends = code-ends (i .body) (program behind) (program-ends behind)
 
   pub fields-are : fieldCount (opsOf (restOf i ++ program behind)) ≡ length (i .fields)
-  fields-are =
-      ap (λ l. fieldCount (opsOf l)) parted
-      ∙ own-fields (i .fields) (declared (i .declarations) ++ body) (declared-fields k body (ends-fields ends))
+  fields-are = rw parted (own-fields (i .fields) (declared (i .declarations) ++ body) (declared-fields k body (ends-fields ends)))
 
   pub imports-are : importsAt (opsOf (restOf i ++ program behind)) (argsOf (restOf i ++ program behind)) ≡ map importOf (namesOf i)
   imports-are =
-      ap (λ l. importsAt (opsOf l) (argsOf l)) parted
-      ∙ names-imports fieldKind refl (i .fields) (declared (i .declarations) ++ body)
-      ∙ ap (λ l. map importOf (named fieldKind (i .fields)) ++ l)
-      (declared-imports k body ∙ ap (λ l. map importOf (namedBy (i .declarations)) ++ l) (ends-imports ends) ∙ append-nil (map importOf (namedBy (i .declarations))))
-      ∙ sym (map-append importOf (named fieldKind (i .fields)) (namedBy (i .declarations)))
+      rw (parted, names-imports fieldKind refl (i .fields) (declared (i .declarations) ++ body), declared-imports k body, ends-imports ends, append-nil)
+      (sym (map-append importOf (named fieldKind (i .fields)) (namedBy (i .declarations))))
 
 -- cells with one value behind a list are the first of the list and enough of that value
 pub laid-take : {A : Type 0} (m k : ℕ) (d : A) (xs : List A) → m ≤ k → laidIn m d xs ≡ take m (xs ++ replicate k d)

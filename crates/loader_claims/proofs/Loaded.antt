@@ -1,7 +1,7 @@
 -- An accepted orchestra's program, as the loader keeps it, stands for its tree.
 use Prim.Native.Nat.{ℕ, zero, suc, _+_, _≤_, min}
 use native.Mathlib.Omega.{arith}
-use mathlib.Core.Path.{_≡_, refl, sym, ap, ap₂, _∙_, subst}
+use mathlib.Core.Path.{_≡_, refl, sym, ap, ap₂, _∙_, subst, subst⁻¹, subst₂}
 use mathlib.Core.Bool.{true}
 use mathlib.Core.List.{List, [], _∷_, _++_, map}
 use lib.ListN.{length, take, drop, replicate, length-map}
@@ -86,8 +86,7 @@ module _ (hs os ns : List ℕ) (vs : List Float) (few : length hs ≤ mostInstru
     stands-by : (is : List Instrument) → Represents is (rowsFrom os ns (filled mostStarts ss) (length hs) 0 hs) (filled codeSize ws) (padded programSize zeroF vs) → StandsFor is made
     unfolding programOf
     stands-by is r =
-        subst (λ (t : List row.Instrument). Represents is t (made .code) (padded programSize zeroF vs)) (sym table-is)
-        (subst (λ (c : List ℕ). Represents is (rowsFrom os ns (filled mostStarts ss) (length hs) 0 hs) c (padded programSize zeroF vs)) (sym code-is) r)
+        subst₂ (λ (t : List row.Instrument) (c : List ℕ). Represents is t c (padded programSize zeroF vs)) (sym table-is) (sym code-is) r
 
 module _ (is : List Instrument) (ts : List Token) (d : Orchestra is ts) (m : measured ts ≡ true) (named : nameRules is ≡ true) where
   abbrev os : List ℕ
@@ -115,7 +114,7 @@ module _ (is : List Instrument) (ts : List Token) (d : Orchestra is ts) (m : mea
       let r = represents (wordsIn is) (vs ++ more) is (rowsFrom os ns (startsIn is) (length is) 0 hs) (all-rows is more ts d m (all-known d)) in
       subst (StandsFor is) (sym (kept-is hs os ns vs few e))
       (stands-by hs os ns vs few e (wordsOf (map placed is)) (startsOf (map placed is)) code-of is
-      (subst (λ (k : ℕ). Represents is (rowsFrom os ns (startsIn is) k 0 hs) (wordsIn is) (vs ++ more)) (sym n) r))
+      (rw n r))
 
 pub loaded : Loaded
 unfolding loadOf
@@ -123,9 +122,7 @@ loaded bs is a =
     let e = accepted-exactly bs .1 is a in
     record {
       taken = ap (λ (o : Outcome). o .answer) e;
-      stands =
-          subst (λ (o : Outcome). StandsFor is (keptOf (o .program))) (sym e)
-          (compiled-stands is (a .tokens) (a .derived) (a .sized .within) (a .named));
+      stands = subst⁻¹ (λ (o : Outcome). StandsFor is (keptOf (o .program))) e (compiled-stands is (a .tokens) (a .derived) (a .sized .within) (a .named));
     }
 
 pub taken-only : TakenOnly

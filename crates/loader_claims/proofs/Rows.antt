@@ -1,7 +1,7 @@
 -- The rows of the loader's table are those of the tree's instruments.
 use Prim.Native.Nat.{ℕ, suc, _+_, _*_, _<_}
 use native.Mathlib.Omega.{arith}
-use mathlib.Core.Path.{_≡_, refl, sym, ap, ap₂, _∙_, subst}
+use mathlib.Core.Path.{_≡_, refl, sym, ap, ap₂, _∙_}
 use mathlib.Core.Bool.{true}
 use mathlib.Core.List.{List, [], _∷_, _++_, map, append-assoc, append-nil}
 use lib.ListN.{length, drop, getD, length-map, length-append}
@@ -14,7 +14,7 @@ use Rattle.syntax.specs.inside.Placed.{placed}
 use Rattle.syntax.specs.inside.Program.{Ins, insArg, instrOp, instrument, program}
 use Rattle.syntax.specs.Grammar.{Orchestra}
 use Rattle.rules.specs.Formed.{opOf, argOf, opsOf, argsOf, valsOf}
-use Rattle.operations.specs.Words.{codeSize, notePlaces}
+use Rattle.operations.specs.Words.{codeSize}
 use Rattle.synth.specs.Passes.{stretch}
 use Rattle.translation.specs.Translation.{lowered}
 use Rattle.lowering.specs.Orchestra.{filled}
@@ -25,7 +25,7 @@ use Rattle.loader_claims.proofs.Stretches.{instrument-code, getD-filled
 use Rattle.orchestra.specs.inside.Compiled.{headsFrom}
 use Rattle.kept_orchestra.specs.declared.Instrument as row
 use Rattle.voices.specs.Represents.{Row, Rows}
-use Rattle.loader.specs.Loading.{mostStarts, laidIn, noImport, fieldCount, importsAt, rowAt, rowsFrom}
+use Rattle.loader.specs.Loading.{mostStarts, rowAt, rowsFrom}
 use Rattle.loader_claims.proofs.Declarations.{Known, AllKnown, nil, cons, restOf, fields-are, imports-are, imports-laid}
 
 -- ---- a program around one instruction
@@ -43,8 +43,7 @@ program-split : (before : List Instrument) (i : Instrument) (behind : List Instr
 unfolding program
 program-split [] i behind = refl
 program-split (b ∷ before) i behind =
-    ap (λ l. instrument (placed b) ++ l) (program-split before i behind)
-    ∙ sym (append-assoc (instrument (placed b)) (program (map placed before)) (instrument (placed i) ++ program (map placed behind)))
+    cc (program-split before i behind, append-assoc (instrument (placed b)) (program (map placed before)) (instrument (placed i) ++ program (map placed behind)))
 
 -- ---- what the loader has of a tree
 
@@ -92,17 +91,10 @@ module _ (before : List Instrument) (i : Instrument) (behind : List Instrument) 
       let x = insArg instrOp (i .name) in
       let t = restOf (placed i) ++ programIn behind in
       let p : programIn all ≡ b ++ x ∷ t = program-split before i behind in (
-        ap (λ l. getD (argsOf l) head 0) p ∙ arg-here b x t,
+        rw p (arg-here b x t),
         record {
-          fields =
-              ap (λ l. fieldCount (drop (head + 1) (opsOf l))) p
-              ∙ ap fieldCount (rest-here opOf b x t)
-              ∙ fields-are (placed i) k (map placed behind);
-          imports =
-              ap (λ l. laidIn notePlaces noImport (importsAt (drop (head + 1) (opsOf l)) (drop (head + 1) (argsOf l)))) p
-              ∙ ap₂ (λ (u v : List ℕ). laidIn notePlaces noImport (importsAt u v)) (rest-here opOf b x t) (rest-here argOf b x t)
-              ∙ ap (laidIn notePlaces noImport) (imports-are (placed i) k (map placed behind))
-              ∙ imports-laid i;
+          fields = rw (p, rest-here opOf b x t) (fields-are (placed i) k (map placed behind));
+          imports = rw (p, rest-here opOf b x t, rest-here argOf b x t, imports-are (placed i) k (map placed behind)) (imports-laid i);
           start = bodyAt head (placed i);
           icode = code-at 0 (length before) (omega arith) (omega arith);
           kcode = code-at 1 (length all + 1 + length before) (omega arith) (omega arith);
@@ -132,16 +124,9 @@ module _ (is : List Instrument) (more : List Float) (ts : List Token) (d : Orche
   unfolding Rows rowsFrom headsFrom
   rows-from before [] e nil = tt
   rows-from before (i ∷ rest) e (cons _ k ks) =
-      let r = subst (λ (x : List Instrument). NamedRow x more i (rowIn x (length before) (length (programIn before)))) (sym e)
-      (row-is before i rest more ts (subst (λ (x : List Instrument). Orchestra x ts) e d) m k) in
+      let r : NamedRow is more i (rowIn is (length before) (length (programIn before))) = rw e (row-is before i rest more ts (rw e at d) m k) in
       let next = rows-from (before ++ i ∷ []) rest (e ∙ sym (append-assoc before (i ∷ []) rest)) ks in
-      let at = subst (λ (j : ℕ). Rows (wordsIn is) (valsOf (programIn is) ++ more) rest (rows j (length (programIn (before ++ i ∷ []))) rest)) (length-next before i rest) next in (
-        r .0,
-        (
-          r .1,
-          subst (λ (h : ℕ). Rows (wordsIn is) (valsOf (programIn is) ++ more) rest (rows (suc (length before)) h rest)) (head-next before i rest) at,
-        ),
-      )
+      (r .0, (r .1, rw (length-next before i rest, head-next before i rest) at next))
 
   pub all-rows : AllKnown is → Rows (wordsIn is) (valsOf (programIn is) ++ more) is (rows 0 0 is)
   unfolding program

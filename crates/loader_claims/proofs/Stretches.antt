@@ -105,15 +105,6 @@ module _ (r : ℕ) (i : Instrument) (behind : List Instrument) where
       ∙ ap (λ (k : ℕ). at + length w + length (allLowered r m before) + length (own k)) z
       ∙ omega (arith, length-append w (allLowered r m before))
 
-parted : (a b w c d : List ℕ) → a ++ ((b ++ (w ++ c)) ++ d) ≡ ((a ++ b) ++ w) ++ (c ++ d)
-parted a b w c d = simp append-assoc
-
-three : (a b c d : List ℕ) → (a ++ (b ++ c)) ++ d ≡ a ++ (b ++ (c ++ d))
-three a b c d = simp append-assoc
-
-two : (a b c d : List ℕ) → (a ++ (b ++ c)) ++ d ≡ (a ++ b) ++ (c ++ d)
-two a b c d = simp append-assoc
-
 -- a part between two others
 middle : (a w c : List ℕ) (from end : ℕ) → length a ≡ from → length a + length w ≡ end → stretch from end ((a ++ w) ++ c) ≡ w
 middle a w c from end h k = ap (drop from) (take-at (a ++ w) c end (length-append a w ∙ k)) ∙ drop-at a w from h
@@ -148,12 +139,12 @@ module _ (r : ℕ) (before : List Instrument) (i : Instrument) (behind : List In
       ∙ ap (λ (k : ℕ). length A + length b + length (own r i behind k)) zp in
       let z : A ++ (allLowered r 0 all ++ D) ≡ ((A ++ b) ++ mine) ++ (c ++ D) =
       ap (λ (l : List ℕ). A ++ (l ++ D)) (words-split r i behind 0 before ∙ ap (λ (k : ℕ). b ++ (own r i behind k ++ allLowered r (k + length (instrument i)) behind)) zp)
-      ∙ parted A b mine c D in
+      ∙ simp append-assoc in
       rw (x, y, z) (middle (A ++ b) mine (c ++ D) (length A + length b) (length A + length b + length mine) (length-append A b) (omega (arith, length-append A b)))
 
   joined : (W T : List ℕ) (at : ℕ) (A D S U : List ℕ) → W ≡ A ++ (allLowered r 0 all ++ D) → T ≡ S ++ (startsFrom r (length A) 0 all ++ U) → at ≡ length S + length before
       → stretch (getD T at 0) (getD T (suc at) 0) W ≡ mine
-  joined W T at A D S U a b c = (λ j. stretch (getD (b j) (c j) 0) (getD (b j) (suc (c j)) 0) (a j)) ∙ found A D S U
+  joined W T at A D S U a b c = rw (a, b, c) (found A D S U)
 
 -- the three rates
 instrument-at : (r : ℕ) (zs : List ℕ) (before : List Instrument) (i : Instrument) (behind : List Instrument) → r < 3
@@ -170,7 +161,7 @@ instrument-at (suc zero) zs before i behind h =
     let is = before ++ i ∷ behind in
     let L : ℕ → List ℕ = λ (k : ℕ). allLowered k 0 is in
     joined 1 before i behind (wordsOf is ++ zs) (startsOf is) (1 * suc (length is) + length before) (L 0) (L 2 ++ zs) (startsFrom 0 0 0 is)
-    (startsFrom 2 (length (L 0) + length (L 1)) 0 is) (three (L 0) (L 1) (L 2) zs) refl (omega (arith, starts-length 0 0 0 is))
+    (startsFrom 2 (length (L 0) + length (L 1)) 0 is) (simp append-assoc) refl (omega (arith, starts-length 0 0 0 is))
 instrument-at (suc (suc zero)) zs before i behind h =
     let is = before ++ i ∷ behind in
     let L : ℕ → List ℕ = λ (k : ℕ). allLowered k 0 is in
@@ -180,7 +171,7 @@ instrument-at (suc (suc zero)) zs before i behind h =
     sym (append-assoc S₀ S₁ (startsFrom 2 (length (L 0) + length (L 1)) 0 is))
     ∙ ap (λ (k : ℕ). (S₀ ++ S₁) ++ startsFrom 2 k 0 is) (sym (length-append (L 0) (L 1)))
     ∙ ap (λ (l : List ℕ). (S₀ ++ S₁) ++ l) (sym (append-nil (startsFrom 2 (length (L 0 ++ L 1)) 0 is))) in
-    joined 2 before i behind (wordsOf is ++ zs) (startsOf is) (2 * suc (length is) + length before) (L 0 ++ L 1) zs (S₀ ++ S₁) [] (two (L 0) (L 1) (L 2) zs) t
+    joined 2 before i behind (wordsOf is ++ zs) (startsOf is) (2 * suc (length is) + length before) (L 0 ++ L 1) zs (S₀ ++ S₁) [] (simp append-assoc) t
     (omega (arith, starts-length 0 0 0 is, starts-length 1 (length (L 0)) 0 is, length-append S₀ S₁))
 instrument-at (suc (suc (suc r))) zs before i behind h = absurd (omega arith)
 

@@ -27,21 +27,27 @@ use Rattle.loader_claims.specs.Code.{KindsAll, startsFrom}
 
 -- ---- instructions that begin no instrument
 
-unfoldable Quiet : List Ins → Type 0
-Quiet [] = Unit {0}
-Quiet (i ∷ c) = (i .op ≡ instrOp → ⊥) × Quiet c
+unfoldable Every : (Ins → Type 0) → List Ins → Type 0
+Every P [] = Unit {0}
+Every P (i ∷ c) = P i × Every P c
 
-quiet-append : (a b : List Ins) → Quiet a → Quiet b → Quiet (a ++ b)
-unfolding Quiet
-quiet-append [] b p q = q
-quiet-append (i ∷ a) b p q = (p .0, quiet-append a b (p .1) q)
+every-append : (P : Ins → Type 0) (a b : List Ins) → Every P a → Every P b → Every P (a ++ b)
+unfolding Every
+every-append P [] b p q = q
+every-append P (i ∷ a) b p q = (p .0, every-append P a b (p .1) q)
+
+abbrev Quiet : List Ins → Type 0
+Quiet = Every (λ (i : Ins). i .op ≡ instrOp → ⊥)
+
+abbrev quiet-append : (a b : List Ins) → Quiet a → Quiet b → Quiet (a ++ b)
+quiet-append = every-append (λ (i : Ins). i .op ≡ instrOp → ⊥)
 
 -- what is a value to the walk begins none
 not-first : (o : ℕ) → actOf o ≡ Value → o ≡ instrOp → ⊥
 not-first o h e = let z : Instr ≡ Value = sym (ap actOf e) ∙ h in let y : _≡_ {A = ℕ} 0 1 = cc in omega arith
 
 quiet-expr : (e : Expr) → Quiet (compile e)
-unfolding Quiet compile
+unfolding Every compile
 quiet-expr (number x) = (λ z. omega arith, tt)
 quiet-expr (name c) = (λ z. omega arith, tt)
 quiet-expr (unary o e) = quiet-append (compile e) (ins (unaryOp o) ∷ []) (quiet-expr e) (not-first (unaryOp o) (unary-value o), tt)
@@ -53,7 +59,7 @@ quiet-expr (choose c a b) =
     (λ z. omega arith, tt)
 
 quiet-code : (vals : List Float) (n g : ℕ) (t : Statements) → Playable vals n g t → Quiet (codeOfTree t)
-unfolding Quiet codeOfTree Playable
+unfolding Every codeOfTree Playable
 quiet-code vals n g done p = tt
 quiet-code vals n g (assign c e t) p =
     quiet-append (compile e) (insArg storeOp c ∷ codeOfTree t) (quiet-expr e) (λ z. omega arith, quiet-code vals (suc (after n e)) g t (p .1))
@@ -75,22 +81,19 @@ quiet-code vals n g (branch e a b t) p =
 
 -- ---- declarations
 
-unfoldable Idle : List Ins → Type 0
-Idle [] = Unit {0}
-Idle (i ∷ c) = (actOf (i .op) ≡ Declare) × Idle c
+abbrev Idle : List Ins → Type 0
+Idle = Every (λ (i : Ins). actOf (i .op) ≡ Declare)
 
-idle-append : (a b : List Ins) → Idle a → Idle b → Idle (a ++ b)
-unfolding Idle
-idle-append [] b p q = q
-idle-append (i ∷ a) b p q = (p .0, idle-append a b (p .1) q)
+abbrev idle-append : (a b : List Ins) → Idle a → Idle b → Idle (a ++ b)
+idle-append = every-append (λ (i : Ins). actOf (i .op) ≡ Declare)
 
 idle-declare : (k : ℕ) (ns : List ℕ) → actOf k ≡ Declare → Idle (declare k ns)
-unfolding Idle declare
+unfolding Every declare
 idle-declare k [] h = tt
 idle-declare k (n ∷ ns) h = (h, idle-declare k ns h)
 
 idle-declared : (ds : List Declaration) → FormedKinds ds → Idle (declared ds)
-unfolding Idle declared FormedKinds
+unfolding Every declared FormedKinds
 idle-declared [] h = tt
 idle-declared (d ∷ ds) h = idle-append (declare (d .kind) (d .names)) (declared ds) (idle-declare (d .kind) (d .names) (h .0)) (idle-declared ds (h .1))
 
@@ -98,7 +101,7 @@ not-instr : (o : ℕ) → actOf o ≡ Declare → o ≡ 1 → ⊥
 not-instr o h e = let z : Instr ≡ Declare = sym (ap actOf e) ∙ h in let y : _≡_ {A = ℕ} 0 1 = cc in omega arith
 
 idle-quiet : (c : List Ins) → Idle c → Quiet c
-unfolding Idle Quiet
+unfolding Every
 idle-quiet [] p = tt
 idle-quiet (i ∷ c) p = (not-instr (i .op) (p .0), idle-quiet c (p .1))
 
@@ -112,7 +115,7 @@ module _ (cap r : ℕ) where
   idle-one n o a l h = rw h
 
   idle-all : (c : List Ins) (n : ℕ) (l : Low) → Idle c → lowerAll cap r n c l ≡ l
-  unfolding lowerAll Idle
+  unfolding lowerAll Every
   idle-all [] n l p = refl
   idle-all (i ∷ c) n l p = ap (lowerAll cap r (suc n) c) (idle-one n (i .op) (i .arg) l (p .0)) ∙ idle-all c (suc n) l (p .1)
 
@@ -128,7 +131,7 @@ module _ (cap r : ℕ) where
     walk n c l s = walkFrom cap room r n (opsOf c) (argsOf c) l s
 
     walk-quiet : (seg more : List Ins) (n : ℕ) (l : Low) (s : List ℕ) → Quiet seg → walk n (seg ++ more) l s ≡ walk (n + length seg) more (lowerAll cap r n seg l) s
-    unfolding walkFrom noted lowerAll Quiet
+    unfolding walkFrom noted lowerAll Every
     walk-quiet [] more n l s p = let z : n + 0 ≡ n = omega arith in ap (λ (k : ℕ). walk k more l s) (sym z)
     walk-quiet (i ∷ seg) more n l s p =
         let m = lowerOne cap r n (i .op) (i .arg) l in

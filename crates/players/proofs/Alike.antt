@@ -1,136 +1,43 @@
 -- Condition 3, first half, for every player that follows its history.
-use mathlib.Core.Path.{_≡_, refl, sym, ap, _∙_, subst, subst⁻¹}
-use mathlib.Core.Bool.{Bool, true, false, _&&_, cond}
-use mathlib.Core.List.{List, [], _∷_, _++_, append-nil}
+use mathlib.Core.Path.{_≡_, refl, sym, ap, _∙_, subst}
+use mathlib.Core.Bool.{Bool, true, false, cond, true≢false, false≢true}
+use mathlib.Core.List.{List, [], _∷_, _++_, append-assoc, append-nil}
 use Prim.Native.Nat.{ℕ, suc, _≤_}
 use native.Mathlib.Omega.{arith}
 use native.Mathlib.Nat.{le-refl}
-use lib.IntN.{ℤ}
-use lib.ListN.{length}
 use lib.Dec.{eqb}
+use borrow.Author.Tests.{eqb-true}
 use Rattle.score_line.specs.declared.Line.{Line}
 use Rattle.players.specs.Lists.{All}
 use Rattle.players.specs.Cycle.{Voices}
-use Rattle.players.specs.Holds.{Settings, Counts, Holds, behind, withMessages, marked, dueOf, endsBy, answerOf, blockOf, played, cycled}
+use Rattle.players.specs.Holds.{Settings, Holds, behind, withMessages, marked, dueOf, endsBy, answerOf, blockOf, played, cycled}
 use Rattle.players.specs.Plain.{plainStart, plainAt, answerAt, blockAt}
 use Rattle.messages.specs.declared.Message.{Message}
-use Rattle.players.specs.Calls.{Call, bring, burst, keyboard, cycle, messagesIn, messagesTaken, Answer, one, After, Player, numbered, takenOf, linesOf, isZero, Last, latest, none, Moment, takenIn, cyclesWith, lastWith, allTaken, momentOf, traceFrom}
+use Rattle.players.specs.Calls.{Call, bring, burst, keyboard, cycle, messagesIn, messagesTaken, Answer, one, Player, numbered, takenOf, linesOf, isZero, Last, none, Moment, takenIn, cyclesWith, lastWith, allTaken, momentOf, traceFrom}
 use Rattle.players.specs.Condition3.{InTime, AsPlain, NotKeyboard, PlainAlike}
-use Rattle.players.specs.History.{History, unbegun, withCycle, withMoment}
-use Rattle.players.proofs.Lists.{cond-true, cond-false}
-use Rattle.players.proofs.Join.{AllAbove, behind-none, behind-behind, ends-join, block-join, plays-join}
-use Rattle.players.proofs.Later.{later}
+use Rattle.players.specs.History.{History, unbegun, withMoment}
+use Rattle.players.proofs.Lists.{by-test, either-way}
+use Rattle.players.proofs.Join.{AllAbove, behind-none, ends-join, block-join, plays-join}
+use Rattle.players.proofs.Later.{From, later}
 
-differ : true ≡ false → ⊥
-differ q = let z : _≡_ {A = ℕ} 0 1 = cc in omega arith
+-- a call that holds no line
+pub no-line : (given : List Answer) → takenOf ([] ∷ []) given ≡ []
+no-line [] = refl
+no-line (a ∷ given) = either-way (λ (l : List Line). l ++ [] ≡ []) (eqb (a .number) 0) refl refl
 
 -- a numbered call brings no line
-no-line : (c : Call) (given : List Answer) → numbered c ≡ true → takenOf (linesOf c) given ≡ []
-no-line (bring d handed) given q = absurd (differ (sym q))
-no-line (burst bytes area) given q = absurd (differ (sym q))
-no-line (keyboard bytes) given q = absurd (differ (sym q))
-no-line (cycle b) [] q = refl
-no-line (cycle b) (a ∷ given) q = go (eqb (a .number) 0)
-  where
-    go : (z : Bool) → cond {A = List Line} z [] [] ++ [] ≡ []
-    go true = refl
-    go false = refl
+numbered-none : (c : Call) (given : List Answer) → numbered c ≡ true → takenOf (linesOf c) given ≡ []
+numbered-none (bring d handed) given q = absurd (false≢true q)
+numbered-none (burst bytes area) given q = absurd (false≢true q)
+numbered-none (keyboard bytes) given q = absurd (false≢true q)
+numbered-none (cycle b) given q = no-line given
 
 -- and only the keyboard brings note messages
 no-message : (b : Bool) (c : Call) → NotKeyboard c → cond b (messagesIn c) [] ≡ []
 no-message b (keyboard bytes) h = absurd h
-no-message true (bring d handed) h = refl
-no-message false (bring d handed) h = refl
-no-message true (burst bytes area) h = refl
-no-message false (burst bytes area) h = refl
-no-message true (cycle block) h = refl
-no-message false (cycle block) h = refl
-
-messages-none : {S : Type 0} (h : Holds S) (ms : List Message) → ms ≡ [] → withMessages ms h ≡ h
-unfolding withMessages
-messages-none h ms e = λ i. record { waits = h .waits; messages = (ap (λ (l : List Message). h .messages ++ l) e ∙ append-nil (h .messages)) i; plays = h .plays }
-
--- ---- the plain player against what is held; f are the lines still to come
-
--- it holds the same with these lines behind
-record Match {S : Type 0} (v : Voices S) (settings : ℕ → Settings) (ls : List Line) (k : ℕ) (h : Holds S) (f : List Line) : Type 0 where
-  runs : h .plays .ended ≡ false
-  same : plainAt v settings ls k ≡ behind f h
-
--- both have ended
-record Over {S : Type 0} (v : Voices S) (settings : ℕ → Settings) (ls : List Line) (k : ℕ) (h : Holds S) : Type 0 where
-  here : h .plays .ended ≡ true
-  plain : plainAt v settings ls k .plays .ended ≡ true
-  same : h .plays .counts ≡ plainAt v settings ls k .plays .counts
-
-module _ {S : Type 0} (v : Voices S) (settings : ℕ → Settings) (ls : List Line) (k : ℕ) (h : Holds S) where
-  played-runs : played v (settings k) (dueOf h) (h .plays) .ended ≡ false
-  unfolding played
-  played-runs = refl
-
-  match-counts : (f : List Line) → Match v settings ls k h f → h .plays .counts ≡ plainAt v settings ls k .plays .counts
-  unfolding behind
-  match-counts f m = ap (λ (d : Holds S). d .plays .counts) (sym (m .same))
-
-  match-ended : (f : List Line) → Match v settings ls k h f → plainAt v settings ls k .plays .ended ≡ false
-  unfolding behind
-  match-ended f m = ap (λ (d : Holds S). d .plays .ended) (m .same) ∙ m .runs
-
-  match-place : (f : List Line) → Match v settings ls k h f → plainAt v settings ls k .plays .position ≡ h .plays .position
-  unfolding behind
-  match-place f m = ap (λ (d : Holds S). d .plays .position) (m .same)
-
-  match-took : (xs f : List Line) → Match v settings ls k h (xs ++ f) → Match v settings ls k (behind xs h) f
-  unfolding behind
-  match-took xs f m = record { runs = m .runs; same = m .same ∙ sym (behind-behind h xs f) }
-
-  -- step 1 ends the piece for both
-  match-ends : Match v settings ls k h [] → endsBy (dueOf h) (h .plays) ≡ true
-      → (answerAt v settings ls k ≡ answerOf h) × Over v settings ls (suc k) (cycled v (settings k) h)
-  unfolding answerAt answerOf plainAt cycled marked
-  match-ends m e =
-      let q : plainAt v settings ls k ≡ h = m .same ∙ behind-none h in
-      let st : cycled v (settings k) h ≡ record { waits = h .waits; messages = h .messages; plays = marked (h .plays) } = cond-false _ _ (m .runs) ∙ cond-true _ _ e in (
-        ap answerOf q,
-        record {
-          here = ap (λ (d : Holds S). d .plays .ended) st;
-          plain = ap (λ (d : Holds S). cycled v (settings k) d .plays .ended) q ∙ ap (λ (d : Holds S). d .plays .ended) st;
-          same = ap (λ (d : Holds S). cycled v (settings k) d .plays .counts) (sym q);
-        },
-      )
-
-  -- both play
-  match-plays : (f : List Line) → Match v settings ls k h f → AllAbove (plainAt v settings ls k .plays .position) f → endsBy (dueOf h) (h .plays) ≡ false
-      → (answerAt v settings ls k ≡ answerOf h) × (blockAt v settings ls k ≡ blockOf v (settings k) (dueOf h) (h .plays))
-      × Match v settings ls (suc k) (cycled v (settings k) h) f
-  unfolding answerAt answerOf blockAt plainAt cycled
-  match-plays f m a e =
-      let a′ : AllAbove (h .plays .position) f = subst (λ (n : ℕ). AllAbove n f) (match-place f m) a in
-      let r = match-ended f m in
-      let g : endsBy (dueOf (plainAt v settings ls k)) (plainAt v settings ls k .plays) ≡ false =
-      ap (λ (d : Holds S). endsBy (dueOf d) (d .plays)) (m .same) ∙ ends-join h f a′ ∙ e in (
-        (cond-false _ _ r ∙ cond-false _ _ g) ∙ sym (cond-false _ _ (m .runs) ∙ cond-false _ _ e),
-        ap (λ (d : Holds S). blockOf v (settings k) (dueOf d) (d .plays)) (m .same) ∙ block-join h f a′ v (settings k),
-        record {
-          runs = ap (λ (d : Holds S). d .plays .ended) (cond-false _ _ (m .runs) ∙ cond-false _ _ e) ∙ played-runs;
-          same = ap (cycled v (settings k)) (m .same) ∙ plays-join h f a′ v (settings k) (m .runs) e;
-        },
-      )
-
-  over-next : Over v settings ls k h → (answerAt v settings ls k ≡ answerOf h) × Over v settings ls (suc k) (cycled v (settings k) h)
-  unfolding answerAt answerOf plainAt cycled
-  over-next o =
-      let here : cycled v (settings k) h ≡ h = cond-true _ _ (o .here) in
-      let plain : cycled v (settings k) (plainAt v settings ls k) ≡ plainAt v settings ls k = cond-true _ _ (o .plain) in (
-        cond-true _ _ (o .plain) ∙ sym (cond-true _ _ (o .here)),
-        record {
-          here = ap (λ (d : Holds S). d .plays .ended) here ∙ o .here;
-          plain = ap (λ (d : Holds S). d .plays .ended) plain ∙ o .plain;
-          same = ap (λ (d : Holds S). d .plays .counts) here ∙ o .same ∙ ap (λ (d : Holds S). d .plays .counts) (sym plain);
-        },
-      )
-
--- ---- players that follow their history
+no-message b (bring d handed) h = either-way (λ (l : List Message). l ≡ []) b refl refl
+no-message b (burst bytes area) h = either-way (λ (l : List Message). l ≡ []) b refl refl
+no-message b (cycle block) h = either-way (λ (l : List Message). l ≡ []) b refl refl
 
 module _ {P S : Type 0} (e : Player P) (v : Voices S) (settings : ℕ → Settings) where
   -- at a moment the player answers, sounds and counts as its history before it says, and takes no line after the end
@@ -145,96 +52,125 @@ module _ {P S : Type 0} (e : Player P) (v : Voices S) (settings : ℕ → Settin
   AllFollow h [] = Unit {0}
   AllFollow h (m ∷ ms) = Follows h m × AllFollow (withMoment v settings h m) ms
 
-  -- ---- step 1, while the piece runs
-
-  module _ (h : Holds S) (r : h .plays .ended ≡ false) where
-    marks-end : (k : ℕ) → endsBy (dueOf h) (h .plays) ≡ true → cycled v (settings k) h .plays .ended ≡ true
-    unfolding cycled marked
-    marks-end k t = ap (λ (d : Holds S). d .plays .ended) (cond-false _ _ r ∙ cond-true _ _ t)
-
-    end-nine : endsBy (dueOf h) (h .plays) ≡ true → answerOf h ≡ 9
-    unfolding answerOf
-    end-nine t = cond-false _ _ r ∙ cond-true _ _ t
-
-    play-zero : endsBy (dueOf h) (h .plays) ≡ false → answerOf h ≡ 0
-    unfolding answerOf
-    play-zero t = cond-false _ _ r ∙ cond-false _ _ t
-
   -- ---- after the end
 
-  cycle-ended : (k : ℕ) (h : Holds S) → h .plays .ended ≡ true → cycled v (settings k) h .plays .ended ≡ true
-  unfolding cycled
-  cycle-ended k h q = ap (λ (d : Holds S). d .plays .ended) (cond-true _ _ q) ∙ q
-
   still-ended : (h : History S) (m : Moment P) → h .holds .plays .ended ≡ true → withMoment v settings h m .holds .plays .ended ≡ true
-  unfolding behind withMessages
-  still-ended h m q = go (numbered (m .call))
-    where
-      go : (b : Bool)
-          → cond b (withCycle v settings (m .cycles) h) (record { holds = withMessages (messagesTaken m) (behind (takenIn m) (h .holds)); reached = h .reached }) .holds .plays .ended ≡ true
-      go true = cycle-ended (m .cycles) (h .holds) q
-      go false = q
+  unfolding behind withMessages cycled
+  still-ended h m q = either-way (λ (x : History S). x .holds .plays .ended ≡ true) (numbered (m .call)) (rw q) q
 
   ended-taken : (h : History S) (ms : List (Moment P)) → AllFollow h ms → h .holds .plays .ended ≡ true → allTaken ms ≡ []
   unfolding allTaken
   ended-taken h [] f q = refl
-  ended-taken h (m ∷ ms) f q =
-      ap (λ (l : List Line). l ++ allTaken ms) (f .0 .over q) ∙ ended-taken (withMoment v settings h m) ms (f .1) (still-ended h m q)
+  ended-taken h (m ∷ ms) f q = rw (f .0 .over q) (ended-taken (withMoment v settings h m) ms (f .1) (still-ended h m q))
 
   module _ (ls : List Line) where
-    -- what a numbered call shows, from the plain player's cycle
-    as-plain : (h : History S) (m : Moment P) → Follows h m → (numbered (m .call) ≡ true → answerAt v settings ls (m .cycles) ≡ answerOf (h .holds))
-        → (numbered (m .call) ≡ true → isZero (m .after .answers) ≡ true
-        → blockAt v settings ls (m .cycles) ≡ blockOf v (settings (m .cycles)) (dueOf (h .holds)) (h .holds .plays))
+    -- ---- the plain player against what is held; f are the lines still to come
+
+    -- it holds the same with these lines behind
+    record Match (k : ℕ) (h : Holds S) (f : List Line) : Type 0 where
+      runs : h .plays .ended ≡ false
+      same : plainAt v settings ls k ≡ behind f h
+
+    -- both have ended
+    record Over (k : ℕ) (h : Holds S) : Type 0 where
+      here : h .plays .ended ≡ true
+      plain : plainAt v settings ls k .plays .ended ≡ true
+      same : h .plays .counts ≡ plainAt v settings ls k .plays .counts
+
+    -- both answer n
+    record Both (k : ℕ) (h : Holds S) (n : ℕ) : Type 0 where
+      plain : answerAt v settings ls k ≡ n
+      here : answerOf h ≡ n
+      block : n ≡ 0 → blockAt v settings ls k ≡ blockOf v (settings k) (dueOf h) (h .plays)
+
+    -- one moment more, for a numbered cycle call and for any other
+    turned : (R : ℕ → Holds S → Type 0) (h : History S) (m : Moment P) → numbered (m .call) ≡ true
+        → R (suc (m .cycles)) (cycled v (settings (m .cycles)) (h .holds)) → R (cyclesWith m) (withMoment v settings h m .holds)
+    turned R h m q x = rw q x
+
+    stayed : (R : ℕ → Holds S → Type 0) (h : History S) (m : Moment P) → numbered (m .call) ≡ false
+        → R (m .cycles) (withMessages (messagesTaken m) (behind (takenIn m) (h .holds))) → R (cyclesWith m) (withMoment v settings h m .holds)
+    stayed R h m q x = rw q x
+
+    module _ (k : ℕ) (h : Holds S) where
+      over-answers : Over k h → Both k h 9
+      unfolding answerAt answerOf
+      over-answers o = record { plain = rw (o .plain); here = rw (o .here); block = λ z. absurd (omega arith) }
+
+      over-cycle : Over k h → Over (suc k) (cycled v (settings k) h)
+      unfolding plainAt cycled
+      over-cycle o = record { here = rw (o .here); plain = rw (o .plain); same = rw (o .here, o .plain) (o .same) }
+
+      -- a call of another kind changes nothing that plays
+      over-still : (xs : List Line) (ms : List Message) → Over k h → Over k (withMessages ms (behind xs h))
+      unfolding behind withMessages
+      over-still xs ms o = record { here = o .here; plain = o .plain; same = o .same }
+
+      match-counts : (f : List Line) → Match k h f → h .plays .counts ≡ plainAt v settings ls k .plays .counts
+      unfolding behind
+      match-counts f x = ap (λ (d : Holds S). d .plays .counts) (sym (x .same))
+
+      match-took : (xs f : List Line) (ms : List Message) → ms ≡ [] → Match k h (xs ++ f) → Match k (withMessages ms (behind xs h)) f
+      unfolding behind withMessages
+      match-took xs f ms e x =
+          let q : h .messages ≡ h .messages ++ ms = cc (append-nil (h .messages)) in
+          record { runs = x .runs; same = x .same ∙ (λ i. record { waits = sym (append-assoc (h .waits) xs f) i; messages = q i; plays = h .plays }) }
+
+      -- step 1 ends the piece for both
+      match-ends : Match k h [] → endsBy (dueOf h) (h .plays) ≡ true → Both k h 9 × Over (suc k) (cycled v (settings k) h)
+      unfolding answerAt answerOf plainAt cycled marked
+      match-ends x t =
+          let q : plainAt v settings ls k ≡ h = x .same ∙ behind-none h in
+          let nine : answerOf h ≡ 9 = rw (t, x .runs) in
+          let end : cycled v (settings k) h .plays .ended ≡ true = rw (t, x .runs) in (
+            record { plain = ap answerOf q ∙ nine; here = nine; block = λ z. absurd (omega arith) },
+            record {
+              here = end;
+              plain = ap (λ (d : Holds S). cycled v (settings k) d .plays .ended) q ∙ end;
+              same = ap (λ (d : Holds S). cycled v (settings k) d .plays .counts) (sym q);
+            },
+          )
+
+      -- both play
+      match-plays : (f : List Line) → Match k h f → AllAbove (plainAt v settings ls k .plays .position) f → endsBy (dueOf h) (h .plays) ≡ false
+          → Both k h 0 × Match (suc k) (cycled v (settings k) h) f
+      unfolding answerAt answerOf blockAt plainAt cycled played behind
+      match-plays f x above t =
+          let a : AllAbove (h .plays .position) f = subst (λ (d : Holds S). AllAbove (d .plays .position) f) (x .same) above in (
+            record {
+              plain = ap answerOf (x .same) ∙ rw (ends-join h f a, t, x .runs);
+              here = rw (t, x .runs);
+              block = λ z. ap (λ (d : Holds S). blockOf v (settings k) (dueOf d) (d .plays)) (x .same) ∙ block-join h f a v (settings k);
+            },
+            record { runs = rw (t, x .runs); same = ap (cycled v (settings k)) (x .same) ∙ plays-join h f a v (settings k) (x .runs) t },
+          )
+
+    -- what a call shows, from the plain player's cycle
+    as-plain : (h : History S) (m : Moment P) {n : ℕ} → Follows h m → (numbered (m .call) ≡ true → Both (m .cycles) (h .holds) n)
         → withMoment v settings h m .holds .plays .counts ≡ plainAt v settings ls (cyclesWith m) .plays .counts → AsPlain e v settings ls m
-    as-plain h m f a b c =
+    as-plain h m {n} f b c =
         record {
-          answer = λ q. f .answer q ∙ ap (λ (n : ℕ). one n 0) (sym (a q));
-          block = λ q z. f .block q z ∙ sym (b q z);
+          answer = λ q. cc (f .answer q, b q .plain, b q .here);
+          block = λ q z. f .block q z ∙ sym (b q .block (eqb-true n 0 (cc (f .answer q, b q .here))));
           counts = f .counts ∙ c;
         }
 
-    -- an answer of 9 is not 0
-    nine : (h : History S) (m : Moment P) → Follows h m → answerOf (h .holds) ≡ 9 → numbered (m .call) ≡ true → isZero (m .after .answers) ≡ true → ⊥
-    nine h m f n q z = differ (sym z ∙ ap isZero (f .answer q) ∙ ap (λ (x : ℕ). eqb x 0) n)
-
-    -- a call of another kind changes nothing that plays
-    still-over : (k : ℕ) (h : Holds S) (ls′ : List Line) (ms : List Message) → Over v settings ls k h → Over v settings ls k (withMessages ms (behind ls′ h))
-    unfolding behind withMessages
-    still-over k h ls′ ms o = record { here = o .here; plain = o .plain; same = o .same }
-
-    over-step : (h : History S) (m : Moment P) → Over v settings ls (m .cycles) (h .holds)
-        → (b : Bool) → numbered (m .call) ≡ b → Over v settings ls (cyclesWith m) (withMoment v settings h m .holds)
-    over-step h m o true q =
-        subst⁻¹ (λ (x : ℕ). Over v settings ls x (withMoment v settings h m .holds)) (cond-true _ _ q)
-        (subst⁻¹ (λ (x : History S). Over v settings ls (suc (m .cycles)) (x .holds)) (cond-true _ _ q) (over-next v settings ls (m .cycles) (h .holds) o .1))
-    over-step h m o false q =
-        subst⁻¹ (λ (x : ℕ). Over v settings ls x (withMoment v settings h m .holds)) (cond-false _ _ q)
-        (subst⁻¹ (λ (x : History S). Over v settings ls (m .cycles) (x .holds)) (cond-false _ _ q)
-        (still-over (m .cycles) (h .holds) (takenIn m) (messagesTaken m) o))
-
-    ended-nine : (h : Holds S) → h .plays .ended ≡ true → answerOf h ≡ 9
-    unfolding answerOf
-    ended-nine h q = cond-true _ _ q
-
-    afterwards : (cs : List Call) (k : ℕ) (z : Last) (p : P) (h : History S) → AllFollow h (traceFrom e k z p cs) → Over v settings ls k (h .holds)
+    afterwards : (cs : List Call) (k : ℕ) (z : Last) (p : P) (h : History S) → AllFollow h (traceFrom e k z p cs) → Over k (h .holds)
         → All (AsPlain e v settings ls) (traceFrom e k z p cs)
     unfolding traceFrom
     afterwards [] k z p h f o = tt
     afterwards (c ∷ cs) k z p h f o =
         let m = momentOf e k z p c in
-        let o′ = over-step h m o (numbered c) refl in (
-          as-plain h m (f .0) (λ q. over-next v settings ls k (h .holds) o .0)
-              (λ q y. absurd (nine h m (f .0) (ended-nine (h .holds) (o .here)) q y)) (o′ .same),
-          afterwards cs (cyclesWith m) (lastWith m) (e .after p c .player) (withMoment v settings h m) (f .1) o′,
-        )
+        let o′ : Over (cyclesWith m) (withMoment v settings h m .holds) =
+        by-test (numbered c) (λ q. turned Over h m q (over-cycle k (h .holds) o)) (λ q. stayed Over h m q (over-still k (h .holds) (takenIn m) (messagesTaken m) o)) in
+        (as-plain h m (f .0) (λ q. over-answers k (h .holds) o) (o′ .same), afterwards cs _ _ _ (withMoment v settings h m) (f .1) o′)
 
     -- ---- while the piece runs
 
     Goes : List Call → Type 0
     Goes cs =
         All NotKeyboard cs → (k : ℕ) (z : Last) (p : P) (h : History S) → AllFollow h (traceFrom e k z p cs)
-        → Match v settings ls k (h .holds) (allTaken (traceFrom e k z p cs)) → All (InTime e v settings ls) (traceFrom e k z p cs)
+        → Match k (h .holds) (allTaken (traceFrom e k z p cs)) → All (InTime e v settings ls) (traceFrom e k z p cs)
         → All (AsPlain e v settings ls) (traceFrom e k z p cs)
 
     -- one call, and then the others
@@ -248,79 +184,48 @@ module _ {P S : Type 0} (e : Player P) (v : Voices S) (settings : ℕ → Settin
       abbrev h′ : History S
       h′ = withMoment v settings h m
 
-      module _ (f : Follows h m) (fs : AllFollow h′ rest) (is : All (InTime e v settings ls) rest) where
-        -- it is at a door, or of another length
-        unnumbered : numbered c ≡ false → Match v settings ls k (h .holds) (takenIn m ++ allTaken rest)
-            → AsPlain e v settings ls m × All (AsPlain e v settings ls) rest
+      module _ (f : AllFollow h (m ∷ rest)) (is : All (InTime e v settings ls) rest) where
+        -- a call after which both go on
+        goes-on : {n : ℕ} → (numbered c ≡ true → Both k (h .holds) n) → Match (cyclesWith m) (h′ .holds) (allTaken rest) → All (AsPlain e v settings ls) (m ∷ rest)
         unfolding Goes
+        goes-on b x = (as-plain h m (f .0) b (match-counts _ (h′ .holds) _ x), rec (bare-of .1) _ _ _ h′ (f .1) x is)
+
+        -- it is at a door, or of another length
+        unnumbered : numbered c ≡ false → Match k (h .holds) (takenIn m ++ allTaken rest) → All (AsPlain e v settings ls) (m ∷ rest)
         unnumbered q x =
-            let y : Match v settings ls k (withMessages (messagesTaken m) (behind (takenIn m) (h .holds))) (allTaken rest) =
-            subst⁻¹ (λ (d : Holds S). Match v settings ls k d (allTaken rest))
-            (messages-none (behind (takenIn m) (h .holds)) (messagesTaken m) (no-message (isZero (e .after p c .answers)) c (bare-of .0)))
-            (match-took v settings ls k (h .holds) (takenIn m) (allTaken rest) x) in
-            let x′ : Match v settings ls (cyclesWith m) (h′ .holds) (allTaken rest) =
-            subst⁻¹ (λ (n : ℕ). Match v settings ls n (h′ .holds) (allTaken rest)) (cond-false _ _ q)
-            (subst⁻¹ (λ (d : History S). Match v settings ls k (d .holds) (allTaken rest)) (cond-false _ _ q) y) in (
-              as-plain h m f (λ w. absurd (differ (sym w ∙ q))) (λ w. absurd (differ (sym w ∙ q))) (match-counts v settings ls _ (h′ .holds) _ x′),
-              rec (bare-of .1) _ _ _ h′ fs x′ is,
-            )
+            goes-on {n = 0} (λ w. absurd (true≢false (sym w ∙ q))) (stayed (λ (n : ℕ) (d : Holds S). Match n d (allTaken rest)) h m q
+            (match-took k (h .holds) (takenIn m) (allTaken rest) (messagesTaken m) (no-message (isZero (e .after p c .answers)) c (bare-of .0)) x))
 
         -- it finds the end
-        finds-end : numbered c ≡ true → Match v settings ls k (h .holds) (allTaken rest) → endsBy (dueOf (h .holds)) (h .holds .plays) ≡ true
-            → AsPlain e v settings ls m × All (AsPlain e v settings ls) rest
+        finds-end : numbered c ≡ true → Match k (h .holds) (allTaken rest) → endsBy (dueOf (h .holds)) (h .holds .plays) ≡ true → All (AsPlain e v settings ls) (m ∷ rest)
+        unfolding cycled marked
         finds-end q x t =
-            let is-next : h′ ≡ withCycle v settings k h = cond-true _ _ q in
-            let ended : h′ .holds .plays .ended ≡ true = ap (λ (d : History S). d .holds .plays .ended) is-next ∙ marks-end (h .holds) (x .runs) k t in
-            let y = match-ends v settings ls k (h .holds) (subst (Match v settings ls k (h .holds)) (ended-taken h′ rest fs ended) x) t in
-            let o : Over v settings ls (cyclesWith m) (h′ .holds) =
-            subst⁻¹ (λ (n : ℕ). Over v settings ls n (h′ .holds)) (cond-true _ _ q)
-            (subst⁻¹ (λ (d : History S). Over v settings ls (suc k) (d .holds)) is-next (y .1)) in (
-              as-plain h m f (λ w. y .0) (λ w u. absurd (nine h m f (end-nine (h .holds) (x .runs) t) w u)) (o .same),
-              afterwards cs _ _ _ h′ fs o,
-            )
+            let ended : h′ .holds .plays .ended ≡ true = rw (q, t, x .runs) in
+            let y = match-ends k (h .holds) (subst (Match k (h .holds)) (ended-taken h′ rest (f .1) ended) x) t in
+            let o = turned Over h m q (y .1) in
+            (as-plain h m (f .0) (λ w. y .0) (o .same), afterwards cs _ _ _ h′ (f .1) o)
 
         -- it plays
-        plays : numbered c ≡ true → Match v settings ls k (h .holds) (allTaken rest) → endsBy (dueOf (h .holds)) (h .holds .plays) ≡ false
-            → AsPlain e v settings ls m × All (AsPlain e v settings ls) rest
-        unfolding Goes
+        plays : numbered c ≡ true → Match k (h .holds) (allTaken rest) → endsBy (dueOf (h .holds)) (h .holds .plays) ≡ false → All (AsPlain e v settings ls) (m ∷ rest)
+        unfolding answerOf
         plays q x t =
-            let zero : isZero (e .after p c .answers) ≡ true = ap isZero (f .answer q) ∙ ap (λ (n : ℕ). eqb n 0) (play-zero (h .holds) (x .runs) t) in
-            let last-is : lastWith m ≡ latest k = cond-true _ _ (both q zero) in
-            let above : AllAbove (plainAt v settings ls k .plays .position) (allTaken rest) =
-            subst⁻¹ (λ (y : Last). All (InTime e v settings ls) (traceFrom e (cyclesWith m) y (e .after p c .player) cs) → AllAbove (plainAt v settings ls k .plays .position) (allTaken (traceFrom e (cyclesWith m) y (e .after p c .player) cs))) last-is
-            (later e v settings ls k cs (e .after p c .player) k (cyclesWith m) (le-refl _) (more (numbered c))) is in
-            let y = match-plays v settings ls k (h .holds) (allTaken rest) x above t in
-            let x′ : Match v settings ls (cyclesWith m) (h′ .holds) (allTaken rest) =
-            subst⁻¹ (λ (n : ℕ). Match v settings ls n (h′ .holds) (allTaken rest)) (cond-true _ _ q)
-            (subst⁻¹ (λ (d : History S). Match v settings ls (suc k) (d .holds) (allTaken rest)) (cond-true _ _ q) (y .2)) in (
-              as-plain h m f (λ w. y .0) (λ w u. y .1) (match-counts v settings ls _ (h′ .holds) _ x′),
-              rec (bare-of .1) _ _ _ h′ fs x′ is,
-            )
-          where
-            both : {a b : Bool} → a ≡ true → b ≡ true → (a && b) ≡ true
-            both a b = rw (a, b) refl
+            let zero : isZero (e .after p c .answers) ≡ true = rw (f .0 .answer q, t, x .runs) in
+            let from : From k (lastWith m) = rw (q, zero) (le-refl _) in
+            let least : k ≤ cyclesWith m = either-way (λ (n : ℕ). k ≤ n) (numbered c) (omega arith) (omega arith) in
+            let above = later e v settings ls k cs (e .after p c .player) (lastWith m) (cyclesWith m) from least is in
+            let y = match-plays k (h .holds) (allTaken rest) x above t in
+            goes-on (λ w. y .0) (turned (λ (n : ℕ) (d : Holds S). Match n d (allTaken rest)) h m q (y .1))
 
-            more : (b : Bool) → k ≤ cond b (suc k) k
-            more true = omega arith
-            more false = omega arith
-
-      next : AllFollow h (m ∷ rest) → Match v settings ls k (h .holds) (takenIn m ++ allTaken rest) → All (InTime e v settings ls) (m ∷ rest)
-          → All (AsPlain e v settings ls) (m ∷ rest)
-      next f x i = by-kind (numbered c) (endsBy (dueOf (h .holds)) (h .holds .plays)) refl refl
-        where
-          -- a numbered call brings no line
-          bare : numbered c ≡ true → Match v settings ls k (h .holds) (allTaken rest)
-          bare q = subst (λ (l : List Line). Match v settings ls k (h .holds) (l ++ allTaken rest)) (no-line c (e .after p c .answers) q) x
-
-          by-kind : (b d : Bool) → numbered c ≡ b → endsBy (dueOf (h .holds)) (h .holds .plays) ≡ d → All (AsPlain e v settings ls) (m ∷ rest)
-          by-kind false d q t = unnumbered (f .0) (f .1) (i .1) q x
-          by-kind true true q t = finds-end (f .0) (f .1) (i .1) q (bare q) t
-          by-kind true false q t = plays (f .0) (f .1) (i .1) q (bare q) t
+        next : Match k (h .holds) (takenIn m ++ allTaken rest) → All (AsPlain e v settings ls) (m ∷ rest)
+        next x =
+            let bare : numbered c ≡ true → Match k (h .holds) (allTaken rest) = λ q.
+            subst (λ (l : List Line). Match k (h .holds) (l ++ allTaken rest)) (numbered-none c (e .after p c .answers) q) x in
+            by-test (numbered c) (λ q. by-test (endsBy (dueOf (h .holds)) (h .holds .plays)) (finds-end q (bare q)) (plays q (bare q))) (λ q. unnumbered q x)
 
     goes : (cs : List Call) → Goes cs
     unfolding Goes traceFrom allTaken
     goes [] = λ g k z p h f x i. tt
-    goes (c ∷ cs) = λ g k z p h f x i. next c cs g (goes cs) k z p h f x i
+    goes (c ∷ cs) = λ g k z p h f x i. next c cs g (goes cs) k z p h f (i .1) x
 
   -- a player that follows its history from its start agrees with the plain player
   pub plain-alike : (p : P) → ((cs : List Call) → AllFollow (unbegun (settings 0)) (traceFrom e 0 none p cs)) → PlainAlike e v settings p

@@ -1,8 +1,9 @@
 -- The count of missed notes never comes near 64 bits: at most 64 lines and 64 note messages a cycle, at least 1,024 ticks a cycle, and a limit on
 -- position.
 use mathlib.Core.Path.{_≡_, refl, ap}
-use mathlib.Core.Bool.{Bool, true, false, not, _&&_, _||_, cond}
-use mathlib.Core.List.{List, [], _∷_, _++_}
+use mathlib.Core.Bool.{false, _&&_}
+use mathlib.Core.List.{List, [], _∷_}
+use mathlib.Mathlib.Data.Bool.Basic.{or-eq-false-eq-eq-false-and-eq-false}
 use Prim.Native.Nat.{ℕ, suc, _+_, _*_, _≤_, min}
 use native.Mathlib.Omega.{arith}
 use lib.Dec.{ltb}
@@ -15,10 +16,10 @@ use Rattle.score_line.specs.declared.Event.the-variants.{Instr, Control, End, T
 use Rattle.score_line.specs.declared.Line.{Line}
 use Rattle.messages.specs.declared.Message.{Message}
 use Rattle.players.specs.Lists.{keep, fold, All}
-use Rattle.players.specs.Cycle.{Voices, Note, Started, isDue, earlier, insert, ordered, positionLimit, tempoFrom, lastTempo, canCut, cutOldest, joinedBy, letGoOldest, startedBy, started, born, controlled, pressed, afterMessage, afterMessages}
+use Rattle.players.specs.Cycle.{Voices, Note, Started, isDue, earlier, insert, ordered, positionLimit, anyEnd, tempoFrom, lastTempo, canCut, joinedBy, startedBy, started, born, controlled, pressed, afterMessage, afterMessages}
 use Rattle.players.specs.Holds.{Settings, Plays, Holds, Due, sixty, dueAt, laterThan, dueOf, endsBy, startedOf, soundsOf, played}
 use Rattle.players.specs.inside.Holds.{capped}
-use Rattle.players.proofs.Lists.{length-keep, all-keep}
+use Rattle.players.proofs.Lists.{either-way, fold-keeps, length-keep, all-keep}
 
 -- a tempo of at least 1: 1,024 ticks a cycle or more
 abbrev pub steady : Event → Type 0
@@ -35,66 +36,54 @@ AllSteady ls = All (λ (l : Line). steady (l .event)) ls
 pub length-insert : (x : Line) (xs : List Line) → length (insert x xs) ≡ suc (length xs)
 unfolding insert
 length-insert x [] = refl
-length-insert x (y ∷ ys) = go (earlier (x .when) (y .when)) (length-insert x ys)
-  where
-    go : (b : Bool) → length (insert x ys) ≡ suc (length ys) → length (cond b (x ∷ y ∷ ys) (y ∷ insert x ys)) ≡ suc (suc (length ys))
-    go true h = refl
-    go false h = ap suc h
+length-insert x (y ∷ ys) =
+    either-way (λ (l : List Line). length l ≡ suc (suc (length ys))) (earlier (x .when) (y .when)) refl (ap suc (length-insert x ys))
 
 pub all-insert : (P : Line → Type 0) (x : Line) (xs : List Line) → P x → All P xs → All P (insert x xs)
 unfolding insert
 all-insert P x [] h f = (h, tt)
-all-insert P x (y ∷ ys) h f = go (earlier (x .when) (y .when)) (all-insert P x ys h (f .1))
-  where
-    go : (b : Bool) → All P (insert x ys) → All P (cond b (x ∷ y ∷ ys) (y ∷ insert x ys))
-    go true r = (h, f)
-    go false r = (f .0, r)
+all-insert P x (y ∷ ys) h f = either-way (All P) (earlier (x .when) (y .when)) (h, f) (f .0, all-insert P x ys h (f .1))
 
 length-onto : (acc xs : List Line) → length (fold (λ (a : List Line) (x : Line). insert x a) acc xs) ≡ length acc + length xs
 unfolding fold
 length-onto acc [] = omega arith
-length-onto acc (x ∷ xs) = let a = length-insert x acc in let r = length-onto (insert x acc) xs in omega (arith, a, r)
+length-onto acc (x ∷ xs) = omega (arith, length-insert x acc, length-onto (insert x acc) xs)
 
-all-onto : (P : Line → Type 0) (acc xs : List Line) → All P acc → All P xs → All P (fold (λ (a : List Line) (x : Line). insert x a) acc xs)
-unfolding fold
-all-onto P acc [] f g = f
-all-onto P acc (x ∷ xs) f g = all-onto P (insert x acc) xs (all-insert P x acc (g .0) f) (g .1)
+tempo-steady : (t : Float) (x : Event) → steady x → 1024 ≤ cycleIn t → 1024 ≤ cycleIn (tempoFrom t x)
+tempo-steady t (Instr label i d) s h = h
+tempo-steady t (Control label y value) s h = h
+tempo-steady t End s h = h
+tempo-steady t (Tempo u) s h = s
 
 last-steady : (t : Float) (ls : List Line) → 1024 ≤ cycleIn t → AllSteady ls → 1024 ≤ cycleIn (lastTempo t ls)
-unfolding lastTempo fold
-last-steady t [] h f = h
-last-steady t (l ∷ ls) h f = last-steady (tempoFrom t (l .event)) ls (go (l .event) (f .0)) (f .1)
-  where
-    go : (x : Event) → steady x → 1024 ≤ cycleIn (tempoFrom t x)
-    go (Instr label i d) s = h
-    go (Control label y value) s = h
-    go End s = h
-    go (Tempo u) s = s
+unfolding lastTempo
+last-steady t ls h f = fold-keeps (λ (t : Float). 1024 ≤ cycleIn t) (λ (l : Line). steady (l .event)) _ (λ t l. tempo-steady t (l .event)) ls f t h
 
 module _ {S : Type 0} (h : Holds S) where
   due-few : length (dueOf h .lines) ≤ length (h .waits)
   unfolding dueAt ordered
-  due-few =
-      let a = length-onto [] (keep (isDue (h .plays .position)) (h .waits)) in
-      let b = length-keep (isDue (h .plays .position)) (h .waits) in
-      omega (arith, a, b)
+  due-few = omega (arith, length-onto [] (keep (isDue (h .plays .position)) (h .waits)), length-keep (isDue (h .plays .position)) (h .waits))
 
-  due-all : (P : Line → Type 0) → All P (h .waits) → All P (dueOf h .lines)
+  pub due-all : (P : Line → Type 0) → All P (h .waits) → All P (dueOf h .lines)
   unfolding dueAt ordered
-  due-all P f = all-onto P [] (keep (isDue (h .plays .position)) (h .waits)) tt (all-keep (isDue (h .plays .position)) P (h .waits) f)
+  due-all P f =
+      fold-keeps (All P) P _ (λ before x p r. all-insert P x before p r) (keep (isDue (h .plays .position)) (h .waits)) (all-keep (isDue (h .plays .position)) P (h .waits) f) [] tt
 
 -- ---- each line and each message misses one note at most
+
+-- what misses one note at most with each, misses at most one for each
+fold-least : {S A : Type 0} (f : Started S → A → Started S) → ((s : Started S) (x : A) → f s x .missed ≤ s .missed + 1)
+    → (s : Started S) (xs : List A) → fold f s xs .missed ≤ s .missed + length xs
+unfolding fold
+fold-least f h s [] = omega arith
+fold-least f h s (x ∷ xs) = omega (arith, h s x, fold-least f h (f s x) xs)
 
 module _ {S : Type 0} (v : Voices S) (most : ℕ) where
   join-least : (s : Started S) (n : Note S) → joinedBy most s n .missed ≤ s .missed + 1
   unfolding joinedBy
-  join-least s n = go (ltb (length (s .notes)) most) (n .priority && canCut (s .notes))
-    where
-      go : (b c : Bool) → cond {A = Started S} b (record { notes = s .notes ++ (n ∷ []); missed = s .missed })
-          (cond c (record { notes = cutOldest (s .notes) ++ (n ∷ []); missed = s .missed + 1 }) (record { notes = s .notes; missed = s .missed + 1 })) .missed ≤ s .missed + 1
-      go true c = omega arith
-      go false true = omega arith
-      go false false = omega arith
+  join-least s n =
+      let P : Started S → Type 0 = λ (t : Started S). t .missed ≤ s .missed + 1 in
+      either-way P (ltb (length (s .notes)) most) (omega arith) (either-way P (n .priority && canCut (s .notes)) (omega arith) (omega arith))
 
   start-least : (pos : ℕ) (l : Line) (s : Started S) (x : Event) → startedBy v most pos l s x .missed ≤ s .missed + 1
   start-least pos l s (Instr label i d) = join-least s (born v pos l label i d)
@@ -102,41 +91,23 @@ module _ {S : Type 0} (v : Voices S) (most : ℕ) where
   start-least pos l s End = omega arith
   start-least pos l s (Tempo t) = omega arith
 
-  fold-least : (pos : ℕ) (s : Started S) (ls : List Line)
-      → fold (λ (s : Started S) (l : Line). startedBy v most pos l s (l .event)) s ls .missed ≤ s .missed + length ls
-  unfolding fold
-  fold-least pos s [] = omega arith
-  fold-least pos s (l ∷ ls) =
-      let a = start-least pos l s (l .event) in
-      let r = fold-least pos (startedBy v most pos l s (l .event)) ls in
-      omega (arith, a, r)
-
   message-least : (chosen : ℕ) (s : Started S) (m : Message) → afterMessage v most chosen s m .missed ≤ s .missed + 1
   unfolding afterMessage
-  message-least chosen s m = go (m .on) (join-least s (pressed v chosen m))
-    where
-      go : (b : Bool) → joinedBy most s (pressed v chosen m) .missed ≤ s .missed + 1
-          → cond b (joinedBy most s (pressed v chosen m)) (record { notes = letGoOldest (m .channel) (m .key) (s .notes); missed = s .missed }) .missed ≤ s .missed + 1
-      go true h = h
-      go false h = omega arith
-
-  messages-least : (chosen : ℕ) (s : Started S) (ms : List Message) → afterMessages v most chosen s ms .missed ≤ s .missed + length ms
-  unfolding afterMessages fold
-  messages-least chosen s [] = omega arith
-  messages-least chosen s (m ∷ ms) =
-      let a = message-least chosen s m in
-      let r = messages-least chosen (afterMessage v most chosen s m) ms in
-      omega (arith, a, r)
+  message-least chosen s m = either-way (λ (t : Started S). t .missed ≤ s .missed + 1) (m .on) (join-least s (pressed v chosen m)) (omega arith)
 
 module _ {S : Type 0} (v : Voices S) (s : Settings) where
   missed-least : (h : Holds S) → soundsOf v s (dueOf h) (h .plays) .missed ≤ length (h .waits) + length (h .messages)
-  unfolding soundsOf startedOf started
+  unfolding soundsOf startedOf started afterMessages
   missed-least h =
-      let a = fold-least v (s .mostNotes) (h .plays .position) (record { notes = h .plays .notes; missed = 0 }) (dueOf h .lines) in
-      let b = due-few h in
-      let m = messages-least v (s .mostNotes) (s .chosen)
-      (record { notes = controlled v (startedOf v s (dueOf h) (h .plays) .notes) (dueOf h .lines); missed = startedOf v s (dueOf h) (h .plays) .missed }) (h .messages) in
-      omega (arith, a, b, m)
+      let a = startedOf v s (dueOf h) (h .plays) in
+      let starts : Started S → Line → Started S = λ (t : Started S) (l : Line). startedBy v (s .mostNotes) (h .plays .position) l t (l .event) in
+      omega (
+        arith,
+        due-few h,
+        fold-least starts (λ t l. start-least v (s .mostNotes) (h .plays .position) l t (l .event)) (record { notes = h .plays .notes; missed = 0 }) (dueOf h .lines),
+        fold-least (afterMessage v (s .mostNotes) (s .chosen)) (message-least v (s .mostNotes) (s .chosen))
+            (record { notes = controlled v (a .notes) (dueOf h .lines); missed = a .missed }) (h .messages),
+      )
 
 -- ---- the invariant
 
@@ -146,42 +117,23 @@ pub record Slow {S : Type 0} (h : Holds S) : Type 0 where
   pub lines : AllSteady (h .waits)
   pub tempo : 1024 ≤ cycleIn (h .plays .tempo)
 
-or-left : (a b : Bool) → (a || b) ≡ false → a ≡ false
-or-left true b h = h
-or-left false b h = refl
-
 pub within-limit : {S : Type 0} (due : Due) (p : Plays S) → endsBy due p ≡ false → p .position ≤ positionLimit
 unfolding endsBy
-within-limit due p e = ltb-false positionLimit (p .position) (or-left (ltb positionLimit (p .position)) _ e)
+within-limit due p e = ltb-false positionLimit (p .position) (or-eq-false-eq-eq-false-and-eq-false (ltb positionLimit (p .position)) (anyEnd (due .lines)) .0 e .0)
 
 module _ {S : Type 0} (v : Voices S) (s : Settings) (h : Holds S) (short : length (h .waits) ≤ 64) (brief : length (h .messages) ≤ 64) (slow : Slow h)
     (near : h .plays .position ≤ positionLimit) where
   pub cap-none : capped (played v s (dueOf h) (h .plays)) ≡ played v s (dueOf h) (h .plays)
   unfolding capped played
   cap-none =
-      let p = h .plays in
-      let m = missed-least v s h in
-      let e : min (p .counts .missed + soundsOf v s (dueOf h) p .missed) 18446744073709551615 ≡ p .counts .missed + soundsOf v s (dueOf h) p .missed =
-      omega (arith, m, slow .few, near, short, brief) in
-      λ i. record {
-        notes = played v s (dueOf h) p .notes;
-        position = played v s (dueOf h) p .position;
-        tempo = played v s (dueOf h) p .tempo;
-        counts = record { missed = e i };
-        ended = false;
-      }
+      let m = h .plays .counts .missed + soundsOf v s (dueOf h) (h .plays) .missed in
+      let e : min m 18446744073709551615 ≡ m = omega (arith, missed-least v s h) in rw e
 
   pub slow-played : Slow (record { waits = laterThan (h .plays .position) (h .waits); messages = []; plays = played v s (dueOf h) (h .plays) })
   unfolding played laterThan
   slow-played =
-      let p = h .plays in
-      let m = missed-least v s h in
-      let t : 1024 ≤ cycleIn (lastTempo (p .tempo) (dueOf h .lines)) = last-steady (p .tempo) (dueOf h .lines) (slow .tempo) (due-all h _ (slow .lines)) in
-      record {
-        few = omega (arith, m, t, slow .few, short, brief);
-        lines = all-keep (λ (l : Line). not (isDue (p .position) l)) (λ (l : Line). steady (l .event)) (h .waits) (slow .lines);
-        tempo = t;
-      }
+      let t = last-steady (h .plays .tempo) (dueOf h .lines) (slow .tempo) (due-all h _ (slow .lines)) in
+      record { few = omega (arith, missed-least v s h, t); lines = all-keep _ _ (h .waits) (slow .lines); tempo = t }
 
 -- the starting tempo is steady
 pub starting : 1024 ≤ cycleIn sixty

@@ -1,9 +1,11 @@
 -- The steps of a cycle come to what document 01 says.
-use mathlib.Core.Path.{_≡_, refl, sym, ap, _∙_}
-use mathlib.Core.Bool.{Bool, true, false, _&&_, _||_, cond, true≢false}
-use mathlib.Core.Logic.{_⊎_, inl, inr}
+use mathlib.Core.Path.{_≡_, refl, sym, ap, _∙_, subst}
+use mathlib.Core.Bool.{Bool, true, false, _&&_, _||_, cond, or-true, true≢false}
+pub use mathlib.Core.Bool.{and-false}
+use mathlib.Core.Logic.{⊎-elim}
 use mathlib.Core.List.{List, [], _∷_, _++_, zipWith}
-use Prim.Native.Nat.{ℕ, zero, suc, _+_, _-_, _≤_, _<_}
+use mathlib.Mathlib.Data.Bool.Basic.{or-eq-false-eq-eq-false-and-eq-false}
+use Prim.Native.Nat.{ℕ, _+_, _-_, _≤_, _<_}
 use native.Mathlib.Omega.{arith}
 use lib.ListN.{length, replicate, length-replicate}
 use lib.Dec.{ltb, eqb}
@@ -16,7 +18,7 @@ use Rattle.score_line.specs.declared.Line.{Line}
 use Rattle.players.specs.Lists.{fold, each, All, Some, here, later}
 use Rattle.players.specs.Cycle.{Voices, Note, Started, Band, withState, isEnd, anyEnd, tempoFrom, lastTempo, samples, canCut, cutOldest, joinedBy, born, controlledBy, controlEvent, controlled, pressed, runFrom, runAll, goesOn}
 use Rattle.players.specs.Results.{EndFound, NoTempo, LastSets, HasPriority, NoPriority, NotesJoin, PriorityKept, controlledState, controlledAll, ControlsSet, NotesEnd, withOutputs, Adding, heard, SamplesSum}
-use Rattle.players.proofs.Lists.{cond-true, cond-false, fold-append}
+use Rattle.players.proofs.Lists.{cond-true, cond-false, fold-append, each-same}
 
 -- ---- steps 1 and 2
 
@@ -42,11 +44,7 @@ end-forth (l ∷ ls) h = go (l .event) refl h (end-forth ls)
 
 end-back : {ls : List Line} (b : Bool) → Some (λ (l : Line). l .event ≡ End) ls → found b ls ≡ true
 unfolding found fold
-end-back b (here {x} {xs} e) = ap (λ (f : Bool). found f xs) (ap (λ (y : Event). b || isEnd y) e ∙ or-true b) ∙ found-stays xs
-  where
-    or-true : (b : Bool) → (b || true) ≡ true
-    or-true true = refl
-    or-true false = refl
+end-back b (here {x} {xs} e) = cc (or-true b, found-stays xs)
 end-back b (later {x} {xs} s) = end-back (b || isEnd (x .event)) s
 
 pub end-found : EndFound
@@ -93,18 +91,13 @@ module _ {S : Type 0} (most : ℕ) (s : Started S) (n : Note S) where
   unfolding joinedBy
   join-miss h c = cond-false _ _ (le-ltb (length (s .notes)) most h) ∙ cond-false _ _ c
 
-pub and-false : (b : Bool) → (b && false) ≡ false
-and-false true = refl
-and-false false = refl
-
 module _ {S : Type 0} (v : Voices S) where
   cut-here : (before : List (Note S)) (n : Note S) (behind : List (Note S)) → All (HasPriority v) before → NoPriority v n
       → (canCut (before ++ (n ∷ behind)) ≡ true) × (cutOldest (before ++ (n ∷ behind)) ≡ before ++ behind)
   unfolding canCut cutOldest
   cut-here [] n behind h e = (cond-false _ _ e, cond-false _ _ e)
   cut-here (m ∷ ms) n behind h e =
-      let r = cut-here ms n behind (h .1) e in
-      (cond-true _ _ (h .0) ∙ r .0, cond-true _ _ (h .0) ∙ ap (λ (l : List (Note S)). m ∷ l) (r .1))
+      let r = cut-here ms n behind (h .1) e in (cc (h .0, r .0), cc (h .0, r .1))
 
   cut-none : (ns : List (Note S)) → All (HasPriority v) ns → canCut ns ≡ false
   unfolding canCut
@@ -120,21 +113,13 @@ module _ {S : Type 0} (v : Voices S) where
             let r = cut-here before oldest behind a o in
             join-cut most s n h p (ap canCut e ∙ r .0)
             ∙ ap (λ (l : List (Note S)). record { notes = l ++ (n ∷ []); missed = s .missed + 1 }) (ap cutOldest e ∙ r .1);
-        missed = λ h w. join-miss most s n h (none w);
+        missed = λ h. ⊎-elim (λ p. join-miss most s n h (ap (λ (b : Bool). b && canCut (s .notes)) p))
+            (λ a. join-miss most s n h (ap (λ (b : Bool). n .priority && b) (cut-none (s .notes) a) ∙ and-false (n .priority)));
       }
-    where
-      none : NoPriority v n ⊎ All (HasPriority v) (s .notes) → (n .priority && canCut (s .notes)) ≡ false
-      none (inl p) = ap (λ (b : Bool). b && canCut (s .notes)) p
-      none (inr a) = ap (λ (b : Bool). n .priority && b) (cut-none (s .notes) a) ∙ and-false (n .priority)
 
   pub priority-kept : PriorityKept v
   priority-kept =
-      record {
-        line = λ position l label i duration. unfold born in refl;
-        key = λ chosen m. unfold pressed in refl;
-        stays = λ n s. refl;
-        marked = λ n. refl;
-      }
+      record { line = λ position l label i duration. unfold born in refl; key = λ chosen m. unfold pressed in refl; stays = λ n s. refl; marked = λ n. refl }
 
 -- ---- steps 4 and 7
 
@@ -142,11 +127,6 @@ each-id : {A : Type 0} (xs : List A) → each (λ (x : A). x) xs ≡ xs
 unfolding each
 each-id [] = refl
 each-id {A} (x ∷ xs) = ap (λ (l : List A). x ∷ l) (each-id xs)
-
-each-same : {A : Type 0} (f g : A → A) → ((x : A) → f x ≡ g x) → (xs : List A) → each f xs ≡ each g xs
-unfolding each
-each-same f g e [] = refl
-each-same f g e (x ∷ xs) = λ i. e x i ∷ each-same f g e xs i
 
 each-both : {A : Type 0} (f g h : A → A) → ((x : A) → g (f x) ≡ h x) → (xs : List A) → each g (each f xs) ≡ each h xs
 unfolding each
@@ -196,11 +176,10 @@ module _ {S : Type 0} (v : Voices S) where
 
   pub notes-end : NotesEnd v
   unfolding NotesEnd goesOn born
-  notes-end birth position l label i d s = (forth (eq d withoutEnd), λ h. ap (λ (b : Bool). b || ltb position (birth + ticksIn d)) (h .0) ∙ le-ltb position (birth + ticksIn d) (h .1))
-    where
-      forth : (b : Bool) → (b || ltb position (birth + ticksIn d)) ≡ false → (b ≡ false) × (birth + ticksIn d ≤ position)
-      forth true h = absurd (true≢false h)
-      forth false h = (refl, ltb-false position (birth + ticksIn d) h)
+  notes-end birth position l label i d s =
+      let e = birth + ticksIn d in
+      let or = or-eq-false-eq-eq-false-and-eq-false (eq d withoutEnd) (ltb position e) in
+      (λ h. (or .0 h .0, ltb-false position e (or .0 h .1)), λ h. or .1 (h .0, le-ltb position e (h .1)))
 
 -- ---- step 5
 
@@ -213,39 +192,27 @@ added-twice (x ∷ mix) (xs ∷ xss) [] = refl
 added-twice (x ∷ mix) (xs ∷ xss) (ys ∷ yss) =
     λ i. sym (fold-append (add binary32) x xs ys) i ∷ added-twice mix xss yss i
 
-none-added : (mix : List Float) (n : ℕ) → length mix ≡ n → zipWith withOutputs mix (replicate n []) ≡ mix
+none-added : (mix : List Float) → zipWith withOutputs mix (replicate (length mix) []) ≡ mix
 unfolding zipWith fold
-none-added [] zero h = refl
-none-added [] (suc n) h = refl
-none-added (x ∷ mix) zero h = absurd (let z : _≡_ {A = ℕ} 0 1 = omega arith in omega arith)
-none-added (x ∷ mix) (suc n) h = ap (λ (l : List Float). x ∷ l) (none-added mix n (omega arith))
+none-added [] = refl
+none-added (x ∷ mix) = ap (λ (l : List Float). x ∷ l) (none-added mix)
 
-from-silence : (x : Float) (n : ℕ) (xss : List (List Float)) → length xss ≡ n
-    → zipWith withOutputs (replicate n x) xss ≡ each (withOutputs x) xss
+from-silence : (x : Float) (xss : List (List Float)) → zipWith withOutputs (replicate (length xss) x) xss ≡ each (withOutputs x) xss
 unfolding zipWith each
-from-silence x zero [] h = refl
-from-silence x zero (xs ∷ xss) h = absurd (omega arith)
-from-silence x (suc n) [] h = refl
-from-silence x (suc n) (xs ∷ xss) h = ap (λ (l : List Float). withOutputs x xs ∷ l) (from-silence x n xss (omega arith))
+from-silence x [] = refl
+from-silence x (xs ∷ xss) = ap (λ (l : List Float). withOutputs x xs ∷ l) (from-silence x xss)
 
-length-joined : (xss yss : List (List Float)) (n : ℕ) → length xss ≡ n → length yss ≡ n
-    → length (zipWith (λ (first rest : List Float). first ++ rest) xss yss) ≡ n
+length-zip : {A B C : Type 0} (f : A → B → C) (xs : List A) (ys : List B) (n : ℕ) → length xs ≡ n → length ys ≡ n → length (zipWith f xs ys) ≡ n
 unfolding zipWith
-length-joined [] yss n h k = h
-length-joined (xs ∷ xss) [] n h k = k
-length-joined (xs ∷ xss) (ys ∷ yss) n h k = let r = length-joined xss yss (length xss) refl (omega arith) in omega (arith, r)
-
-length-added : (mix : List Float) (xss : List (List Float)) → length xss ≡ length mix → length (zipWith withOutputs mix xss) ≡ length mix
-unfolding zipWith
-length-added [] xss h = refl
-length-added (x ∷ mix) [] h = h
-length-added (x ∷ mix) (xs ∷ xss) h = let r = length-added mix xss (omega arith) in omega (arith, r)
+length-zip f [] ys n h k = h
+length-zip f (x ∷ xs) [] n h k = k
+length-zip f (x ∷ xs) (y ∷ ys) n h k = omega (arith, length-zip f xs ys (length xs) refl (omega arith))
 
 module _ {S : Type 0} (v : Voices S) (next : ℕ → S → S) (outputs : ℕ → S → List (List Float)) (a : Adding v next outputs) (n : ℕ) where
   length-heard : (ns : List (Note S)) → length (heard v next outputs n ns) ≡ n
   unfolding heard
   length-heard [] = length-replicate n []
-  length-heard (x ∷ ns) = length-joined (outputs n (x .state)) (heard v next outputs n ns) n (a .every n (x .state)) (length-heard ns)
+  length-heard (x ∷ ns) = length-zip _ (outputs n (x .state)) (heard v next outputs n ns) n (a .every n (x .state)) (length-heard ns)
 
   record Runs (mix : List Float) (ns : List (Note S)) (b : Band S) : Type 0 where
     sums : b .mix ≡ zipWith withOutputs mix (heard v next outputs n ns)
@@ -253,17 +220,13 @@ module _ {S : Type 0} (v : Voices S) (next : ℕ → S → S) (outputs : ℕ →
 
   runs : (ns : List (Note S)) (mix : List Float) → length mix ≡ n → Runs mix ns (runFrom v ns mix)
   unfolding runFrom heard each
-  runs [] mix h = record { sums = sym (none-added mix n h); states = refl }
+  runs [] mix h = record { sums = cc (none-added mix); states = refl }
   runs (x ∷ ns) mix h =
       let m : v .run (x .state) mix .mix ≡ zipWith withOutputs mix (outputs n (x .state)) =
       a .mix (x .state) mix ∙ ap (λ (k : ℕ). zipWith withOutputs mix (outputs k (x .state))) h in
-      let r = runs ns (v .run (x .state) mix .mix)
-      (ap length m ∙ length-added mix (outputs n (x .state)) (a .every n (x .state) ∙ sym h) ∙ h) in
+      let r = runs ns (v .run (x .state) mix .mix) (ap length m ∙ length-zip withOutputs mix (outputs n (x .state)) n h (a .every n (x .state))) in
       record {
-        sums =
-            r .sums
-            ∙ ap (λ (y : List Float). zipWith withOutputs y (heard v next outputs n ns)) m
-            ∙ added-twice mix (outputs n (x .state)) (heard v next outputs n ns);
+        sums = cc (r .sums, m, added-twice mix (outputs n (x .state)) (heard v next outputs n ns));
         states = λ i. withState x ((a .state (x .state) mix ∙ ap (λ (k : ℕ). next k (x .state)) h) i) ∷ r .states i;
       }
 
@@ -272,7 +235,6 @@ unfolding SamplesSum runAll
 samples-sum v next outputs a ns =
     let z = ofBits binary32 0 in
     let r = runs v next outputs a samples ns (replicate samples z) (length-replicate samples z) in
-    record {
-      mix = r .sums ∙ from-silence z samples (heard v next outputs samples ns) (length-heard v next outputs a samples ns);
-      notes = r .states;
-    }
+    let all = heard v next outputs samples ns in
+    let m = subst (λ (n : ℕ). zipWith withOutputs (replicate n z) all ≡ each (withOutputs z) all) (length-heard v next outputs a samples ns) (from-silence z all) in
+    record { mix = r .sums ∙ m; notes = r .states }

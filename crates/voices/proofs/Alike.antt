@@ -1,13 +1,12 @@
 -- Voices that do the same to every note they have made give the same cycle, and so the same plain player.
 use mathlib.Core.Path.{_≡_, refl, ap, _∙_}
-use mathlib.Core.Bool.{Bool, true, false, cond, _&&_}
-use mathlib.Core.List.{List, [], _∷_, _++_}
-use Prim.Native.Nat.{ℕ, zero, suc, _+_}
+use mathlib.Core.Bool.{cond, _&&_}
+use mathlib.Core.List.{List, [], _∷_}
+use Prim.Native.Nat.{ℕ, zero, suc}
 use lib.Dec.{ltb, eqb}
 use lib.ListN.{length, take, replicate}
-use lib.Ieee.{Float, binary32, eq, ofBits}
+use lib.Ieee.{Float, binary32, ofBits}
 use lib.Ieee.Bits.{ofBits-fits}
-use Rattle.timebase.specs.Time.{ticksIn, cycleIn, endless as withoutEnd}
 use Rattle.score_line.specs.declared.Label.{Label}
 use Rattle.score_line.specs.declared.Event.{Event}
 use Rattle.score_line.specs.declared.Event.the-variants.{Instr, Control, End, Tempo}
@@ -15,11 +14,11 @@ use Rattle.score_line.specs.declared.Line.{Line}
 use Rattle.translation.specs.Statements.{AllFit}
 use Rattle.keys.specs.Keys.{frequencyOf, loudnessOf}
 use Rattle.messages.specs.declared.Message.{Message}
-use Rattle.players.specs.Lists.{keep, fold, each, All}
-use Rattle.players.specs.Cycle.{Voices, Ran, Note, Started, Band, samples, isLabelled, labelNumber, withState, letGo, isHeld, letGoOldest, canCut, cutOldest, joinedBy, born, startedBy, started, controlledBy, controlEvent, controlled, pressed, afterMessage, afterMessages, runFrom, runAll, lastTempo, limited, goesOn}
-use Rattle.players.specs.Holds.{Settings, Due, Plays, Holds, laterThan, dueOf, endsBy, marked, answerOf, startedOf, soundsOf, bandOf, blockOf, played, cycled}
+use Rattle.players.specs.Lists.{each, All}
+use Rattle.players.specs.Cycle.{Voices, Ran, Note, Started, samples, withState, isHeld, letGoOldest, canCut, cutOldest, joinedBy, born, startedBy, started, controlledBy, controlEvent, controlled, pressed, afterMessage, afterMessages, runFrom, runAll, goesOn}
+use Rattle.players.specs.Holds.{Settings, Due, Plays, Holds, dueOf, endsBy, marked, answerOf, startedOf, soundsOf, bandOf, blockOf, played, cycled}
 use Rattle.players.specs.Plain.{plainStart, plainAt, answerAt, blockAt}
-use Rattle.players.proofs.Lists.{all-keep, all-append}
+use Rattle.players.proofs.Lists.{either-way, fold-keeps, fold-same, all-keep, all-append, all-of, each-same}
 
 module _ {S : Type 0} (Good : S → Type 0) where
   -- a run's end: what the note holds is good, and the sums fit 32 bits
@@ -38,6 +37,9 @@ module _ {S : Type 0} (Good : S → Type 0) where
   abbrev pub Notes : List (Note S) → Type 0
   Notes ns = All (λ (n : Note S). Good (n .state)) ns
 
+  abbrev GoodStart : Started S → Type 0
+  GoodStart s = Notes (s .notes)
+
   zeros-fit : (n : ℕ) → AllFit (replicate n (ofBits binary32 0))
   unfolding AllFit
   zeros-fit zero = tt
@@ -46,42 +48,21 @@ module _ {S : Type 0} (Good : S → Type 0) where
   cut-good : (ns : List (Note S)) → Notes ns → Notes (cutOldest ns)
   unfolding cutOldest
   cut-good [] h = tt
-  cut-good (n ∷ ns) h = go (n .priority) (cut-good ns (h .1))
-    where
-      go : (b : Bool) → Notes (cutOldest ns) → Notes (cond b (n ∷ cutOldest ns) ns)
-      go true r = (h .0, r)
-      go false r = h .1
+  cut-good (n ∷ ns) h = either-way Notes (n .priority) (h .0, cut-good ns (h .1)) (h .1)
 
   -- one note more, where there is room or one can be cut off
   joined-good : (most : ℕ) (s : Started S) (n : Note S) → Notes (s .notes) → Good (n .state) → Notes (joinedBy most s n .notes)
   unfolding joinedBy
-  joined-good most s n h g = go (ltb (length (s .notes)) most) (n .priority && canCut (s .notes))
-    where
-      go : (b c : Bool)
-          → Notes (cond {A = Started S} b (record { notes = s .notes ++ (n ∷ []); missed = s .missed })
-          (cond c (record { notes = cutOldest (s .notes) ++ (n ∷ []); missed = s .missed + 1 }) (record { notes = s .notes; missed = s .missed + 1 })) .notes)
-      go true c = all-append (λ (m : Note S). Good (m .state)) (s .notes) (n ∷ []) h (g, tt)
-      go false true = all-append (λ (m : Note S). Good (m .state)) (cutOldest (s .notes)) (n ∷ []) (cut-good (s .notes) h) (g, tt)
-      go false false = h
+  joined-good most s n h g =
+      either-way GoodStart (ltb (length (s .notes)) most) (all-append _ (s .notes) (n ∷ []) h (g, tt))
+      (either-way GoodStart (n .priority && canCut (s .notes)) (all-append _ (cutOldest (s .notes)) (n ∷ []) (cut-good (s .notes) h) (g, tt)) h)
 
   module _ {v w : Voices S} (a : Alike v w) where
     -- ---- step 3
 
     born-same : (pos : ℕ) (l : Line) (label : Label) (i : ℕ) (d : Float) → born v pos l label i d ≡ born w pos l label i d
     unfolding born
-    born-same pos l label i d =
-        λ j. record {
-          labelled = isLabelled label;
-          label = labelNumber label;
-          endless = eq d withoutEnd;
-          end = pos + ticksIn d;
-          priority = l .priority;
-          keyed = false;
-          channel = 0;
-          key = 0;
-          released = false;
-          state = a .birth i (take (l .count) (l .values)) j;
-        }
+    born-same pos l label i d = rw (a .birth i (take (l .count) (l .values)))
 
     born-good : (pos : ℕ) (l : Line) (label : Label) (i : ℕ) (d : Float) → Good (born w pos l label i d .state)
     unfolding born
@@ -100,27 +81,13 @@ module _ {S : Type 0} (Good : S → Type 0) where
       starts-good pos l s End h = h
       starts-good pos l s (Tempo t) h = h
 
-      starting-same : (pos : ℕ) (s : Started S) (ls : List Line)
-          → fold (λ (t : Started S) (l : Line). startedBy v most pos l t (l .event)) s ls ≡ fold (λ (t : Started S) (l : Line). startedBy w most pos l t (l .event)) s ls
-      unfolding fold
-      starting-same pos s [] = refl
-      starting-same pos s (l ∷ ls) =
-          ap (λ (t : Started S). fold (λ (t : Started S) (l : Line). startedBy v most pos l t (l .event)) t ls) (starts-same pos l s (l .event))
-          ∙ starting-same pos (startedBy w most pos l s (l .event)) ls
-
-      starting-good : (pos : ℕ) (s : Started S) (ls : List Line) → Notes (s .notes)
-          → Notes (fold (λ (t : Started S) (l : Line). startedBy w most pos l t (l .event)) s ls .notes)
-      unfolding fold
-      starting-good pos s [] h = h
-      starting-good pos s (l ∷ ls) h = starting-good pos (startedBy w most pos l s (l .event)) ls (starts-good pos l s (l .event) h)
-
       started-same : (pos : ℕ) (ns : List (Note S)) (ls : List Line) → started v most pos ns ls ≡ started w most pos ns ls
       unfolding started
-      started-same pos ns ls = starting-same pos (record { notes = ns; missed = 0 }) ls
+      started-same pos ns ls = fold-same _ _ (λ s l. starts-same pos l s (l .event)) _ ls
 
       started-good : (pos : ℕ) (ns : List (Note S)) (ls : List Line) → Notes ns → Notes (started w most pos ns ls .notes)
       unfolding started
-      started-good pos ns ls h = starting-good pos (record { notes = ns; missed = 0 }) ls h
+      started-good pos ns ls h = fold-keeps GoodStart (λ l. Unit {0}) _ (λ s l u. starts-good pos l s (l .event)) ls (all-of _ (λ l. tt) ls) _ h
 
     -- ---- step 4
 
@@ -130,16 +97,7 @@ module _ {S : Type 0} (Good : S → Type 0) where
 
     one-good : (label x : ℕ) (value : Float) (n : Note S) → Good (n .state) → Good (controlledBy w label x value n .state)
     unfolding controlledBy
-    one-good label x value n h = go (n .labelled && eqb label (n .label))
-      where
-        go : (b : Bool) → Good (cond b (withState n (w .control x value (n .state))) n .state)
-        go true = a .control-good x value (n .state) h
-        go false = h
-
-    each-same : (label x : ℕ) (value : Float) (ns : List (Note S)) → each (controlledBy v label x value) ns ≡ each (controlledBy w label x value) ns
-    unfolding each
-    each-same label x value [] = refl
-    each-same label x value (n ∷ ns) = λ i. one-same label x value n i ∷ each-same label x value ns i
+    one-good label x value n h = either-way (λ (m : Note S). Good (m .state)) (n .labelled && eqb label (n .label)) (a .control-good x value (n .state) h) h
 
     each-good : (label x : ℕ) (value : Float) (ns : List (Note S)) → Notes ns → Notes (each (controlledBy w label x value) ns)
     unfolding each
@@ -148,7 +106,7 @@ module _ {S : Type 0} (Good : S → Type 0) where
 
     control-same : (ns : List (Note S)) (ev : Event) → controlEvent v ns ev ≡ controlEvent w ns ev
     control-same ns (Instr label i d) = refl
-    control-same ns (Control label x value) = each-same label x value ns
+    control-same ns (Control label x value) = each-same _ _ (one-same label x value) ns
     control-same ns End = refl
     control-same ns (Tempo t) = refl
 
@@ -159,33 +117,18 @@ module _ {S : Type 0} (Good : S → Type 0) where
     controls-good ns (Tempo t) h = h
 
     controlled-same : (ns : List (Note S)) (ls : List Line) → controlled v ns ls ≡ controlled w ns ls
-    unfolding controlled fold
-    controlled-same ns [] = refl
-    controlled-same ns (l ∷ ls) =
-        ap (λ (ms : List (Note S)). controlled v ms ls) (control-same ns (l .event)) ∙ controlled-same (controlEvent w ns (l .event)) ls
+    unfolding controlled
+    controlled-same ns ls = fold-same _ _ (λ ms l. control-same ms (l .event)) ns ls
 
     controlled-good : (ns : List (Note S)) (ls : List Line) → Notes ns → Notes (controlled w ns ls)
-    unfolding controlled fold
-    controlled-good ns [] h = h
-    controlled-good ns (l ∷ ls) h = controlled-good (controlEvent w ns (l .event)) ls (controls-good ns (l .event) h)
+    unfolding controlled
+    controlled-good ns ls h = fold-keeps Notes (λ l. Unit {0}) _ (λ ms l u. controls-good ms (l .event)) ls (all-of _ (λ l. tt) ls) ns h
 
     -- ---- the note messages
 
     pressed-same : (chosen : ℕ) (m : Message) → pressed v chosen m ≡ pressed w chosen m
     unfolding pressed
-    pressed-same chosen m =
-        λ j. record {
-          labelled = false;
-          label = 0;
-          endless = true;
-          end = 0;
-          priority = false;
-          keyed = true;
-          channel = m .channel;
-          key = m .key;
-          released = false;
-          state = a .birth chosen (frequencyOf (m .key) ∷ loudnessOf (m .velocity) ∷ []) j;
-        }
+    pressed-same chosen m = rw (a .birth chosen (frequencyOf (m .key) ∷ loudnessOf (m .velocity) ∷ []))
 
     pressed-good : (chosen : ℕ) (m : Message) → Good (pressed w chosen m .state)
     unfolding pressed
@@ -194,53 +137,33 @@ module _ {S : Type 0} (Good : S → Type 0) where
     marked-good : (channel key : ℕ) (ns : List (Note S)) → Notes ns → Notes (letGoOldest channel key ns)
     unfolding letGoOldest
     marked-good channel key [] h = tt
-    marked-good channel key (n ∷ ns) h = go (isHeld channel key n) (marked-good channel key ns (h .1))
-      where
-        go : (b : Bool) → Notes (letGoOldest channel key ns) → Notes (cond b (letGo n ∷ ns) (n ∷ letGoOldest channel key ns))
-        go true r = h
-        go false r = (h .0, r)
+    marked-good channel key (n ∷ ns) h = either-way Notes (isHeld channel key n) h (h .0, marked-good channel key ns (h .1))
 
     module _ (most chosen : ℕ) where
       message-same : (s : Started S) (m : Message) → afterMessage v most chosen s m ≡ afterMessage w most chosen s m
       unfolding afterMessage
-      message-same s m =
-          ap (λ (n : Note S). cond (m .on) (joinedBy most s n) (record { notes = letGoOldest (m .channel) (m .key) (s .notes); missed = s .missed })) (pressed-same chosen m)
+      message-same s m = rw (pressed-same chosen m)
 
       message-good : (s : Started S) (m : Message) → Notes (s .notes) → Notes (afterMessage w most chosen s m .notes)
       unfolding afterMessage
-      message-good s m h = go (m .on)
-        where
-          go : (b : Bool)
-              → Notes (cond {A = Started S} b (joinedBy most s (pressed w chosen m)) (record { notes = letGoOldest (m .channel) (m .key) (s .notes); missed = s .missed }) .notes)
-          go true = joined-good most s (pressed w chosen m) h (pressed-good chosen m)
-          go false = marked-good (m .channel) (m .key) (s .notes) h
+      message-good s m h = either-way GoodStart (m .on) (joined-good most s (pressed w chosen m) h (pressed-good chosen m))
+          (marked-good (m .channel) (m .key) (s .notes) h)
 
       messages-same : (s : Started S) (ms : List Message) → afterMessages v most chosen s ms ≡ afterMessages w most chosen s ms
-      unfolding afterMessages fold
-      messages-same s [] = refl
-      messages-same s (m ∷ ms) =
-          ap (λ (t : Started S). afterMessages v most chosen t ms) (message-same s m) ∙ messages-same (afterMessage w most chosen s m) ms
+      unfolding afterMessages
+      messages-same s ms = fold-same _ _ message-same s ms
 
       messages-good : (s : Started S) (ms : List Message) → Notes (s .notes) → Notes (afterMessages w most chosen s ms .notes)
-      unfolding afterMessages fold
-      messages-good s [] h = h
-      messages-good s (m ∷ ms) h = messages-good (afterMessage w most chosen s m) ms (message-good s m h)
+      unfolding afterMessages
+      messages-good s ms h = fold-keeps GoodStart (λ m. Unit {0}) _ (λ t m u. message-good t m) ms (all-of _ (λ m. tt) ms) s h
 
     -- ---- step 5
 
-    -- a note's run, and then the others'
-    follow : (u : Voices S) → Note S → List (Note S) → Ran S → Band S
-    follow u n ns r = record { notes = withState n (r .state) ∷ runFrom u ns (r .mix) .notes; mix = runFrom u ns (r .mix) .mix }
-
-    lead : Note S → S → Band S → Band S
-    lead n s b = record { notes = withState n s ∷ b .notes; mix = b .mix }
-
     run-same : (ns : List (Note S)) (mix : List Float) → Notes ns → AllFit mix → runFrom v ns mix ≡ runFrom w ns mix
-    unfolding runFrom follow lead
+    unfolding runFrom
     run-same [] mix h f = refl
     run-same (n ∷ ns) mix h f =
-        ap (follow v n ns) (a .run (n .state) mix (h .0) f)
-        ∙ ap (lead n (w .run (n .state) mix .state)) (run-same ns (w .run (n .state) mix .mix) (h .1) (a .run-good (n .state) mix (h .0) f .fit))
+        rw (a .run (n .state) mix (h .0) f, run-same ns (w .run (n .state) mix .mix) (h .1) (a .run-good (n .state) mix (h .0) f .fit))
 
     run-notes-good : (ns : List (Note S)) (mix : List Float) → Notes ns → AllFit mix → Notes (runFrom w ns mix .notes)
     unfolding runFrom
@@ -284,18 +207,11 @@ module _ {S : Type 0} (Good : S → Type 0) where
 
       pub block-same : blockOf v s due p ≡ blockOf w s due p
       unfolding blockOf
-      block-same = ap (λ (b : Band S). limited (s .ceiling) (b .mix)) band-same
+      block-same = rw band-same
 
       pub played-same : played v s due p ≡ played w s due p
       unfolding played
-      played-same =
-          λ i. record {
-            notes = keep (goesOn (p .position)) (band-same i .notes);
-            position = p .position + cycleIn (lastTempo (p .tempo) (due .lines));
-            tempo = lastTempo (p .tempo) (due .lines);
-            counts = record { missed = p .counts .missed + sounds-same i .missed };
-            ended = false;
-          }
+      played-same = rw (band-same, sounds-same)
 
       pub played-good : Notes (played w s due p .notes)
       unfolding played
@@ -306,20 +222,13 @@ module _ {S : Type 0} (Good : S → Type 0) where
     module _ (s : Settings) (h : Holds S) (g : Notes (h .plays .notes)) where
       pub cycled-same : cycled v s h ≡ cycled w s h
       unfolding cycled
-      cycled-same =
-          ap (λ (p : Plays S). cond (h .plays .ended) h
-          (cond (endsBy (dueOf h) (h .plays)) (record { waits = h .waits; messages = h .messages; plays = marked (h .plays) }) (record { waits = laterThan (h .plays .position) (h .waits); messages = []; plays = p })))
-          (played-same s (dueOf h) (h .plays) g)
+      cycled-same = rw (played-same s (dueOf h) (h .plays) g)
 
       pub cycled-good : Notes (cycled w s h .plays .notes)
       unfolding cycled marked
-      cycled-good = go (h .plays .ended) (endsBy (dueOf h) (h .plays))
-        where
-          go : (b d : Bool)
-              → Notes (cond b h (cond d (record { waits = h .waits; messages = h .messages; plays = marked (h .plays) }) (record { waits = laterThan (h .plays .position) (h .waits); messages = []; plays = played w s (dueOf h) (h .plays) })) .plays .notes)
-          go true d = g
-          go false true = g
-          go false false = played-good s (dueOf h) (h .plays) g
+      cycled-good =
+          let P : Holds S → Type 0 = λ (d : Holds S). Notes (d .plays .notes) in
+          either-way P (h .plays .ended) g (either-way P (endsBy (dueOf h) (h .plays)) g (played-good s (dueOf h) (h .plays) g))
 
     -- ---- every cycle of the plain player
 

@@ -1,12 +1,11 @@
 -- A note's passes keep the number of its values, and a sum that is a 32-bit float stays one.
 use mathlib.Core.Path.{_≡_, refl, ap, _∙_}
-use mathlib.Core.Bool.{Bool, true, false, cond}
 use mathlib.Core.List.{List, [], _∷_, _++_}
 use Prim.Native.Nat.{ℕ, suc, _+_}
 use native.Mathlib.Omega.{arith}
 use lib.Dec.{T, eqb}
-use lib.ListN.{length, take, set, replicate, length-set, length-take, length-append, length-replicate}
-use lib.Ieee.{Float, binary32, add, fits}
+use lib.ListN.{length, take, replicate, length-set, length-take, length-append, length-replicate}
+use lib.Ieee.{Float, binary32, fits}
 use lib.Ieee.Fits.{add-fits}
 use Rattle.syntax.specs.Tree.{Statements, done, assign, output, branch}
 use Rattle.syntax.specs.inside.Program.{zeroF}
@@ -14,6 +13,7 @@ use Rattle.syntax.specs.inside.Placed.{rateOf, placeOf}
 use Rattle.float32.specs.Builtins.{truth}
 use Rattle.meaning.specs.inside.Placed.{value, aRate, Sounding, sounding, assigned, outputs, pass, fresh, birth, kPass, aPasses}
 use Rattle.translation.specs.Statements.{AllFit}
+use Rattle.players.proofs.Lists.{either-way}
 use Rattle.kept_voices.specs.Voices.{named}
 
 record Kept (s s′ : Sounding) : Type 0 where
@@ -28,23 +28,11 @@ both a b = record { size = b .size ∙ a .size; fit = λ h. b .fit (a .fit h) }
 
 assigned-kept : (r n : ℕ) (x : Float) (s : Sounding) → Kept s (assigned r n x s)
 unfolding assigned
-assigned-kept r n x s = go (eqb (rateOf n) r)
-  where
-    go : (b : Bool) → Kept s (cond b (sounding (set (s .values) (placeOf n) x) (s .sample)) s)
-    go true = record { size = length-set (s .values) (placeOf n) x; fit = λ h. h }
-    go false = same s
+assigned-kept r n x s = either-way (Kept s) (eqb (rateOf n) r) (record { size = length-set (s .values) (placeOf n) x; fit = λ h. h }) (same s)
 
 outputs-kept : (r : ℕ) (x : Float) (s : Sounding) → Kept s (outputs r x s)
 unfolding outputs
-outputs-kept r x s = go (eqb r aRate)
-  where
-    go : (b : Bool) → Kept s (cond b (sounding (s .values) (add binary32 (s .sample) x)) s)
-    go true = record { size = refl; fit = λ h. add-fits binary32 (s .sample) x }
-    go false = same s
-
-chosen : (b : Bool) (s x y : Sounding) → Kept s x → Kept s y → Kept s (cond b x y)
-chosen true s x y a c = a
-chosen false s x y a c = c
+outputs-kept r x s = either-way (Kept s) (eqb r aRate) (record { size = refl; fit = λ h. add-fits binary32 (s .sample) x }) (same s)
 
 pass-kept : (r : ℕ) (t : Statements) (s : Sounding) → Kept s (pass r t s)
 unfolding pass
@@ -52,7 +40,7 @@ pass-kept r done s = same s
 pass-kept r (assign n e t) s = both (assigned-kept r n (value (s .values) e) s) (pass-kept r t _)
 pass-kept r (output e t) s = both (outputs-kept r (value (s .values) e) s) (pass-kept r t _)
 pass-kept r (branch e a b t) s =
-    both (chosen (truth (value (s .values) e)) s (pass r a s) (pass r b s) (pass-kept r a s) (pass-kept r b s)) (pass-kept r t _)
+    both (either-way (Kept s) (truth (value (s .values) e)) (pass-kept r a s) (pass-kept r b s)) (pass-kept r t _)
 
 pub birth-size : (t : Statements) (vs : List Float) → length (birth t vs) ≡ 16
 unfolding birth fresh

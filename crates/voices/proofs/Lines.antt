@@ -1,6 +1,6 @@
 -- What the tree's voices and fields are to a line: refusal 4 and control lines.
 use mathlib.Core.Path.{_≡_, refl}
-use mathlib.Core.Bool.{Bool, true, false, cond, _&&_}
+use mathlib.Core.Bool.{false, cond, _&&_}
 use mathlib.Core.List.{List, [], _∷_, _++_, map}
 use Prim.Native.Nat.{ℕ, zero, suc, _≤_, _<_}
 use native.Mathlib.Omega.{arith}
@@ -12,6 +12,7 @@ use Rattle.score_line.specs.declared.Event.the-variants.{Instr, Control, End, T
 use Rattle.syntax.specs.Tree.{importsKind}
 use Rattle.syntax.specs.Names.{Named, namesOf}
 use Rattle.kept_orchestra.specs.declared.Fields.the-variants.{Count, NoSuch}
+use Rattle.players.proofs.Lists.{by-test}
 use Rattle.kept_voices.specs.Voices.{named}
 use Rattle.meaning.specs.Meaning.{noSymbol, instrumentOf}
 use Rattle.voices.specs.Tree.{importOf, importsOf}
@@ -38,11 +39,7 @@ module _ (x : ℕ) (a : Float) (small : x < noSymbol) where
   behind (suc k) (suc n) (v ∷ vs) = λ i. cond (none i) a v ∷ behind k n vs i
 
   hit : (n : Named) → eqb (importOf n) x ≡ (eqb (n .kind) importsKind && eqb (n .name) x)
-  hit n = go (eqb (n .kind) importsKind)
-    where
-      go : (b : Bool) → eqb (cond b (n .name) noSymbol) x ≡ (b && eqb (n .name) x)
-      go true = refl
-      go false = none
+  hit n = by-test (eqb (n .kind) importsKind) (λ e. rw e) (λ e. rw e none)
 
   sets : (k n : ℕ) (ns : List Named) (vs : List Float) → length vs ≤ k
       → named x a (take k (map importOf ns ++ replicate n noSymbol)) vs ≡ imported x a ns vs

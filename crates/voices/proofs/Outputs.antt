@@ -4,17 +4,17 @@ use mathlib.Core.Bool.{Bool, true, false, cond}
 use mathlib.Core.List.{List, [], _∷_, _++_, zipWith}
 use Prim.Native.Nat.{ℕ, zero, suc}
 use lib.Dec.{eqb}
-use lib.ListN.{length, set}
+use lib.ListN.{length}
 use lib.Ieee.{Float, binary32, add}
 use Rattle.syntax.specs.Tree.{Instrument, Statements, done, assign, output, branch}
 use Rattle.syntax.specs.inside.Program.{zeroF}
-use Rattle.syntax.specs.inside.Placed.{rateOf, placeOf}
+use Rattle.syntax.specs.inside.Placed.{rateOf}
 use Rattle.float32.specs.Builtins.{truth}
 use Rattle.meaning.specs.inside.Placed.{value, aRate, Sounding, sounding, assigned, outputs, pass, kPass, Played, aPasses, cycle}
 use Rattle.meaning.specs.inside.Outputs.{afterPass, outputsOf, outputsIn, afterPasses}
 use Rattle.players.specs.Lists.{fold}
 use Rattle.players.specs.Results.{withOutputs, Adding, SamplesSum}
-use Rattle.players.proofs.Lists.{fold-append}
+use Rattle.players.proofs.Lists.{by-test, fold-append}
 use Rattle.players.proofs.Results.{samples-sum}
 use Rattle.voices.specs.Tree.{bodyOf, treeVoices}
 use Rattle.voices.specs.Claims.{OutputsSum}
@@ -29,12 +29,7 @@ record Passes (t : Statements) (vs : List Float) (x : Float) (s : Sounding) : Ty
 assign-values : (n : ℕ) (a : Float) (vs : List Float) (x : Float)
     → assigned aRate n a (sounding vs x) ≡ sounding (assigned aRate n a (sounding vs zeroF) .values) x
 unfolding assigned
-assign-values n a vs x = go (eqb (rateOf n) aRate)
-  where
-    go : (b : Bool) → cond b (sounding (set vs (placeOf n) a) x) (sounding vs x)
-        ≡ sounding (cond b (sounding (set vs (placeOf n) a) zeroF) (sounding vs zeroF) .values) x
-    go true = refl
-    go false = refl
+assign-values n a vs x = by-test (eqb (rateOf n) aRate) (λ e. rw e) (λ e. rw e)
 
 passes : (t : Statements) (vs : List Float) (x : Float) → Passes t vs x (pass aRate t (sounding vs x))
 unfolding pass outputsOf fold outputs

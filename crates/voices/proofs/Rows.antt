@@ -1,6 +1,6 @@
 -- A row for each instrument, in order, is enough for a program to represent a tree.
 use mathlib.Core.Path.{_≡_, refl, sym, ap, _∙_, subst}
-use mathlib.Core.Bool.{Bool, true, false, cond, _||_}
+use mathlib.Core.Bool.{true, cond}
 use mathlib.Core.List.{List, [], _∷_, map}
 use Prim.Native.Nat.{ℕ}
 use lib.Dec.{eqb}
@@ -11,6 +11,7 @@ use Rattle.syntax.specs.inside.Placed.{put}
 use Rattle.bounds.proofs.Sounding.{sounds}
 use Rattle.translation.specs.Translation.{lowered}
 use Rattle.translation.specs.Statements.{Playable}
+use Rattle.players.proofs.Lists.{by-test}
 use Rattle.kept_orchestra.specs.declared.Instrument as row
 use Rattle.kept_orchestra.specs.Kept.{foundIn, instrumentIn, blank}
 use Rattle.meaning.specs.Meaning.{silent, instrumentOf}
@@ -22,15 +23,7 @@ module _ (code : List ℕ) (vals : List Float) where
   silent-row : Row code vals silent blank
   unfolding silent blank importsOf named namedBy put lowered Playable
   silent-row =
-      record {
-        fields = refl;
-        imports = refl;
-        start = 0;
-        icode = refl;
-        kcode = refl;
-        acode = refl;
-        sounds = sounds vals 0 done tt;
-      }
+      record { fields = refl; imports = refl; start = 0; icode = refl; kcode = refl; acode = refl; sounds = sounds vals 0 done tt }
 
   known-in : (is : List Instrument) (table : List row.Instrument) → Rows code vals is table → (name : ℕ)
       → foundIn name table .there ≡ has name (map titleOf is)
@@ -40,12 +33,7 @@ module _ (code : List ℕ) (vals : List Float) where
   known-in (i ∷ is) [] h name = absurd h
   known-in (i ∷ is) (x ∷ xs) h name =
       ap (λ (n : ℕ). cond (eqb n name) (record { there = true; instrument = x }) (foundIn name xs) .there) (h .0)
-      ∙ go (eqb (i .name) name) (known-in is xs (h .1 .1) name)
-    where
-      go : (b : Bool) → foundIn name xs .there ≡ has name (map titleOf is)
-          → cond b (record { there = true; instrument = x }) (foundIn name xs) .there ≡ (b || has name (map titleOf is))
-      go true e = refl
-      go false e = e
+      ∙ by-test (eqb (i .name) name) (λ e. rw e) (λ e. rw e (known-in is xs (h .1 .1) name))
 
   row-of : (is : List Instrument) (table : List row.Instrument) → Rows code vals is table → (name : ℕ)
       → Row code vals (instrumentOf is name) (instrumentIn table name)
@@ -56,12 +44,7 @@ module _ (code : List ℕ) (vals : List Float) where
   row-of (i ∷ is) (x ∷ xs) h name =
       subst
       (λ (n : ℕ). Row code vals (cond (eqb (i .name) name) i (instrumentOf is name)) (cond (eqb n name) (record { there = true; instrument = x }) (foundIn name xs) .instrument))
-      (sym (h .0)) (go (eqb (i .name) name) (row-of is xs (h .1 .1) name))
-    where
-      go : (b : Bool) → Row code vals (instrumentOf is name) (instrumentIn xs name)
-          → Row code vals (cond b i (instrumentOf is name)) (cond b (record { there = true; instrument = x }) (foundIn name xs) .instrument)
-      go true r = h .1 .0
-      go false r = r
+      (sym (h .0)) (by-test (eqb (i .name) name) (λ e. rw e (h .1 .0)) (λ e. rw e (row-of is xs (h .1 .1) name)))
 
   pub represents : (is : List Instrument) (table : List row.Instrument) → Rows code vals is table → Represents is table code vals
   represents is table h = record { known = known-in is table h; rows = row-of is table h }

@@ -34,13 +34,13 @@ use Rattle.voices.specs.Tree.{importsOf, treeVoices}
 use Rattle.players.specs.Calls.{Call, keyboard, cycle, wholeMessages, Answer, one, isZero, takenOf, traceFrom, afterAll}
 use Rattle.players.specs.History.{History, nowhere, withCycle, historyFrom}
 use Rattle.claims.specs.Verdict.{keysTaken, plays, once, Verdict}
-use Rattle.claims.specs.Claims.{afterOf, Given, settings}
+use Rattle.claims.specs.Claims.{afterOf, panelAfter, Given, settings}
 use Rattle.claims.proofs.Answers.{verdict-by-place}
 use Rattle.claims.proofs.Past.{placedPast, block-by-place}
 use Rattle.kept_voices.specs.Voices.{Held}
 use Rattle.witness.specs.Growing.{ceiling, chosen}
 use Rattle.witness.specs.Calls.{lent}
-use Rattle.witness.specs.Keys.{bytes, tree, pressed, letGo, p0, p1, p2, p3, p4, Pressed}
+use Rattle.witness.specs.Keys.{bytes, tree, pressed, letGo, p0, p2, Pressed}
 
 tokens : List Token
 tokens =
@@ -140,23 +140,21 @@ presses e a q =
 
 -- ---- one call after the other
 
+-- what a call answers, and the block that it leaves, by the history before it
+module _ (cs : List Call) {h : History Held} (e : placedPast bytes tree ceiling chosen cs ≡ h) where
+  answers : (c : Call) → Verdict tree h c (one 0 0) → afterOf (panelAfter bytes tree ceiling chosen cs) c .answers ≡ one 0 0
+  answers c v = verdict-by-place bytes tree ceiling chosen given cs c (one 0 0) (subst⁻¹ (λ (h : History Held). Verdict tree h c (one 0 0)) e v)
+
+  sounds : Verdict tree h (cycle lent) (one 0 0) → {b : List ℤ} → block h ≡ b → afterOf (panelAfter bytes tree ceiling chosen cs) (cycle lent) .block ≡ b
+  sounds v f = block-by-place bytes tree ceiling chosen given cs lent (ap isZero (answers (cycle lent) v)) ∙ ap block e ∙ f
+
 on-answer : afterOf p0 (keyboard pressed) .answers ≡ one 0 0
 unfolding afterAll historyFrom traceFrom begin
-on-answer = verdict-by-place bytes tree ceiling chosen given [] (keyboard pressed) (one 0 0) (computed .on)
+on-answer = answers [] refl (keyboard pressed) (computed .on)
 
 past-on : placedPast bytes tree ceiling chosen (keyboard pressed ∷ []) ≡ h1
 unfolding historyFrom traceFrom h1 begin
 past-on = presses refl on-answer (messages-are .0)
-
-first-answer : afterOf p1 (cycle lent) .answers ≡ one 0 0
-unfolding afterAll
-first-answer =
-    verdict-by-place bytes tree ceiling chosen given (keyboard pressed ∷ []) (cycle lent) (one 0 0)
-    (subst⁻¹ (λ (h : History Held). Verdict tree h (cycle lent) (one 0 0)) past-on (computed .first))
-
-first-block : afterOf p1 (cycle lent) .block ≡ replicate samples (pos 16384)
-unfolding afterAll
-first-block = block-by-place bytes tree ceiling chosen given (keyboard pressed ∷ []) lent (ap isZero first-answer) ∙ ap block past-on ∙ computed .first-block
 
 past-first : placedPast bytes tree ceiling chosen (keyboard pressed ∷ cycle lent ∷ []) ≡ h2
 unfolding historyFrom traceFrom h2
@@ -164,9 +162,7 @@ past-first = ap (withCycle (treeVoices tree) (settings ceiling chosen) 0) past-o
 
 off-answer : afterOf p2 (keyboard letGo) .answers ≡ one 0 0
 unfolding afterAll
-off-answer =
-    verdict-by-place bytes tree ceiling chosen given (keyboard pressed ∷ cycle lent ∷ []) (keyboard letGo) (one 0 0)
-    (subst⁻¹ (λ (h : History Held). Verdict tree h (keyboard letGo) (one 0 0)) past-first (computed .off))
+off-answer = answers (keyboard pressed ∷ cycle lent ∷ []) past-first (keyboard letGo) (computed .off)
 
 abbrev calls : List Call
 calls = keyboard pressed ∷ cycle lent ∷ keyboard letGo ∷ []
@@ -175,39 +171,23 @@ past-off : placedPast bytes tree ceiling chosen calls ≡ h3
 unfolding historyFrom traceFrom h3
 past-off = presses past-first off-answer (messages-are .1)
 
-last-answer : afterOf p3 (cycle lent) .answers ≡ one 0 0
-unfolding afterAll
-last-answer =
-    verdict-by-place bytes tree ceiling chosen given calls (cycle lent) (one 0 0)
-    (subst⁻¹ (λ (h : History Held). Verdict tree h (cycle lent) (one 0 0)) past-off (computed .last))
-
-last-block : afterOf p3 (cycle lent) .block ≡ replicate samples (pos 16384)
-unfolding afterAll
-last-block = block-by-place bytes tree ceiling chosen given calls lent (ap isZero last-answer) ∙ ap block past-off ∙ computed .last-block
-
 past-last : placedPast bytes tree ceiling chosen (keyboard pressed ∷ cycle lent ∷ keyboard letGo ∷ cycle lent ∷ []) ≡ h4
 unfolding historyFrom traceFrom h4
 past-last = ap (withCycle (treeVoices tree) (settings ceiling chosen) 1) past-off
 
-gone-answer : afterOf p4 (cycle lent) .answers ≡ one 0 0
-unfolding afterAll
-gone-answer =
-    verdict-by-place bytes tree ceiling chosen given (keyboard pressed ∷ cycle lent ∷ keyboard letGo ∷ cycle lent ∷ []) (cycle lent) (one 0 0)
-    (subst⁻¹ (λ (h : History Held). Verdict tree h (cycle lent) (one 0 0)) past-last (computed .gone))
-
-gone-block : afterOf p4 (cycle lent) .block ≡ replicate samples (pos 0)
-unfolding afterAll
-gone-block =
-    block-by-place bytes tree ceiling chosen given (keyboard pressed ∷ cycle lent ∷ keyboard letGo ∷ cycle lent ∷ []) lent (ap isZero gone-answer)
-    ∙ ap block past-last ∙ computed .gone-block
+-- a cycle's answer and block
+heard : (cs : List Call) {h : History Held} → placedPast bytes tree ceiling chosen cs ≡ h → Verdict tree h (cycle lent) (one 0 0) → {b : List ℤ} → block h ≡ b
+    → (afterOf (panelAfter bytes tree ceiling chosen cs) (cycle lent) .answers ≡ one 0 0) × (afterOf (panelAfter bytes tree ceiling chosen cs) (cycle lent) .block ≡ b)
+heard cs e v f = (answers cs e (cycle lent) v, sounds cs e v f)
 
 pub key-heard : Pressed
+unfolding afterAll
 key-heard =
     record {
       accepted = accepted;
       on = on-answer;
-      first = (first-answer, first-block);
+      first = heard (keyboard pressed ∷ []) past-on (computed .first) (computed .first-block);
       off = off-answer;
-      last = (last-answer, last-block);
-      gone = (gone-answer, gone-block);
+      last = heard calls past-off (computed .last) (computed .last-block);
+      gone = heard (keyboard pressed ∷ cycle lent ∷ keyboard letGo ∷ cycle lent ∷ []) past-last (computed .gone) (computed .gone-block);
     }

@@ -5,7 +5,7 @@ use lib.IntN.{ℤ, pos}
 use lib.ListN.{replicate}
 use mathlib.Core.List.{List, [], _∷_}
 use native.Mathlib.Omega.{arith}
-use lib.Ieee.{binary32, ofBits, toBits, fits, size, add, mul, round, lt, le, eq, ne}
+use lib.Ieee.{ofBits, toBits, fits, size, add, mul, round, lt, le, eq, ne}
 use Rattle.bitstream.specs.Bits as bitstream-bits
 use Rattle.bitstream.specs.Fields as bitstream-fields
 use Rattle.bitstream.specs.Filling as bitstream-filling

@@ -22,12 +22,12 @@ use Rattle.meaning.specs.Meaning.{silent, instrumentOf}
 use Rattle.voices.specs.Tree.{importsOf, treeVoices}
 use Rattle.written_voices.specs.Voices.{writtenVoices}
 use Rattle.score_line.specs.declared.Line.{Line}
-use Rattle.players.specs.Calls.{stick, unit, keypad, bring, cycle, Answer, one, numbered, linesOf, takenOf, isZero, Last, latest, none, Moment, traceFrom, allTaken, afterAll}
+use Rattle.players.specs.Calls.{Call, stick, unit, keypad, bring, cycle, Answer, one, numbered, linesOf, takenOf, isZero, Last, latest, none, Moment, traceFrom, allTaken, afterAll}
 use Rattle.players.specs.Condition3.{inTime, InTime, AsPlain, PlainAlike}
 use Rattle.players.specs.History.{History, nowhere, withCycle, historyFrom}
 use Rattle.panel.specs.declared.Panel.{Panel}
 use Rattle.claims.specs.Verdict.{here, there, taken, plays, once, Verdict, AllFit}
-use Rattle.claims.specs.Claims.{afterOf, panel, fresh, Given, settings, Condition3}
+use Rattle.claims.specs.Claims.{afterOf, panel, fresh, panelAfter, Given, settings, Condition3}
 use Rattle.claims.proofs.Written.{condition-3}
 use Rattle.claims.proofs.Past.{placedPast}
 use Rattle.claims.proofs.Answers.{verdict-by-place}
@@ -40,6 +40,11 @@ use Rattle.witness.proofs.Rich.{rich}
 
 given : Given bytes tree ceiling chosen
 given = record { accepted = rich .accepted; low = omega arith; high = omega arith; there = some-here refl }
+
+-- what a call answers, by the history before it
+answered : (cs : List Call) (c : Call) {h : History Held} → placedPast bytes tree ceiling chosen cs ≡ h → Verdict tree h c (one 0 0)
+    → afterOf (panelAfter bytes tree ceiling chosen cs) c .answers ≡ one 0 0
+answered cs c e v = verdict-by-place bytes tree ceiling chosen given cs c (one 0 0) (subst⁻¹ (λ (h : History Held). Verdict tree h c (one 0 0)) e v)
 
 -- ---- the stick
 
@@ -56,12 +61,7 @@ other-name e = omega arith
 rests-fit : (n k : ℕ) → n + k ≤ 64 → AllFit tree stick nowhere k (replicate n rest)
 rests-fit zero k h = tt
 rests-fit (suc n) k h = (
-  record {
-    timed = λ q. refl;
-    playable = there other-name (here refl none-needed);
-    early = refl;
-    room = omega arith;
-  },
+  record { timed = λ q. refl; playable = there other-name (here refl none-needed); early = refl; room = omega arith },
   rests-fit n (suc k) (omega arith),
 )
 
@@ -73,7 +73,7 @@ on-stick =
 
 stick-answer : afterOf (fresh bytes ceiling chosen) (bring stick onStick) .answers ≡ one 0 0
 unfolding afterAll
-stick-answer = verdict-by-place bytes tree ceiling chosen given [] (bring stick onStick) (one 0 0) on-stick
+stick-answer = answered [] (bring stick onStick) refl on-stick
 
 stick-lines : takenOf (linesOf (bring stick onStick)) (afterOf (fresh bytes ceiling chosen) (bring stick onStick) .answers) ≡ before
 stick-lines = ap (takenOf (linesOf (bring stick onStick))) stick-answer ∙ ap (λ (ls : List Line). ls ++ []) (rich .stick .1)
@@ -104,39 +104,30 @@ past-stick = λ i. record { holds = withMessages (cond (isZero (stick-answer i))
 
 first-answer : afterOf p1 (cycle lent) .answers ≡ one 0 0
 unfolding afterAll
-first-answer =
-    verdict-by-place bytes tree ceiling chosen given (bring stick onStick ∷ []) (cycle lent) (one 0 0)
-    (subst⁻¹ (λ (h : History Held). Verdict tree h (cycle lent) (one 0 0)) past-stick (computed .0))
+first-answer = answered (bring stick onStick ∷ []) (cycle lent) past-stick (computed .0)
 
 past-first : placedPast bytes tree ceiling chosen (bring stick onStick ∷ cycle lent ∷ []) ≡ after-first
 unfolding historyFrom traceFrom after-first after-stick
-past-first =
-    λ i. withCycle (treeVoices tree) (settings ceiling chosen) 0 (record { holds = withMessages (cond (isZero (stick-answer i)) [] []) (behind (stick-lines i) (plainStart (settings ceiling chosen 0) [])); reached = nowhere })
+past-first = ap (withCycle (treeVoices tree) (settings ceiling chosen) 0) past-stick
 
 -- ---- the unit
 
 unit-answer : afterOf p2 (bring unit inUnit) .answers ≡ one 0 0
 unfolding afterAll
-unit-answer =
-    verdict-by-place bytes tree ceiling chosen given (bring stick onStick ∷ cycle lent ∷ []) (bring unit inUnit) (one 0 0)
-    (subst⁻¹ (λ (h : History Held). Verdict tree h (bring unit inUnit) (one 0 0)) past-first (computed .1))
+unit-answer = answered (bring stick onStick ∷ cycle lent ∷ []) (bring unit inUnit) past-first (computed .1)
 
 unit-lines : takenOf (linesOf (bring unit inUnit)) (afterOf p2 (bring unit inUnit) .answers) ≡ control ∷ []
 unit-lines = ap (takenOf (linesOf (bring unit inUnit))) unit-answer ∙ ap (λ (ls : List Line). ls ++ []) (rich .unit .1)
 
 past-unit : placedPast bytes tree ceiling chosen (bring stick onStick ∷ cycle lent ∷ bring unit inUnit ∷ []) ≡ after-unit
 unfolding historyFrom traceFrom after-unit after-first after-stick
-past-unit =
-    λ i. let h = withCycle (treeVoices tree) (settings ceiling chosen) 0 (record { holds = withMessages (cond (isZero (stick-answer i)) [] []) (behind (stick-lines i) (plainStart (settings ceiling chosen 0) [])); reached = nowhere }) in
-    record { holds = withMessages (cond (isZero (unit-answer i)) [] []) (behind (unit-lines i) (h .holds)); reached = h .reached }
+past-unit = λ i. record { holds = withMessages (cond (isZero (unit-answer i)) [] []) (behind (unit-lines i) (past-first i .holds)); reached = past-first i .reached }
 
 -- ---- the keypad
 
 keypad-answer : afterOf p3 (bring keypad onKeypad) .answers ≡ one 0 0
 unfolding afterAll
-keypad-answer =
-    verdict-by-place bytes tree ceiling chosen given (bring stick onStick ∷ cycle lent ∷ bring unit inUnit ∷ []) (bring keypad onKeypad) (one 0 0)
-    (subst⁻¹ (λ (h : History Held). Verdict tree h (bring keypad onKeypad) (one 0 0)) past-unit (computed .2))
+keypad-answer = answered (bring stick onStick ∷ cycle lent ∷ bring unit inUnit ∷ []) (bring keypad onKeypad) past-unit (computed .2)
 
 keypad-lines : takenOf (linesOf (bring keypad onKeypad)) (afterOf p3 (bring keypad onKeypad) .answers) ≡ end ∷ []
 keypad-lines = ap (takenOf (linesOf (bring keypad onKeypad))) keypad-answer ∙ ap (λ (ls : List Line). ls ++ []) (rich .keypad .1)

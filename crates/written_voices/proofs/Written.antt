@@ -2,17 +2,18 @@
 use Prim.Native.Nat.{ℕ, suc, _≤_}
 use native.Mathlib.Omega.{arith}
 use mathlib.Core.Path.{_≡_, refl, sym, ap, _∙_, subst}
-use mathlib.Core.Bool.{Bool, true, false, not, _&&_, _||_, cond, true≢false}
+use mathlib.Core.Bool.{true, false, not, _&&_, cond, or-true, and-false, true≢false}
 use mathlib.Core.List.{List, [], _∷_, _++_, map}
 use lib.ListN.{length, getD}
 use lib.Dec.{eqb, leb}
 use lib.Ieee.{Float}
-use borrow.Author.Tests.{eqb-true, eq-eqb}
+use borrow.Author.Tests.{eqb-true, eqb-false, eq-eqb, ne-eqb}
+use Rattle.players.proofs.Lists.{by-test, either-way}
 use Rattle.laws.proofs.Choice.{both-true}
 use Rattle.syntax.specs.Tree.{Instrument, importsKind}
 use Rattle.syntax.specs.Names.{Named, namesOf, symbols, has, apart, distinct, namesKept, eachKept, titleOf, nameRules, known, named, namedBy}
 use Rattle.float32.specs.Builtins.{zeroF}
-use Rattle.meaning.specs.Meaning.{instrumentOf, silent, Memory, set, importsIn, control, birth, cycle}
+use Rattle.meaning.specs.Meaning.{instrumentOf, silent, Memory, importsIn, control, birth, cycle}
 use Rattle.voices.specs.Tree.{treeVoices}
 use Rattle.voices.specs.Claims.{imported}
 use Rattle.voices.proofs.Lines.{control-names}
@@ -21,27 +22,19 @@ use Rattle.meaning.proofs.Translation.{birth-agrees, cycle-agrees}
 use Rattle.syntax.proofs.Places.{kept, index, place-is}
 use Rattle.written_voices.specs.Voices.{writtenVoices, Fits}
 use Rattle.written_voices.specs.inside.Translation.{HeldAs, EveryPiece, EveryPast}
-use Rattle.written_voices.proofs.Related.{Related, blocks-related, answers-related, missed-related, position-related, past-related, past-block-related}
+use Rattle.written_voices.proofs.Related.{Related, blocks-related, answers-related, holds-related, past-related, past-block-related}
 
 -- ---- each name once
 
 has-left : (x n : ℕ) (ns : List ℕ) → has x ns ≡ true → has x (ns ++ n ∷ []) ≡ true
 unfolding has
 has-left x n [] e = absurd (true≢false (sym e))
-has-left x n (m ∷ ns) e = go (eqb m x) (λ h. has-left x n ns h) e
-  where
-    go : (b : Bool) → (has x ns ≡ true → has x (ns ++ n ∷ []) ≡ true) → (b || has x ns) ≡ true → (b || has x (ns ++ n ∷ [])) ≡ true
-    go true h e = refl
-    go false h e = h e
+has-left x n (m ∷ ns) e = by-test (eqb m x) (λ q. rw q) (λ q. rw q (has-left x n ns (rw q at e)))
 
 has-last : (n : ℕ) (ns : List ℕ) → has n (ns ++ n ∷ []) ≡ true
 unfolding has
 has-last n [] = rw (eq-eqb n n refl)
-has-last n (m ∷ ns) = go (eqb m n) (has-last n ns)
-  where
-    go : (b : Bool) → has n (ns ++ n ∷ []) ≡ true → (b || has n (ns ++ n ∷ [])) ≡ true
-    go true h = refl
-    go false h = h
+has-last n (m ∷ ns) = rw (has-last n ns, or-true)
 
 -- a name among those before comes no more
 no-more : (before ns : List ℕ) (x : ℕ) → apart before ns ≡ true → has x before ≡ true → has x ns ≡ false
@@ -49,20 +42,12 @@ unfolding apart has
 no-more before [] x e h = refl
 no-more before (n ∷ ns) x e h =
     let p = both-true (not (has n before)) (apart (before ++ n ∷ []) ns) e in
-    go (eqb n x) refl (p .0) (no-more (before ++ n ∷ []) ns x (p .1) (has-left x n before h))
-  where
-    go : (b : Bool) → eqb n x ≡ b → not (has n before) ≡ true → has x ns ≡ false → (b || has x ns) ≡ false
-    go true q f r = absurd (true≢false (sym (sym (ap not (ap (λ z. has z before) (eqb-true n x q) ∙ h)) ∙ f)))
-    go false q f r = r
+    by-test (eqb n x) (λ q. cc (p .0, eqb-true n x q)) (λ q. rw q (no-more (before ++ n ∷ []) ns x (p .1) (has-left x n before h)))
 
 no-import : (ms : List Named) (x : ℕ) → has x (symbols ms) ≡ false → importsIn ms x ≡ false
 unfolding importsIn has
 no-import [] x e = refl
-no-import (m ∷ ms) x e = go (eqb (m .name) x) (λ h. no-import ms x h) e
-  where
-    go : (b : Bool) → (has x (symbols ms) ≡ false → importsIn ms x ≡ false) → (b || has x (symbols ms)) ≡ false → ((b && eqb (m .kind) importsKind) || importsIn ms x) ≡ false
-    go true h e = absurd (true≢false e)
-    go false h e = h e
+no-import (m ∷ ms) x e = by-test (eqb (m .name) x) (λ q. cc) (λ q. rw q (no-import ms x (rw q at e)))
 
 -- ---- step 4
 
@@ -74,43 +59,18 @@ imported-at before [] vs n x y e l h = absurd (true≢false (sym h))
 imported-at before (m ∷ ms) [] n x y e l h = absurd (omega arith)
 imported-at before (m ∷ ms) (v ∷ vs) n x y e l h =
     let p = both-true (not (has (m .name) before)) (apart (before ++ m .name ∷ []) (symbols ms)) e in
-    go (eqb (m .name) n) refl (eqb n x) refl (eqb (m .name) x) refl
-    (no-import ms (m .name) (no-more (before ++ m .name ∷ []) (symbols ms) (m .name) (p .1) (has-last (m .name) before)))
-    (λ g. imported-at (before ++ m .name ∷ []) ms vs n x y (p .1) (omega arith) g) h
-  where
-    go : (b : Bool) → eqb (m .name) n ≡ b → (c : Bool) → eqb n x ≡ c → (d : Bool) → eqb (m .name) x ≡ d → importsIn ms (m .name) ≡ false
-        → (has n (symbols ms) ≡ true → getD (imported x y ms vs) (index n ms) zeroF ≡ cond (importsIn ms x && c) y (getD vs (index n ms) zeroF))
-        → (b || has n (symbols ms)) ≡ true
-        → getD (cond (eqb (m .kind) importsKind && d) y v ∷ imported x y ms vs) (cond b 0 (suc (index n ms))) zeroF
-        ≡ cond (((d && eqb (m .kind) importsKind) || importsIn ms x) && c) y (getD (v ∷ vs) (cond b 0 (suc (index n ms))) zeroF)
-    go true p true q true r f ih h = last (eqb (m .kind) importsKind) (importsIn ms x) (ap (importsIn ms) (sym (eqb-true (m .name) x r)) ∙ f)
-      where
-        last : (k i : Bool) → i ≡ false → cond (k && true) y v ≡ cond ((k || i) && true) y v
-        last true i e = refl
-        last false true e = absurd (true≢false e)
-        last false false e = refl
-    go true p true q false r f ih h =
-        absurd (true≢false (sym (eq-eqb (m .name) x (eqb-true (m .name) n p ∙ eqb-true n x q)) ∙ r))
-    go true p false q true r f ih h =
-        absurd (true≢false (sym (eq-eqb n x (sym (eqb-true (m .name) n p) ∙ eqb-true (m .name) x r)) ∙ q))
-    go true p false q false r f ih h = last (eqb (m .kind) importsKind) (importsIn ms x)
-      where
-        last : (k i : Bool) → cond (k && false) y v ≡ cond (i && false) y v
-        last true true = refl
-        last true false = refl
-        last false true = refl
-        last false false = refl
-    go false p true q true r f ih h =
-        absurd (true≢false (sym (eq-eqb (m .name) n (eqb-true (m .name) x r ∙ sym (eqb-true n x q))) ∙ p))
-    go false p true q false r f ih h = ih h
-    go false p false q true r f ih h = ih h ∙ last (eqb (m .kind) importsKind) (importsIn ms x)
-      where
-        last : (k i : Bool) → cond (i && false) y (getD vs (index n ms) zeroF) ≡ cond ((k || i) && false) y (getD vs (index n ms) zeroF)
-        last true true = refl
-        last true false = refl
-        last false true = refl
-        last false false = refl
-    go false p false q false r f ih h = ih h
+    let rest = imported-at (before ++ m .name ∷ []) ms vs n x y (p .1) (omega arith) in
+    let none = no-import ms (m .name) (no-more (before ++ m .name ∷ []) (symbols ms) (m .name) (p .1) (has-last (m .name) before)) in
+    by-test (eqb (m .name) n)
+    (λ b. by-test (eqb n x)
+    (λ c. let same = eqb-true (m .name) n b ∙ eqb-true n x c in
+    let d = eq-eqb (m .name) x same in
+    let i = rw same at none in by-test (eqb (m .kind) importsKind) (λ k. rw (b, c, d, i, k)) (λ k. rw (b, c, d, i, k)))
+    (λ c. let d = ne-eqb (m .name) x (λ q. eqb-false n x c (sym (eqb-true (m .name) n b) ∙ q)) in
+    rw (b, c, d, and-false (eqb (m .kind) importsKind), and-false (importsIn ms x))))
+    (λ b. by-test (eqb (m .name) x)
+    (λ d. let c = ne-eqb n x (λ q. eqb-false (m .name) n b (eqb-true (m .name) x d ∙ sym q)) in rw (b, c, and-false) (rw (c, and-false) at (rest (rw b at h))))
+    (λ d. rw (b, d) (rest (rw b at h))))
 
 length-imported : (x : ℕ) (y : Float) (ms : List Named) (vs : List Float) → length (imported x y ms vs) ≡ length vs
 unfolding imported
@@ -130,12 +90,8 @@ control-stands x vs m n y e s =
           ap (λ (q : ℕ). getD (imported n y (namesOf x) vs) q zeroF) i
           ∙ imported-at [] (namesOf x) vs p n y (kept x e .once) (omega (arith, s .size)) h
           ∙ ap (λ (z : Float). cond (importsIn (namesOf x) n && eqb p n) y z) (ap (λ (q : ℕ). getD vs q zeroF) (sym i) ∙ s .holds p h)
-          ∙ last p (importsIn (namesOf x) n);
+          ∙ by-test (importsIn (namesOf x) n) (λ b. rw b) (λ b. rw b);
     }
-  where
-    last : (p : ℕ) (b : Bool) → cond (b && eqb p n) y (m .values p) ≡ cond b (set n y m) m .values p
-    last p true = refl
-    last p false = refl
 
 -- ---- the voices
 
@@ -144,11 +100,7 @@ unfolding eachKept instrumentOf silent known named namedBy apart
 each-found [] name e = refl
 each-found (x ∷ is) name e =
     let p = both-true (namesKept x) (eachKept is) e in
-    go (eqb (x .name) name) (p .0) (each-found is name (p .1))
-  where
-    go : (b : Bool) → namesKept x ≡ true → namesKept (instrumentOf is name) ≡ true → namesKept (cond b x (instrumentOf is name)) ≡ true
-    go true h g = h
-    go false h g = g
+    either-way (λ (i : Instrument). namesKept i ≡ true) (eqb (x .name) name) (p .0) (each-found is name (p .1))
 
 born : (is : List Instrument) → eachKept is ≡ true → (name : ℕ) (xs : List Float)
     → Stands (namesOf (instrumentOf is name)) (treeVoices is .birth name xs .values) (birth (instrumentOf is name) xs .memory .values)
@@ -187,11 +139,12 @@ named-related is e =
 pub every-piece : EveryPiece
 every-piece is settings ls n e o =
     let r = named-related is e in
+    let h = holds-related (HeldAs is) (Fits is) r settings ls n o in
     record {
       answers = answers-related (HeldAs is) (Fits is) r settings ls n o;
       blocks = blocks-related (HeldAs is) (Fits is) r settings ls n o;
-      position = position-related (HeldAs is) (Fits is) r settings ls n o;
-      missed = missed-related (HeldAs is) (Fits is) r settings ls n o;
+      position = h .position;
+      missed = λ i. h .counts i .missed;
     }
 
 pub every-past : EveryPast
