@@ -1,6 +1,6 @@
 -- Filling: what a filled end says, and that bytes and whole bytes of bits are one. Assumes nothing.
 use Prim.Native.Nat.{ℕ, zero, suc, _+_, _-_, _*_, _/_, _%_, _^_, _<_, _≤_}
-use mathlib.Core.Path.{_≡_, refl, sym, ap, ap₂, _∙_}
+use mathlib.Core.Path.{_≡_, refl, sym, ap, _∙_}
 use mathlib.Core.Bool.{Bool, true, false}
 use mathlib.Core.List.{List, [], _∷_, _++_, append-nil}
 use native.Mathlib.Nat.{mod-eq-of-lt, div-one}
@@ -28,7 +28,7 @@ pub value-zeros : (l : List Bool) → valueOf l ≡ 0 → l ≡ replicate (lengt
 unfolding valueOf
 value-zeros [] e = refl
 value-zeros (true ∷ l) e = absurd (omega (arith, pow-pos (length l)))
-value-zeros (false ∷ l) e = ap (λ (x : List Bool). false ∷ x) (value-zeros l (omega arith))
+value-zeros (false ∷ l) e = cc (value-zeros l (omega arith))
 
 -- what a filled end is
 pub filled-back : (l : List Bool) (p : ℕ) → filled l p ≡ true → (length l < p + 8) × (drop p l ≡ replicate (length l - p) false)
@@ -40,21 +40,20 @@ filled-back l p e =
 pub filled-here : (l : List Bool) (p k : ℕ) → k < 8 → drop p l ≡ replicate k false → filled l p ≡ true
 unfolding filled
 filled-here l p k h e =
-    let n : length l - p ≡ k = sym (length-drop p l) ∙ ap length e ∙ length-replicate k false in
-    let m : length l < p + 8 = omega arith in
-    rw (lt-ltb _ _ m, e, zeros-value k)
+    let n : length l - p ≡ k = cc (length-drop p l, length-replicate k false) in
+    rw (lt-ltb (length l) (p + 8) (omega arith), e, zeros-value k)
 
 -- bits that are the bits b and a filled end, in whole bytes, are b filled up
 pub filled-up : (l b : List Bool) → length l % 8 ≡ 0 → length l < length b + 8 → l ≡ b ++ replicate (length l - length b) false → l ≡ filledUp b
 unfolding filledUp
 filled-up l b h k e =
-    let n : length l ≡ length b + (length l - length b) = ap length e ∙ length-append b _ ∙ ap (λ (x : ℕ). length b + x) (length-replicate (length l - length b) false) in
+    let n : length l ≡ length b + (length l - length b) = ap length e ∙ simp (length-append, length-replicate) in
     let m : length l - length b ≡ missing (length b) = omega arith in
-    e ∙ ap (λ (x : ℕ). b ++ replicate x false) m
+    cc
 
 pub length-filledUp : (l : List Bool) → length (filledUp l) ≡ length l + missing (length l)
 unfolding filledUp
-length-filledUp l = length-append l _ ∙ ap (λ (x : ℕ). length l + x) (length-replicate (missing (length l)) false)
+length-filledUp l = simp (length-append, length-replicate)
 
 -- ---- bytes
 
@@ -66,8 +65,7 @@ bits-bytesFrom (suc n) l h =
     let t = take 8 l in
     let k : length t ≡ 8 = length-take-le 8 l (omega arith) in
     let d : length (drop 8 l) ≡ length l - 8 = length-drop 8 l in
-    ap₂ (λ (x y : List Bool). x ++ y) (ap (λ (m : ℕ). field m (valueOf t)) (sym k) ∙ field-valueOf t) (bits-bytesFrom n (drop 8 l) (omega arith))
-    ∙ take-append-drop 8 l
+    cc (field-valueOf t, bits-bytesFrom n (drop 8 l) (omega arith), take-append-drop 8 l)
 
 -- whole bytes of bits are the bits of their bytes
 pub bitsOf-bytesOf : (l : List Bool) → length l % 8 ≡ 0 → bitsOf (bytesOf l) ≡ l
@@ -78,17 +76,15 @@ pub bytesFrom-bits : (s : List ℕ) → ((i : ℕ) → getD s i 0 < 2 ^ 8) → b
 unfolding bytesFrom bitsOf
 bytesFrom-bits [] h = refl
 bytesFrom-bits (b ∷ s) h =
-    ap₂ (λ (x : ℕ) (y : List ℕ). x ∷ y)
-    (ap valueOf (take-at (field 8 b) (bitsOf s) 8 (length-field 8 b)) ∙ valueOf-field 8 b ∙ mod-eq-of-lt (h 0))
-    (ap (bytesFrom (length s)) (drop-at (field 8 b) (bitsOf s) 8 (length-field 8 b)) ∙ bytesFrom-bits s (λ i. h (suc i)))
+    let f = length-field 8 b in
+    cc (take-at (field 8 b) (bitsOf s) 8 f, valueOf-field 8 b, mod-eq-of-lt (h 0), drop-at (field 8 b) (bitsOf s) 8 f, bytesFrom-bits s (λ i. h (suc i)))
 
 -- and bytes are the bytes of their bits
 pub bytesOf-bitsOf : (s : List ℕ) → ((i : ℕ) → getD s i 0 < 2 ^ 8) → bytesOf (bitsOf s) ≡ s
 unfolding bytesOf
 bytesOf-bitsOf s h =
-    let e : length (bitsOf s) ≡ 8 * length s = length-bitsOf s in
-    let f : length (bitsOf s) / 8 ≡ length s = omega arith in
-    ap (λ (n : ℕ). bytesFrom n (bitsOf s)) f ∙ bytesFrom-bits s h
+    let f : length (bitsOf s) / 8 ≡ length s = omega (arith, length-bitsOf s) in
+    cc (bytesFrom-bits s h)
 
 -- ---- the test of a filled end on bytes
 
@@ -96,17 +92,14 @@ bytesOf-bitsOf s h =
 pub filled-past : (s : List ℕ) (p : ℕ) → length s ≤ p / 8 → true ≡ filled (bitsOf s) p
 unfolding filled valueOf
 filled-past s p h =
-    let e : length (bitsOf s) ≡ 8 * length s = length-bitsOf s in
-    let m : length (bitsOf s) < p + 8 = omega arith in
-    sym (rw (lt-ltb _ _ m, drop-of-length-le (bitsOf s) {i = p} (omega arith)))
+    let e = length-bitsOf s in
+    sym (rw (lt-ltb (length (bitsOf s)) (p + 8) (omega arith), drop-of-length-le (bitsOf s) {i = p} (omega arith)))
 
 -- a whole byte is left
 pub filled-more : (s : List ℕ) (p : ℕ) → p + 8 ≤ 8 * length s → false ≡ filled (bitsOf s) p
 unfolding filled
 filled-more s p h =
-    let e : length (bitsOf s) ≡ 8 * length s = length-bitsOf s in
-    let m : p + 8 ≤ length (bitsOf s) = omega arith in
-    sym (rw (le-ltb _ _ m))
+    sym (rw (le-ltb (length (bitsOf s)) (p + 8) (omega (arith, length-bitsOf s))))
 
 -- the last byte's lowest bits are left
 pub filled-last : (s : List ℕ) (p : ℕ) → 0 < p % 8 → length s ≡ p / 8 + 1 → getD s (p / 8) 0 < 2 ^ 8
@@ -116,15 +109,12 @@ filled-last s p hr hl hb =
     let q = p / 8 in
     let r = p % 8 in
     let b = getD s q 0 in
-    let e : length (bitsOf s) ≡ 8 * length s = length-bitsOf s in
-    let m : length (bitsOf s) < p + 8 = omega arith in
+    let e = length-bitsOf s in
     let a : p ≡ 8 * q + r = omega arith in
-    let d : drop q s ≡ b ∷ [] = drop-cons s q 0 (omega arith) ∙ ap (λ (x : List ℕ). b ∷ x) (drop-of-length-le s {i = suc q} (omega arith)) in
-    let f : drop p (bitsOf s) ≡ drop r (field 8 b) =
-    ap (λ (x : ℕ). drop x (bitsOf s)) a ∙ sym (drop-drop r (8 * q) (bitsOf s)) ∙ ap (drop r) (sym (bitsOf-drop q s) ∙ ap bitsOf d ∙ append-nil (field 8 b)) in
-    let k : length (field 8 b) ≡ 8 = length-field 8 b in
-    let g : length (drop r (field 8 b)) ≤ 8 - r = rw length-drop (omega arith) in
+    let k = length-field 8 b in
+    let d : drop q s ≡ b ∷ [] = cc (drop-cons s q 0 (omega arith), drop-of-length-le s {i = suc q} (omega arith)) in
+    let f : drop p (bitsOf s) ≡ drop r (field 8 b) = cc (drop-drop r (8 * q) (bitsOf s), bitsOf-drop q s, append-nil (field 8 b)) in
+    let all = take-all (8 - r) (drop r (field 8 b)) (rw length-drop (omega arith)) in
     let v : valueOf (drop p (bitsOf s)) ≡ b % 2 ^ (8 - r) =
-    ap valueOf (f ∙ sym (take-all (8 - r) (drop r (field 8 b)) g)) ∙ value-part (field 8 b) r (8 - r) 0 (omega arith)
-    ∙ ap (λ (x : ℕ). x % 2 ^ (8 - r)) (div-one (valueOf (field 8 b)) ∙ valueOf-field 8 b ∙ mod-eq-of-lt hb) in
-    rw (lt-ltb _ _ m, v)
+    cc (all, value-part (field 8 b) r (8 - r) 0 (omega arith), div-one (valueOf (field 8 b)), valueOf-field 8 b, mod-eq-of-lt hb) in
+    rw (lt-ltb (length (bitsOf s)) (p + 8) (omega arith), v)

@@ -22,7 +22,7 @@ use Rattle.score.specs.inside.Walk.{heard, firstOf, nextOf, Ahead}
 use Rattle.score.specs.declared.Cursor.{Cursor}
 use Rattle.score.specs.declared.Step.{Step}
 use Rattle.score.specs.declared.ScoreRead.{ScoreRead}
-use Rattle.score.proofs.Ways.{fault-not-taken}
+use Rattle.score.proofs.Readers.{fault-not-taken}
 use Rattle.score.proofs.Walk.{ahead-first, ahead-left, ahead-next}
 use Rattle.score_text.specs.inside.Reading.{Text, lines, bad, linesFrom as text-from, judged, textOf, lineFrom}
 use Rattle.score_text.specs.Said.{judgedFrom, judgement}

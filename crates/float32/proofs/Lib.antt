@@ -1,4 +1,4 @@
 pub mod Sign
-pub mod Whole
+pub mod WholePart
 pub mod Magnitude
-pub mod Laws
+pub mod Ceiling

@@ -4,6 +4,7 @@ use mathlib.Core.Path.{_≡_, refl, sym, _∙_}
 use mathlib.Core.Bool.{Bool, true, false, _&&_, cond, true≢false}
 use native.Mathlib.Omega.{arith}
 use borrow.Author.Tests.{ltb-true, ltb-false, eqb-true, eq-eqb}
+use borrow.Table.Steps.{cases}
 use lib.IntN.{ℤ}
 use lib.Dec.{T}
 use lib.Ieee.{Float, nan, inf, fin, fits, lt, eq, neg, ofBits, binary32, up, down}
@@ -48,9 +49,5 @@ abs-above (fin true m d) e f =
     absurd (true≢false (sym (simp (eq-eqb _ _ w, eq-eqb _ _ z)) ∙ f))
 
 pub abs-is : (x : Float) → T (fits binary32 x) → cond (eq x zeroF) zeroF (cond (lt x zeroF) (neg x) x) ≡ absOf x
-abs-is x t = go (eq x zeroF) (lt x zeroF) refl refl
-  where
-    go : (z b : Bool) → eq x zeroF ≡ z → lt x zeroF ≡ b → cond z zeroF (cond b (neg x) x) ≡ absOf x
-    go true b e f = abs-zero x t e
-    go false true e f = abs-below x f
-    go false false e f = abs-above x f e
+abs-is x t =
+    cases (eq x zeroF) (λ e. cc (abs-zero x t e)) (λ e. cases (lt x zeroF) (λ f. cc (abs-below x f)) (λ f. cc (abs-above x f e)))

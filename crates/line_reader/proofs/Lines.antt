@@ -10,7 +10,6 @@ use lib.Dec.{eqb}
 use lib.ListN.{length, take, drop, set, replicate, length-set, take-append-drop}
 use lib.Seq.{take-suc-set, drop-set-lt, drop-drop, append-snoc, length-take-le}
 use lib.Ieee.{Float}
-use Rattle.laws.proofs.Choice.{cond-true, cond-false}
 use Rattle.answer.specs.Numbers.{isTaken}
 use Rattle.answer.specs.declared.Answer.the-variants as answer
 use Rattle.formats.specs.Format.{Source, Read, got, refused, andThen, numberFrom, named, found}
@@ -34,7 +33,7 @@ use Rattle.score_line.specs.declared.WhenRead.{WhenRead}
 use Rattle.score_line.specs.declared.WhenRead.the-variants as when-read
 use Rattle.score_line.specs.declared.EventRead.{EventRead}
 use Rattle.score_line.specs.declared.EventRead.the-variants as event-read
-use Rattle.score_line.proofs.Ways.{number-of, number-no, real-of, real-no}
+use Rattle.score_line.proofs.Parts.{matched}
 use Rattle.score_line.specs.LineFormat.{number as count, instr, control, end, tempo, Kind, Body, Values, typeOf, kinds, kind, body, eventOf, counted, values, lineWith, zeroFloat, padded, afterTime, parts, line}
 
 pub then-then : {A B C : Type 0} (x : Read A) (f : A → ℕ → Read B) (k : B → ℕ → Read C) → andThen (andThen x f) k ≡ andThen x (λ a p. andThen (f a p) k)
@@ -73,28 +72,23 @@ module _ (s : Source) (w : When) (b : Bool) (e : Event) where
   unfolding withValues
   starts n at =
       let h : n - 0 ≡ n = omega arith in
-      record { within = omega arith; long = refl; rest = refl; same = ap (λ (k : ℕ). onward w b e n [] (valuesFrom s k at)) h }
+      record { within = omega arith; long = refl; rest = refl; same = rw h }
 
   zeros-on : (values : List Float) (i : ℕ) → i < 8 → length values ≡ 8 → drop i values ≡ replicate (8 - i) zeroFloat → drop (suc i) values ≡ replicate (8 - suc i) zeroFloat
   zeros-on values i h l z =
       let k : 8 - i ≡ suc (8 - suc i) = omega arith in
-      let t : i + 1 ≡ suc i = add-one i in
-      ap (λ (j : ℕ). drop j values) (sym t) ∙ sym (drop-drop 1 i values) ∙ ap (drop 1) (z ∙ ap (λ (j : ℕ). replicate j zeroFloat) k)
+      ap (λ (j : ℕ). drop j values) (sym (add-one i)) ∙ sym (drop-drop 1 i values) ∙ ap (drop 1) (z ∙ ap (λ (j : ℕ). replicate j zeroFloat) k)
 
   pub again : (n at p i q : ℕ) (values : List Float) (x : Float) {r : Real} → n ≤ 8 → Filling n at values p i → i < n → realIs r ≡ floatFrom s range.Value p → r ≡ real.Of x q
       → Filling n at (set values i x) q (i + 1)
   again n at p i q values x h f l g k =
-      let t : take (i + 1) (set values i x) ≡ take i values ++ (x ∷ []) = ap (λ (j : ℕ). take j (set values i x)) (add-one i) ∙ take-suc-set values i x (omega (arith, f .long)) in
+      let t = take-suc-set values i x (omega (arith, f .long)) in
       let m : n - i ≡ suc (n - (i + 1)) = omega arith in
       record {
         within = omega arith;
         long = length-set values i x ∙ f .long;
-        rest =
-            ap (λ (j : ℕ). drop j (set values i x)) (add-one i) ∙ drop-set-lt (suc i) values i x (omega arith) ∙ zeros-on values i (omega arith) (f .long) (f .rest)
-            ∙ ap (λ (j : ℕ). replicate (8 - j) zeroFloat) (sym (add-one i));
-        same =
-            ap (λ (d : List Float). onward w b e n d (valuesFrom s (n - (i + 1)) q)) t ∙ sym (step n (take i values) (n - (i + 1)) p q x (real-of g k))
-            ∙ ap (λ (j : ℕ). onward w b e n (take i values) (valuesFrom s j p)) (sym m) ∙ f .same;
+        rest = cc (add-one i, drop-set-lt (suc i) values i x (omega arith), zeros-on values i (omega arith) (f .long) (f .rest));
+        same = rw (add-one i, t) (sym (step n (take i values) (n - suc i) p q x (matched realIs g k)) ∙ rw (m, add-one i) at (f .same));
       }
 
   pub stops : (n at p i : ℕ) (values : List Float) (g : Fault) {r : Real} {x : LineRead} → Filling n at values p i → i < n → realIs r ≡ floatFrom s range.Value p → r ≡ real.Refused g
@@ -102,7 +96,7 @@ module _ (s : Source) (w : When) (b : Bool) (e : Event) where
   unfolding lineRead
   stops n at p i values g f l h k y =
       let m : n - i ≡ suc (n - (i + 1)) = omega arith in
-      y ∙ ap lineRead (sym (stop n (take i values) (n - (i + 1)) p g (real-no h k)) ∙ ap (λ (j : ℕ). onward w b e n (take i values) (valuesFrom s j p)) (sym m) ∙ f .same)
+      y ∙ ap lineRead (sym (stop n (take i values) (n - (i + 1)) p g (matched realIs h k)) ∙ rw m at (f .same))
 
   pub ends : (n at p i : ℕ) (values : List Float) → n ≤ 8 → Filling n at values p i → n ≤ i
       → record { answer = answer.Taken; line = record { when = w; priority = b; event = e; count = n; values = values }; next = p } ≡ lineRead (withValues w b e n (valuesFrom s n at))
@@ -123,17 +117,18 @@ module _ (s : Source) (w : When) (b : Bool) (e : Event) where
   pub counted-in : (at k p : ℕ) {n : Number} {x : LineRead} → numberIs n ≡ numberFrom s 8 at → n ≡ number.Of k p → k ≤ 8
       → x ≡ lineRead (withValues w b e k (valuesFrom s k p)) → x ≡ lineRead (afterCount s w b e at)
   unfolding afterCount counted count withValues
-  counted-in at k p f g h y = y ∙ ap lineRead (sym (rw (number-of f g, le-leb _ _ h) (then-then (valuesFrom s k p) (λ xs q. got (k, xs) q) (λ x q. got (with w b e (x .0) (x .1)) q))))
+  counted-in at k p f g h y = y ∙ ap lineRead (sym (rw (matched numberIs f g, le-leb _ _ h)
+      (then-then (valuesFrom s k p) (λ xs q. got (k, xs) q) (λ x q. got (with w b e (x .0) (x .1)) q))))
 
   pub counted-many : (at k p : ℕ) {n : Number} {x : LineRead} → numberIs n ≡ numberFrom s 8 at → n ≡ number.Of k p → 8 < k
       → x ≡ refusedLine (answerOf fault.TooManyValues) → x ≡ lineRead (afterCount s w b e at)
   unfolding afterCount counted count lineRead withValues
-  counted-many at k p f g h y = y ∙ sym (rw (number-of f g, lt-leb _ _ h))
+  counted-many at k p f g h y = y ∙ sym (rw (matched numberIs f g, lt-leb _ _ h))
 
   pub counted-no : (at : ℕ) (c : Fault) {n : Number} {x : LineRead} → numberIs n ≡ numberFrom s 8 at → n ≡ number.Refused c
       → x ≡ refusedLine (answerOf c) → x ≡ lineRead (afterCount s w b e at)
   unfolding afterCount counted count lineRead withValues
-  counted-no at c f g y = y ∙ sym (rw (number-no f g))
+  counted-no at c f g y = y ∙ sym (rw (matched numberIs f g))
 
 -- ---- past the event
 
@@ -155,12 +150,6 @@ module _ (s : Source) (w : When) (b : Bool) (at : ℕ) (e : Event) where
   event-tempo t f y = y ∙ sym (rw f)
 
 -- ---- priority, type, event
-
-event-of : {x : Read Event} {r : EventRead} {v : Event} {p : ℕ} → eventIs r ≡ x → r ≡ event-read.Of v p → x ≡ got v p
-event-of e f = sym e ∙ ap eventIs f
-
-event-no : {x : Read Event} {r : EventRead} {f : Fault} → eventIs r ≡ x → r ≡ event-read.Refused f → x ≡ refused f
-event-no e f = sym e ∙ ap eventIs f
 
 -- what follows the time, in the code's order
 module _ (s : Source) (w : When) (b : Bool) where
@@ -217,27 +206,27 @@ module _ (s : Source) (w : When) (at : ℕ) where
   pub line-event : (b p k q t : ℕ) (e : Event) {n m : Number} {r : EventRead} {x : LineRead} → numberIs n ≡ smallFrom s 1 1 at → n ≡ number.Of b p
       → numberIs m ≡ numberFrom s 3 p → m ≡ number.Of k q → eventIs r ≡ eventFrom s k q → r ≡ event-read.Of e t
       → x ≡ lineRead (afterEvent s w (eqb b 1) e t) → x ≡ lineRead (afterWhen s w at)
-  line-event b p k q t e f g h i j l y = y ∙ sym (ap lineRead (after-when s w at) ∙ rw (number-of f g, number-of h i, event-of j l))
+  line-event b p k q t e f g h i j l y = y ∙ sym (ap lineRead (after-when s w at) ∙ rw (matched numberIs f g, matched numberIs h i, matched eventIs j l))
 
   pub line-event-no : (b p k q : ℕ) (c : Fault) {n m : Number} {r : EventRead} {x : LineRead} → numberIs n ≡ smallFrom s 1 1 at → n ≡ number.Of b p
       → numberIs m ≡ numberFrom s 3 p → m ≡ number.Of k q → eventIs r ≡ eventFrom s k q → r ≡ event-read.Refused c
       → x ≡ refusedLine (answerOf c) → x ≡ lineRead (afterWhen s w at)
   unfolding lineRead
-  line-event-no b p k q c f g h i j l y = y ∙ sym (ap lineRead (after-when s w at) ∙ rw (number-of f g, number-of h i, event-no j l))
+  line-event-no b p k q c f g h i j l y = y ∙ sym (ap lineRead (after-when s w at) ∙ rw (matched numberIs f g, matched numberIs h i, matched eventIs j l))
 
   pub line-type-no : (b p : ℕ) (c : Fault) {n m : Number} {x : LineRead} → numberIs n ≡ smallFrom s 1 1 at → n ≡ number.Of b p
       → numberIs m ≡ numberFrom s 3 p → m ≡ number.Refused c → x ≡ refusedLine (answerOf c) → x ≡ lineRead (afterWhen s w at)
   unfolding lineRead
-  line-type-no b p c f g h i y = y ∙ sym (ap lineRead (after-when s w at) ∙ rw (number-of f g, number-no h i))
+  line-type-no b p c f g h i y = y ∙ sym (ap lineRead (after-when s w at) ∙ rw (matched numberIs f g, matched numberIs h i))
 
   pub line-priority-no : (c : Fault) {n : Number} {x : LineRead} → numberIs n ≡ smallFrom s 1 1 at → n ≡ number.Refused c → x ≡ refusedLine (answerOf c) → x ≡ lineRead (afterWhen s w at)
   unfolding lineRead
-  line-priority-no c f g y = y ∙ sym (ap lineRead (after-when s w at) ∙ rw (number-no f g))
+  line-priority-no c f g y = y ∙ sym (ap lineRead (after-when s w at) ∙ rw (matched numberIs f g))
 
 module _ (s : Source) (at : ℕ) where
   pub line-when : (w : When) (p : ℕ) {r : WhenRead} {x : LineRead} → whenIs r ≡ whenFrom s at → r ≡ when-read.Of w p → x ≡ lineRead (afterWhen s w p) → x ≡ lineRead (lineFrom s at)
   unfolding line parts afterWhen
-  line-when w p f g y = y ∙ sym (rw (sym f ∙ ap whenIs g) (ap lineRead (joins (format afterTime .from s p))))
+  line-when w p f g y = y ∙ sym (rw (matched whenIs f g) (ap lineRead (joins (format afterTime .from s p))))
     where
       joins : (x : Read (Bool × ((k : Kind) × (Body k × Values k)))) → andThen (andThen x (λ y q. got (w, y) q)) (λ y q. got (lineWith y) q) ≡ andThen x (λ y q. got (lineWith (w, y)) q)
       joins (got y q) = refl
@@ -245,23 +234,19 @@ module _ (s : Source) (at : ℕ) where
 
   pub line-when-no : (c : Fault) {r : WhenRead} {x : LineRead} → whenIs r ≡ whenFrom s at → r ≡ when-read.Refused c → x ≡ refusedLine (answerOf c) → x ≡ lineRead (lineFrom s at)
   unfolding line parts lineRead
-  line-when-no c f g y = y ∙ sym (rw (sym f ∙ ap whenIs g))
+  line-when-no c f g y = y ∙ sym (rw (matched whenIs f g))
 
 -- ---- a whole keypad line
 
 module _ (words : List ℕ) (r : LineRead) (e : r ≡ lineInWords words 0) where
-  here : wholeRun (length words) r ≡ keypadLine words
-  unfolding keypadLine
-  here = ap (wholeRun (length words)) e
-
   pub run-whole : {b : Bool} → b ≡ isTaken (r .answer) → b ≡ true → r .next ≡ length words → r ≡ keypadLine words
-  unfolding wholeRun
-  run-whole f g h = sym (cond-true _ _ (sym f ∙ g) ∙ cond-true _ _ (eq-eqb (r .next) (length words) h)) ∙ here
+  unfolding keypadLine wholeRun
+  run-whole f g h = cc (eq-eqb (r .next) (length words) h)
 
   pub run-longer : {b : Bool} {x : LineRead} → b ≡ isTaken (r .answer) → b ≡ true → (r .next ≡ length words → ⊥) → x ≡ refusedLine answer.LeftOver → x ≡ keypadLine words
-  unfolding wholeRun
-  run-longer f g h y = y ∙ sym (cond-true _ _ (sym f ∙ g) ∙ cond-false _ _ (ne-eqb (r .next) (length words) h)) ∙ here
+  unfolding keypadLine wholeRun
+  run-longer f g h y = cc (ne-eqb (r .next) (length words) h)
 
   pub run-refused : {b : Bool} → b ≡ isTaken (r .answer) → b ≡ false → r ≡ keypadLine words
-  unfolding wholeRun
-  run-refused f g = sym (cond-false _ _ (sym f ∙ g)) ∙ here
+  unfolding keypadLine wholeRun
+  run-refused f g = cc

@@ -46,13 +46,14 @@ small [] i p = lit≤ tt
 small (d ∷ ds) zero p = p .0
 small (d ∷ ds) (suc i) p = small ds i (p .1)
 
+heard-lawful : (s : ℕ) (ds : List ℕ) → AllData ds → LawfulHeard (heard s (getD ds 0 0) (getD ds 1 0))
+heard-lawful s ds p = lawful-heard s (getD ds 0 0) (getD ds 1 0) (small ds 0 p) (small ds 1 p)
+
 says-lawful : {s : ℕ} {bs : List ℕ} {c : Call} → Says s bs c → LawfulCall c
 unfolding LawfulCall AllLawful
 says-lawful nothing = tt
-says-lawful (written {s} {k} {ds} {bs} {c} w r) =
-    put-before (heard k (getD ds 0 0) (getD ds 1 0)) c (lawful-heard k (getD ds 0 0) (getD ds 1 0) (small ds 0 (w .plain)) (small ds 1 (w .plain))) (says-lawful r)
-says-lawful (running {s} {ds} {bs} {c} w r) =
-    put-before (heard s (getD ds 0 0) (getD ds 1 0)) c (lawful-heard s (getD ds 0 0) (getD ds 1 0) (small ds 0 (w .plain)) (small ds 1 (w .plain))) (says-lawful r)
+says-lawful (written {s} {k} {ds} {bs} {c} w r) = put-before _ c (heard-lawful k ds (w .plain)) (says-lawful r)
+says-lawful (running {s} {ds} {bs} {c} w r) = put-before _ c (heard-lawful s ds (w .plain)) (says-lawful r)
 says-lawful (system h) = tt
 says-lawful (stray h) = tt
 says-lawful (cut w z) = tt

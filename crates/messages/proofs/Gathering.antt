@@ -4,8 +4,9 @@ use mathlib.Core.List.{List, [], _∷_, _++_, append-assoc, append-nil}
 use Prim.Native.Nat.{ℕ, suc, _+_, _<_, _≤_}
 use native.Mathlib.Numerals.{add-one}
 use native.Mathlib.Omega.{arith}
-use native.Mathlib.Decide.{decLt}
-use borrow.Author.Tests.{lt-ltb, le-ltb, ne-eqb, eq-eqb}
+use borrow.Author.Tests.{ltb-true, ltb-false, le-ltb, ne-eqb, eq-eqb}
+use borrow.Table.Steps.{cases}
+use lib.Dec.{ltb}
 use lib.ListN.{length, getD, take, drop, set, replicate, length-append, length-replicate, drop-of-length-le}
 use lib.Seq.{take-all, take-append-le, length-take-le, drop-cons, set-at}
 use Rattle.laws.proofs.Choice.{cond-true, cond-false}
@@ -54,16 +55,16 @@ put-next ms m h =
 
 add-whole : (ms : List Message) (m : Message) → added (gathered (whole ms)) (Note m) ≡ gathered (whole (ms ++ m ∷ []))
 unfolding added gathered
-add-whole ms m = go (decLt (length ms) most)
-  where
-    go : Dec (length ms < most) → added (gathered (whole ms)) (Note m) ≡ gathered (whole (ms ++ m ∷ []))
-    go (yes h) =
-        let n : length (ms ++ m ∷ []) ≡ length ms + 1 = length-append ms (m ∷ []) in
-        rw (take-all most ms (omega arith), take-all most (ms ++ m ∷ []) (rw n (omega arith)))
-        (cond-true _ _ (lt-ltb (length ms) most h) ∙ (λ i. record { list = put-next ms m h i; count = sym n i; answer = Taken }))
-    go (no h) =
-        rw (take-append-le most ms (m ∷ []) (omega arith))
-        (cond-false _ _ (le-ltb (length (take most ms)) most (rw (length-take-le most ms (omega arith)) (omega arith))))
+add-whole ms m =
+    let n = length-append ms (m ∷ []) in
+    cases (ltb (length ms) most)
+    (λ l.
+    let h = ltb-true (length ms) most l in
+    rw (take-all most ms (omega arith), take-all most (ms ++ m ∷ []) (omega arith))
+    (cond-true _ _ l ∙ (λ i. record { list = put-next ms m h i; count = sym n i; answer = Taken })))
+    (λ l.
+    let h = ltb-false (length ms) most l in
+    rw (take-append-le most ms (m ∷ []) h) (cond-false _ _ (le-ltb (length (take most ms)) most (omega (arith, length-take-le most ms h)))))
 
 add-heard : (ms : List Message) (h : Heard) → added (gathered (whole ms)) h ≡ gathered (whole (kept ms h))
 unfolding added kept
@@ -93,8 +94,8 @@ pub again : {bs : List ℕ} {nothing g g′ : Gathered} {p q : Place} {i b : ℕ
 again {bs} {nothing} {g} {g′} {p} {q} {i} {b} {s} {h} v l e f k a = record {
   ms = kept (v .ms) h;
   empty = v .empty;
-  held = a ∙ ap (λ (x : Gathered). added x h) (v .held) ∙ add-heard (v .ms) h;
-  rest = sym (prefixed-heard (v .ms) h (callFrom q (drop (i + 1) bs))) ∙ ap (prefixed (v .ms)) (sym (here bs p i b (Goes q h) l e (sym k ∙ f))) ∙ v .rest;
+  held = cc (v .held, add-heard (v .ms) h);
+  rest = cc (prefixed-heard (v .ms) h (callFrom q (drop (i + 1) bs)), here bs p i b (Goes q h) l e (sym k ∙ f), v .rest);
 }
 
 -- ---- its ends

@@ -1,4 +1,4 @@
-pub mod Ways
+pub mod OneByte
 pub mod Gathering
 pub mod Meaning
 pub mod Room

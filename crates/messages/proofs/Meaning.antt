@@ -1,11 +1,12 @@
 -- What the reader finds is what the bytes say, for all bytes.
 use mathlib.Core.Path.{_≡_, refl, sym, ap, _∙_, subst}
 use mathlib.Core.Logic.{_⊎_, inl, inr}
-use mathlib.Core.Bool.{Bool, true, false}
+use mathlib.Core.Bool.{false}
 use mathlib.Core.List.{List, [], _∷_, _++_}
 use Prim.Native.Nat.{ℕ, zero, suc, _+_, _<_, _≤_}
 use native.Mathlib.Omega.{arith}
 use native.Mathlib.Decide.{decLt}
+use borrow.Table.Steps.{cases}
 use borrow.Author.Tests.{lt-ltb, le-ltb, ne-eqb, eqb-true}
 use lib.Dec.{eqb}
 use lib.ListN.{length, getD, length-append}
@@ -54,12 +55,9 @@ plain s n e a b k v = cond-false _ _ (ap (λ x. eqb x 8) e ∙ a) ∙ cond-false
 
 size : (s : ℕ) → Size s
 unfolding dataBytes
-size s = go (eqb (kind s) 0xc) (eqb (kind s) 0xd) refl refl
-  where
-    go : (a b : Bool) → eqb (kind s) 0xc ≡ a → eqb (kind s) 0xd ≡ b → Size s
-    go true b p q = one (rw p refl) (plain s 0xc (eqb-true (kind s) 0xc p) refl refl)
-    go false true p q = one (rw (p, q) refl) (plain s 0xd (eqb-true (kind s) 0xd q) refl refl)
-    go false false p q = two (rw (p, q) refl)
+size s =
+    cases (eqb (kind s) 0xc) (λ p. one (rw p) (plain s 0xc (eqb-true (kind s) 0xc p) refl refl))
+    (λ p. cases (eqb (kind s) 0xd) (λ q. one (rw (p, q)) (plain s 0xd (eqb-true (kind s) 0xd q) refl refl)) (λ q. two (rw (p, q))))
 
 -- what follows a place at which s wants n data bytes
 at : ℕ → ℕ → List ℕ → Call
@@ -94,16 +92,15 @@ unfilled-by s n (d ∷ []) bs p l m z =
     ap (λ k. at s k (d ∷ bs)) e ∙ wanted s 2 0 d bs (λ e. omega arith) (p .0) ∙ stopped s 1 d bs (λ e. omega arith) z
 unfilled-by s n (d ∷ e ∷ ds) bs p l m z = absurd (omega arith)
 
-at-most-two : (s : ℕ) → Size s → dataBytes s ≤ 2
-at-most-two s (one e o) = omega arith
-at-most-two s (two e) = omega arith
+some-data : (s : ℕ) → Size s → (0 < dataBytes s) × (dataBytes s ≤ 2)
+some-data s (one e o) = omega arith
+some-data s (two e) = omega arith
 
-has-data : (s : ℕ) → Size s → dataBytes s ≡ 0 → ⊥
-has-data s (one e o) z = omega arith
-has-data s (two e) z = omega arith
+has-data : (s : ℕ) → dataBytes s ≡ 0 → ⊥
+has-data s z = omega (arith, some-data s (size s) .0)
 
 unfilled : (s : ℕ) (ds bs : List ℕ) → Part s ds → Stops bs → at s (dataBytes s) (ds ++ bs) ≡ fault CutShort
-unfilled s ds bs w z = unfilled-by s (dataBytes s) ds bs (w .plain) (w .few) (at-most-two s (size s)) z
+unfilled s ds bs w z = unfilled-by s (dataBytes s) ds bs (w .plain) (w .few) (some-data s (size s) .1) z
 
 -- ---- each way of saying something
 begins : (s k : ℕ) (bs : List ℕ) → firstStatus ≤ k → k < firstSystem → at s 0 (k ∷ bs) ≡ at k (dataBytes k) bs
@@ -114,11 +111,11 @@ resumes : (s d : ℕ) (bs : List ℕ) → firstStatus ≤ s → d < firstStatus 
 unfolding at resumed
 resumes s d bs h l =
     data-byte s d bs l ∙ ap (λ x. rest x bs) (cond-false _ _ (ne-eqb s none (λ e. omega arith)))
-    ∙ sym (wanted s (dataBytes s) 0 d bs (has-data s (size s)) l)
+    ∙ sym (wanted s (dataBytes s) 0 d bs (has-data s) l)
 
 resumes-whole : (s : ℕ) (ds bs : List ℕ) → Whole s ds → at s 0 (ds ++ bs) ≡ at s (dataBytes s) (ds ++ bs)
 unfolding AllData
-resumes-whole s [] bs w = absurd (has-data s (size s) (sym (w .full)))
+resumes-whole s [] bs w = absurd (has-data s (sym (w .full)))
 resumes-whole s (d ∷ ds) bs w = resumes s d (ds ++ bs) (w .status) (w .plain .0)
 
 said : {s : ℕ} {bs : List ℕ} {c : Call} → Says s bs c → at s 0 bs ≡ c
@@ -195,7 +192,7 @@ next n s b bs l rec c = by-byte (decLt b firstStatus) (decLt b firstSystem) c
     after-status p q (some ds cs w z e) = subst (λ x. Told s (b ∷ x)) (sym e) (record { call = fault CutShort; says = cut w z })
 
     under : Channel s → b < firstStatus → Split s (b ∷ bs) → Told s (b ∷ bs)
-    under k p (all [] cs w e) = absurd (has-data s (size s) (sym (w .full)))
+    under k p (all [] cs w e) = absurd (has-data s (sym (w .full)))
     under k p (all (d ∷ ds) cs w e) =
         let f : suc (length bs) ≡ suc (length (ds ++ cs)) = ap length e in
         let r = rec s cs (short ds cs n (omega arith)) k in

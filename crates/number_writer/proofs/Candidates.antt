@@ -2,7 +2,7 @@
 use Prim.Native.Nat.{ℕ, zero, suc, _+_, _-_, _*_, _/_, _%_, _^_, _≤_, _<_}
 use mathlib.Core.Path.{_≡_, refl, sym, ap, _∙_, subst}
 use mathlib.Core.Logic.{_⊎_, inl, inr}
-use mathlib.Core.Bool.{Bool, true, false, not, cond, _&&_, true≢false}
+use mathlib.Core.Bool.{Bool, true, false, not, cond, true≢false}
 use native.Mathlib.Nat.{le-trans, le-of-suc-le-suc, le-antisymm, lt-of-le-of-lt, lt-of-lt-of-le, eq-or-lt-of-le, mul-comm, mul-right-comm, mul-le-mul, mul-le-mul-left, mul-le-mul-right, mul-lt-mul-of-pos-right, lt-of-mul-lt-mul-right, mul-div-mul-right, div-eq-of-lt, div-mul-le-self, lt-div-mul-add, le-div-iff-mul-le, eq-of-mul-eq-mul-left, mod-lt, suc-mul}
 use native.Mathlib.Omega.{arith}
 use borrow.Author.Tests.{eq-eqb, eqb-true}
@@ -37,10 +37,8 @@ same-units (fin u m e) s t a b p h k = eq-of-mul-eq-mul-left (down e) (down-pos 
 between : (a n p : ℕ) → 0 < p → a < n * p + p → n * p < a + p → (n ≡ a / p) ⊎ (n ≡ suc (a / p))
 between a n p P h k =
     let f = a / p in
-    let lo : f ≤ n = le-of-suc-le-suc (lt-of-mul-lt-mul-right p (lt-of-le-of-lt (div-mul-le-self a p) (subst (λ (z : ℕ). a < z) (sym (suc-mul n p)) h))) in
-    let up2 : n * p < suc (suc f) * p =
-    subst (λ (z : ℕ). n * p < z) (sym (suc-mul (suc f) p ∙ ap (λ (z : ℕ). z + p) (suc-mul f p))) (omega (arith, lt-div-mul-add {a = a} {b = p} P)) in
-    let hi : n ≤ suc f = le-of-suc-le-suc (lt-of-mul-lt-mul-right p up2) in
+    let lo : f ≤ n = le-of-suc-le-suc (lt-of-mul-lt-mul-right p (lt-of-le-of-lt (div-mul-le-self a p) (rw (suc-mul n p) h))) in
+    let hi : n ≤ suc f = le-of-suc-le-suc (lt-of-mul-lt-mul-right p (rw (suc-mul (suc f) p, suc-mul f p) (omega (arith, lt-div-mul-add {a = a} {b = p} P)))) in
     elim (eq-or-lt-of-le lo) [ inl e ↦ inl (sym e) | inr l ↦ inr (le-antisymm hi l) ]
 
 around-units : (x : Float) (s : Bool) (u d : ℕ) → d ≤ mostDecimals → (T (finite x) → HasValue x s u (2 ^ 149)) → Around x d (u * 10 ^ d / 2 ^ 149)
@@ -50,7 +48,7 @@ around-units x s u d D v n h r =
     let f : Fraction n c = fraction h D in
     let w : HasValue x (signOf x) (grid binary32 n c) (2 ^ 149) = subst (λ (z : Float). HasValue z (signOf x) (grid binary32 n c) (2 ^ 149)) r (value (signOf x) n c f) in
     let e : grid binary32 n c ≡ u = same-units x (signOf x) s _ u (2 ^ 149) w (v (finite-value x (signOf x) _ (2 ^ 149) w)) in
-    subst (λ (z : ℕ). (n ≡ z * c / 2 ^ 149) ⊎ (n ≡ suc (z * c / 2 ^ 149))) e (between (grid binary32 n c * c) n (2 ^ 149) (pow-pos 149) (close n c f .0) (close n c f .1))
+    rw e at (between (grid binary32 n c * c) n (2 ^ 149) (pow-pos 149) (close n c f .0) (close n c f .1))
 
 -- ---- by the fields of its bits
 low-field : (s : Bool) (e t : ℕ) → e ≡ 0 → T (finite (ofFields binary32 s e t)) → HasValue (ofFields binary32 s e t) s (t * 2 ^ 0) (2 ^ 149)
@@ -80,8 +78,7 @@ of-fields x t = sym (ofBits-toBits binary32 x t)
 
 pub fields-of : (x : Float) (b : ℕ) → T (fits binary32 x) → b ≡ toBits binary32 x → Fields x (b % 2 ^ 31 / 2 ^ 23) (b % 2 ^ 23)
 fields-of x b t e =
-    subst (λ (z : ℕ). Fields x (z % 2 ^ 31 / 2 ^ 23) (z % 2 ^ 23)) (sym e)
-    (record { sign = leb (2 ^ 31) (toBits binary32 x); is = of-fields x t; digits = mod-lt (toBits binary32 x) (pow-pos 23) })
+    rw e (record { sign = leb (2 ^ 31) (toBits binary32 x); is = of-fields x t; digits = mod-lt (toBits binary32 x) (pow-pos 23) })
 
 by-fields : (x : Float) (e t u d : ℕ) (f : Fields x e t) → d ≤ mostDecimals
     → (T (finite (ofFields binary32 (f .sign) e t)) → HasValue (ofFields binary32 (f .sign) e t) (f .sign) u (2 ^ 149)) → Around x d (u * 10 ^ d / 2 ^ 149)
@@ -106,12 +103,12 @@ middle x (suc k) t d D f h l =
     let c = 10 ^ d in
     let a : 149 - k + k ≡ 149 = omega arith in
     let b : 149 - k ≡ 150 - suc k = omega arith in
-    let g : m * 2 ^ k * c / 2 ^ 149 ≡ m * c / 2 ^ (149 - k) =
-    sym (sym (mul-div-mul-right (m * c) (2 ^ (149 - k)) (pow-pos k)) ∙ (λ i. mul-right-comm m c (2 ^ k) i / (sym (pow-add 2 (149 - k) k) ∙ ap (λ (z : ℕ). 2 ^ z) a) i)) in
-    subst (Around x d) (g ∙ ap (λ (z : ℕ). m * c / 2 ^ z) b) (by-fields x (suc k) t (m * 2 ^ k) d f D (high-field (f .sign) k t))
+    let q = mul-div-mul-right (m * c) (2 ^ (149 - k)) (pow-pos k) in
+    let g : m * 2 ^ k * c / 2 ^ 149 ≡ m * c / 2 ^ (150 - suc k) = cc (mul-right-comm m c (2 ^ k), pow-add 2 (149 - k) k) in
+    subst (Around x d) g (by-fields x (suc k) t (m * 2 ^ k) d f D (high-field (f .sign) k t))
 
 pub around-middle : (x : Float) (e t d p : ℕ) → d ≤ mostDecimals → (p ≡ 10 ^ d) × (0 < p) → Fields x e t → 110 ≤ e → e ≤ 150 → Around x d ((8388608 + t) * p / 2 ^ (150 - e))
-around-middle x e t d p D q f h l = subst (λ (c : ℕ). Around x d ((8388608 + t) * c / 2 ^ (150 - e))) (sym (q .0)) (middle x e t d D f h l)
+around-middle x e t d p D q f h l = rw (q .0) (middle x e t d D f h l)
 
 -- the largest numbers stand for those past them
 pub around-last : (x : Float) (d f : ℕ) → Around x d f → 16777214 ≤ f → Around x d 16777214
@@ -167,10 +164,9 @@ bits-are s m e = refl
 one-way : (s : Bool) (m n : ℕ) (e g : ℤ) → T (fits binary32 (fin s m e)) → T (fits binary32 (fin s n g)) → m * up e * down g ≡ n * up g * down e → fin s m e ≡ fin s n g
 one-way s m n e g x y h =
     let l = 2 ^ 149 in
-    let c : m * up e * l * down g ≡ n * up g * l * down e = mul-right-comm (m * up e) l (down g) ∙ ap (λ (z : ℕ). z * l) h ∙ mul-right-comm (n * up g) (down e) l in
-    sym (ofBits-toBits binary32 (fin s m e) x)
-    ∙ ap (ofBits binary32) (bits-are s m e ∙ ap (bits s) (div-same (m * up e * l) (down e) (n * up g * l) (down g) (down-pos e) (down-pos g) c) ∙ sym (bits-are s n g))
-    ∙ ofBits-toBits binary32 (fin s n g) y
+    let c : m * up e * l * down g ≡ n * up g * l * down e = cc (mul-right-comm (m * up e) l (down g), mul-right-comm (n * up g) (down e) l) in
+    let d = div-same (m * up e * l) (down e) (n * up g * l) (down g) (down-pos e) (down-pos g) c in
+    cc (ofBits-toBits binary32 (fin s m e) x, bits-are s m e, bits-are s n g, ofBits-toBits binary32 (fin s n g) y)
 
 -- two floats of one sign that compare equal are one
 same : (x y : Float) → T (fits binary32 x) → T (fits binary32 y) → signOf x ≡ signOf y → eq x y ≡ true → x ≡ y
@@ -194,8 +190,8 @@ equals-itself : (x : Float) (s : Bool) (a c : ℕ) → HasValue x s a c → eq x
 unfolding eq
 equals-itself nan s a c h = absurd h
 equals-itself (inf t) s a c h = absurd h
-equals-itself (fin false m e) s a c h = ap (λ (b : Bool). b && true) (eq-eqb (m * up e * down e) (m * up e * down e) refl)
-equals-itself (fin true m e) s a c h = ap (λ (b : Bool). b && true) (eq-eqb (m * up e * down e) (m * up e * down e) refl)
+equals-itself (fin false m e) s a c h = cc (eq-eqb (m * up e * down e) (m * up e * down e) refl)
+equals-itself (fin true m e) s a c h = cc (eq-eqb (m * up e * down e) (m * up e * down e) refl)
 
 -- what fails it does not
 pub failed : (x : Float) (n d : ℕ) → n < mostNumber → d ≤ mostDecimals → eq (floatOf (signOf x) n d) x ≡ false → Reads x n d → ⊥

@@ -1,3 +1,3 @@
 pub mod Candidates
-pub mod Ways
+pub mod ShortestText
 pub mod Pushing

@@ -42,7 +42,7 @@ unfolding pushAll digitBytes lowest
 digits-again n zero b t h e f r = absurd (let z : 1 ≤ 0 = h in omega arith)
 digits-again n (suc j) b t h e f r =
     let z : suc j - 1 ≡ j = omega arith in
-    ap (λ (x : LineText). pushAll x (digitBytes (lowest (suc j - 1) n))) (f ∙ ap (pushed t) e) ∙ ap (λ (k : ℕ). pushAll (pushed t (48 + n / 10 ^ k % 10)) (digitBytes (lowest k n))) z ∙ r
+    rw (f, e, z) r
 
 pub digits-end : (n j : ℕ) (t : LineText) {w : LineText} → j ≤ 0 → pushAll t (digitBytes (lowest j n)) ≡ w → t ≡ w
 unfolding pushAll digitBytes lowest
@@ -81,8 +81,7 @@ unfolding spelled numeralOf
 number-is t u v r s n d k p z q e f g =
     let xs = digitBytes (decimal (n / 10 ^ d)) in
     let ys = decimalBytes (lowest d n) in
-    g ∙ ap (λ (x : LineText). pushAll x ys) (f ∙ (λ i. pushAll (e i) (digitBytes (decimal (n / q .0 i))))) ∙ sym (push-append (pushAll t (signBytes s)) xs ys)
-    ∙ sym (push-append t (signBytes s) (xs ++ ys)) ∙ ap (λ (j : ℕ). pushAll t (spelled (numeralOf s n j))) z
+    cc (q .0, push-append (pushAll t (signBytes s)) xs ys, push-append t (signBytes s) (xs ++ ys))
 
 -- ---- what a line of text holds
 pub push-appends : PushAppends
@@ -93,9 +92,5 @@ push-appends t (b ∷ bs) r h =
     let p = push-room t b k in
     let a = push-appends (pushed t b) bs (ap (λ (x : LineText). length (x .bytes)) p ∙ length-set (t .bytes) (t .len) b ∙ r) (subst (λ (x : LineText). x .len + length bs ≤ lineRoom) (sym p) (omega arith)) in
     let one : contentOf (pushed t b) ≡ contentOf t ++ (b ∷ []) =
-    ap contentOf p ∙ ap (λ (n : ℕ). take n (set (t .bytes) (t .len) b)) (add-one (t .len)) ∙ take-suc-set (t .bytes) (t .len) b (subst (λ (n : ℕ). t .len < n) (sym r) k) in
-    record {
-      content = a .content ∙ ap (λ (l : List ℕ). l ++ bs) one ∙ append-assoc (contentOf t) (b ∷ []) bs;
-      len = a .len ∙ ap (λ (x : LineText). x .len + length bs) p ∙ omega arith;
-      room = a .room;
-    }
+    ap contentOf p ∙ ap (λ (n : ℕ). take n (set (t .bytes) (t .len) b)) (add-one (t .len)) ∙ take-suc-set (t .bytes) (t .len) b (rw r k) in
+    record { content = cc (a .content, append-assoc (contentOf t) (b ∷ []) bs); len = a .len ∙ ap (λ (x : LineText). x .len + length bs) p ∙ omega arith; room = a .room }

@@ -1,7 +1,7 @@
 -- Every sample of a cycle's block lies within the ceiling.
 use Prim.Native.Nat.{_≤_}
 use Rattle.float32.specs.Limit.{Within}
-use Rattle.float32.proofs.Laws.{every-sample-within}
+use Rattle.float32.proofs.Ceiling.{every-sample-within}
 use Rattle.players.specs.Lists.{All}
 use Rattle.players.specs.Cycle.{Voices, limited}
 use Rattle.players.specs.Holds.{Settings, Due, Plays, bandOf, blockOf}

@@ -1,10 +1,11 @@
 -- The cursor passes exactly the lines of an accepted score. Assumes nothing.
 use Prim.Native.Nat.{ℕ, zero, suc, _-_}
 use mathlib.Core.Path.{_≡_, refl, sym, ap, ap₂, _∙_, subst}
-use mathlib.Core.Bool.{Bool, true, false, cond}
+use mathlib.Core.Bool.{Bool, true, false, cond, true≢false}
 use mathlib.Core.List.{List, [], _∷_}
 use native.Mathlib.Omega.{arith}
 use borrow.Author.Tests.{eqb-true}
+use borrow.Table.Steps.{cases}
 use lib.Dec.{eqb}
 use lib.ListN.{length}
 use Rattle.answer.specs.declared.Answer.{Answer}
@@ -15,14 +16,13 @@ use Rattle.bitstream.specs.Filling.{filled}
 use Rattle.bitstream.specs.declared.Got.{Got}
 use Rattle.bitstream.specs.declared.Got.the-variants.{Value, Short}
 use Rattle.formats.specs.Format.{bitSource, Read, got, refused}
-use Rattle.formats.specs.declared.Fault.{Fault}
 use Rattle.score_line.specs.Reading.{lineFrom, lineAt, lineRead, refusedLine, answerOf}
 use Rattle.score_line.specs.declared.Line.{Line}
 use Rattle.score_line.specs.declared.LineRead.{LineRead}
 use Rattle.score.specs.Score.{Lines, all, faulty, before, lineThen, linesFrom, Score, taken, refusedScore, ended, counted, scoreOf, wholeLine, opened, unitOf}
-use Rattle.score.specs.inside.Walk.{startOf, firstOf, nextOf, walked, Ahead}
+use Rattle.score.specs.inside.Walk.{firstOf, nextOf, walked, Ahead}
 use Rattle.score.specs.declared.Cursor.{Cursor}
-use Rattle.score.proofs.Ways.{fault-not-taken, whole-refused}
+use Rattle.score.proofs.Readers.{fault-not-taken, whole-refused}
 
 -- ---- an accepted score's parts
 
@@ -35,26 +35,16 @@ pub record Accepted (bits : List Bool) (ls : List Line) : Type 0 where
   pub lines-there : linesFrom bits count 0 start ≡ all ls end
   pub filled-there : filled bits end ≡ true
 
-not-taken : (f : Fault) (i : ℕ) (ls : List Line) → refusedScore (answerOf f) i ≡ taken ls → ⊥
-not-taken f i ls e =
-    let k : true ≡ false = ap (λ (s : Score). isTaken (s .answer)) (sym e) ∙ fault-not-taken f in
-    let z : _≡_ {A = ℕ} 0 1 = cc in
-    omega arith
-
 other : (a : Answer) (i : ℕ) (ls : List Line) → refusedScore a i ≡ taken ls → isTaken a ≡ false → ⊥
-other a i ls e f =
-    let k : true ≡ false = ap (λ (s : Score). isTaken (s .answer)) (sym e) ∙ f in
-    let z : _≡_ {A = ℕ} 0 1 = cc in
-    omega arith
+other a i ls e f = true≢false (ap (λ (s : Score). isTaken (s .answer)) (sym e) ∙ f)
 
 end-back : (bits : List Bool) (n p : ℕ) (ls : List Line) (x : Lines) → readAt bits 0 20 ≡ Value n p → linesFrom bits n 0 p ≡ x → ended bits x ≡ taken ls → Accepted bits ls
 unfolding ended
-end-back bits n p ls (faulty f i) g h e = absurd (not-taken f i ls e)
-end-back bits n p ls (all ms q) g h e = go (filled bits q) refl e
-  where
-    go : (b : Bool) → filled bits q ≡ b → cond b (taken ms) (refusedScore LeftOver 0) ≡ taken ls → Accepted bits ls
-    go false f k = absurd (other LeftOver 0 ls k refl)
-    go true f k = record { count = n; start = p; end = q; counted-there = g; lines-there = h ∙ ap (λ (m : List Line). all m q) (ap (λ (s : Score). s .lines) k); filled-there = f }
+end-back bits n p ls (faulty f i) g h e = absurd (other (answerOf f) i ls e (fault-not-taken f))
+end-back bits n p ls (all ms q) g h e =
+    cases (filled bits q)
+    (λ f. record { count = n; start = p; end = q; counted-there = g; lines-there = h ∙ ap (λ (s : Score). all (s .lines) q) (rw f at e); filled-there = f })
+    (λ f. absurd (other LeftOver 0 ls (rw f at e) refl))
 
 count-back : (bits : List Bool) (ls : List Line) (g : Got) → readAt bits 0 20 ≡ g → counted bits g ≡ taken ls → Accepted bits ls
 unfolding counted
@@ -76,7 +66,7 @@ unfolding scoreOf counted ended
 answered bits e = count (readAt bits 0 20) e
   where
     no-more : (a : Answer) (i : ℕ) → isTaken a ≡ false → refusedScore a i .answer ≡ Taken → refusedScore a i ≡ taken []
-    no-more a i f k = absurd (let z : true ≡ false = ap isTaken (sym k) ∙ f in let y : _≡_ {A = ℕ} 0 1 = cc in omega arith)
+    no-more a i f k = absurd (true≢false (ap isTaken (sym k) ∙ f))
 
     filling : (b : Bool) (ms : List Line) → cond b (taken ms) (refusedScore LeftOver 0) .answer ≡ Taken → cond b (taken ms) (refusedScore LeftOver 0) ≡ taken (cond b (taken ms) (refusedScore LeftOver 0) .lines)
     filling true ms k = refl
@@ -100,42 +90,31 @@ pub record Unit-accepted (bits : List Bool) (x : Line) (p : ℕ) : Type 0 where
 
 no-line : (a : Answer) (x : Line) (p : ℕ) → isTaken a ≡ false → refusedLine a ≡ lineRead (got x p) → ⊥
 unfolding refusedLine lineRead
-no-line a x p f e =
-    let k : true ≡ false = ap (λ (r : LineRead). isTaken (r .answer)) (sym e) ∙ f in
-    let z : _≡_ {A = ℕ} 0 1 = cc in
-    omega arith
-
-refused-not-taken : (a : Answer) → isTaken a ≡ false → isTaken (refusedLine a .answer) ≡ false
-unfolding refusedLine
-refused-not-taken a e = e
+no-line a x p f e = true≢false (ap (λ (r : LineRead). isTaken (r .answer)) (sym e) ∙ f)
 
 same-line : (x y : Line) (p q : ℕ) → lineRead (got x p) ≡ lineRead (got y q) → got x p ≡ got y q
 unfolding lineRead
 same-line x y p q e = ap₂ (λ (l : Line) (n : ℕ). got l n) (ap (λ (r : LineRead). r .line) e) (ap (λ (r : LineRead). r .next) e)
 
 module _ (bits : List Bool) (x : Line) (p : ℕ) where
-  filling-back : (start q : ℕ) (y : Line) (b : Bool) → readAt bits 0 2 ≡ Value 0 start → lineFrom (bitSource bits) start ≡ got y q → filled bits q ≡ b
-      → cond b (lineRead (got y q)) (refusedLine LeftOver) ≡ lineRead (got x p) → Unit-accepted bits x p
-  filling-back start q y false f g h e = absurd (no-line LeftOver x p refl e)
-  filling-back start q y true f g h e =
-      let s = same-line y x q p e in
-      let k : q ≡ p = cc in
-      record { start = start; opened-there = f; line-there = g ∙ s; filled-there = ap (filled bits) (sym k) ∙ h }
-
   line-part : (start : ℕ) (r : Read Line) → readAt bits 0 2 ≡ Value 0 start → lineFrom (bitSource bits) start ≡ r → wholeLine bits (lineRead r) ≡ lineRead (got x p) → Unit-accepted bits x p
   unfolding wholeLine lineRead
-  line-part start (got y q) f g e = filling-back start q y (filled bits q) f g refl e
-  line-part start (refused a) f g e = absurd (no-line (answerOf a) x p (fault-not-taken a) (whole-refused bits (refusedLine (answerOf a)) refl (refused-not-taken (answerOf a) (fault-not-taken a)) ∙ e))
-
-  kind-part : (kind start : ℕ) (b : Bool) → readAt bits 0 2 ≡ Value kind start → eqb kind 0 ≡ b
-      → cond b (wholeLine bits (lineAt bits start)) (refusedLine NotCarried) ≡ lineRead (got x p) → Unit-accepted bits x p
-  unfolding lineAt
-  kind-part kind start false f g e = absurd (no-line NotCarried x p refl e)
-  kind-part kind start true f g e = line-part start (lineFrom (bitSource bits) start) (f ∙ ap (λ (k : ℕ). Value k start) (eqb-true kind 0 g)) refl e
+  line-part start (got y q) f g e =
+      cases (filled bits q)
+      (λ h.
+      let s = same-line y x q p (rw h at e) in
+      let k : q ≡ p = cc in
+      record { start = start; opened-there = f; line-there = g ∙ s; filled-there = cc })
+      (λ h. absurd (no-line LeftOver x p refl (rw h at e)))
+  line-part start (refused a) f g e =
+      let n = fault-not-taken a in
+      absurd (no-line (answerOf a) x p n (whole-refused bits (refusedLine (answerOf a)) refl (unfold refusedLine in n) ∙ e))
 
   open-part : (g : Got) → readAt bits 0 2 ≡ g → opened bits g ≡ lineRead (got x p) → Unit-accepted bits x p
-  unfolding opened
-  open-part (Value kind start) f e = kind-part kind start (eqb kind 0) f refl e
+  unfolding opened lineAt
+  open-part (Value kind start) f e =
+      cases (eqb kind 0) (λ g. line-part start (lineFrom (bitSource bits) start) (f ∙ ap (λ (k : ℕ). Value k start) (eqb-true kind 0 g)) refl (rw g at e))
+      (λ g. absurd (no-line NotCarried x p refl (rw g at e)))
   open-part Short f e = absurd (no-line CutShort x p refl e)
 
   pub unit-accepted : unitOf bits ≡ lineRead (got x p) → Unit-accepted bits x p
@@ -149,11 +128,7 @@ pub ahead-first : (bits : List Bool) (ls : List Line) → scoreOf bits ≡ taken
 unfolding firstOf
 ahead-first bits ls e =
     let a = accepted bits ls e in
-    record {
-      number = 0;
-      end = a .end;
-      are = ap (λ (g : Got). linesFrom bits (startOf g .left) 0 (startOf g .at)) (a .counted-there) ∙ a .lines-there;
-    }
+    record { number = 0; end = a .end; are = rw (a .counted-there) (a .lines-there) }
 
 -- what a reading of at least one line is
 pub record More (bits : List Bool) (n i at : ℕ) (ls : List Line) (end : ℕ) : Type 0 where
@@ -204,13 +179,13 @@ pass bits n i at l ls q e =
     let t : ls ≡ m .others = cc in
     let k : suc n - 1 ≡ n = omega arith in
     record {
-      answer = ap (λ (x : Read Line). lineRead x .answer) (m .line-there);
-      line = ap (λ (x : Read Line). lineRead x .line) (m .line-there) ∙ sym h;
+      answer = rw (m .line-there);
+      line = rw (m .line-there) (sym h);
       left = refl;
       ahead = record {
         number = suc i;
         end = q;
-        are = ap₂ (λ (x : ℕ) (y : Read Line). linesFrom bits x (suc i) (lineRead y .next)) k (m .line-there) ∙ m .others-there ∙ ap (λ (x : List Line). all x q) (sym t);
+        are = rw (m .line-there, k) (m .others-there ∙ ap (λ (x : List Line). all x q) (sym t));
       };
     }
 
@@ -232,7 +207,7 @@ walk bits zero c (l ∷ ls) h a = absurd (omega arith)
 walk bits (suc n) c [] h a = absurd (omega arith)
 walk bits (suc n) c (l ∷ ls) h a =
     let p = ahead-next bits c l ls a in
-    ap₂ (λ (x : Line) (y : List Line). x ∷ y) (p .line) (walk bits n (nextOf bits c .rest) ls (omega arith) (p .ahead))
+    cc (p .line, walk bits n (nextOf bits c .rest) ls (omega arith) (p .ahead))
 
 -- walking the cursor over an accepted score gives exactly its lines
 pub walk-all : (bits : List Bool) → scoreOf bits .answer ≡ Taken → walked bits (firstOf bits .left) (firstOf bits) ≡ scoreOf bits .lines

@@ -1,16 +1,16 @@
 -- Slots of an area: their lines, the first fault, the bits of their lines. Assumes nothing.
-use Prim.Native.Nat.{ℕ, zero, suc, _+_, _-_, _*_, _/_, _<_, _≤_, min as lesser}
-use mathlib.Core.Path.{_≡_, refl, sym, ap, ap₂, _∙_, subst}
-use mathlib.Core.Bool.{Bool, true, false, _&&_}
+use Prim.Native.Nat.{ℕ, zero, suc, _+_, _-_, _*_, _/_, _<_, _≤_}
+use mathlib.Core.Path.{_≡_, refl, sym, ap, _∙_}
+use mathlib.Core.Bool.{Bool, true, false}
 use mathlib.Core.List.{List, [], _∷_, _++_, append-assoc, append-nil}
 use native.Mathlib.Nat.{zero-add, add-zero}
 use native.Mathlib.Numerals.{add-one}
-use native.Mathlib.Decide.{decLe}
 use native.Mathlib.Omega.{arith}
-use borrow.Author.Tests.{eq-eqb, ne-eqb, lt-ltb, le-ltb}
-use lib.ListN.{length, getD, take, drop, length-append, length-drop, drop-of-length-le}
-use lib.Seq.{drop-cons, take-all}
-use Rattle.laws.proofs.Choice.{cond-true, cond-false}
+use borrow.Author.Tests.{ne-eqb, lt-ltb, le-ltb, leb-true, leb-false}
+use borrow.Table.Steps.{cases}
+use lib.Dec.{leb}
+use lib.ListN.{length, getD, take, drop, length-append, drop-of-length-le}
+use lib.Seq.{drop-cons}
 use Rattle.answer.specs.Numbers.{isTaken}
 use Rattle.answer.specs.declared.Answer.the-variants as answer
 use Rattle.score_line.specs.Reading.{lineInWords, refusedLine}
@@ -26,15 +26,10 @@ use Rattle.score_writer.specs.inside.Laid.{Short}
 
 module _ (words : List ℕ) (at : ℕ) where
   pub zero-more : (i : ℕ) → allZero (drop i words) ≡ allZero (drop at words) → i < length words → getD words i 0 ≡ 0 → allZero (drop (i + 1) words) ≡ allZero (drop at words)
-  zero-more i h l z =
-      let d : drop i words ≡ getD words i 0 ∷ drop (suc i) words = drop-cons words i 0 l in
-      ap (λ (k : ℕ). allZero (drop k words)) (add-one i)
-      ∙ sym (ap allZero d ∙ ap (λ (b : Bool). b && allZero (drop (suc i) words)) (eq-eqb (getD words i 0) 0 z)) ∙ h
+  zero-more i h l z = cc (drop-cons words i 0 l, add-one i)
 
   pub zero-no : (i : ℕ) → allZero (drop i words) ≡ allZero (drop at words) → i < length words → (getD words i 0 ≡ 0 → ⊥) → false ≡ allZero (drop at words)
-  zero-no i h l z =
-      let d : drop i words ≡ getD words i 0 ∷ drop (suc i) words = drop-cons words i 0 l in
-      sym (ap allZero d ∙ ap (λ (b : Bool). b && allZero (drop (suc i) words)) (ne-eqb (getD words i 0) 0 z)) ∙ h
+  zero-no i h l z = cc (drop-cons words i 0 l, ne-eqb (getD words i 0) 0 z)
 
   pub zero-end : (i : ℕ) → allZero (drop i words) ≡ allZero (drop at words) → length words ≤ i → true ≡ allZero (drop at words)
   zero-end i h l = sym (ap allZero (drop-of-length-le words l)) ∙ h
@@ -42,40 +37,28 @@ module _ (words : List ℕ) (at : ℕ) where
 -- ---- a slot
 
 module _ (slot : List ℕ) {r : LineRead} {b : Bool} (e : r ≡ lineInWords slot 0) (f : b ≡ isTaken (r .answer)) where
-  answer-is : isTaken (lineInWords slot 0 .answer) ≡ b
-  answer-is = sym (f ∙ ap (λ (x : LineRead). isTaken (x .answer)) e)
-
-  rest-is : {z : Bool} → z ≡ allZero (drop (r .next) slot) → allZero (drop (lineInWords slot 0 .next) slot) ≡ z
-  rest-is g = sym (g ∙ ap (λ (x : LineRead). allZero (drop (x .next) slot)) e)
-
   pub slot-whole : {z : Bool} → b ≡ true → z ≡ allZero (drop (r .next) slot) → z ≡ true → r ≡ slotLine slot
   unfolding slotLine
-  slot-whole g k m = e ∙ sym (cond-true _ _ (answer-is ∙ g) ∙ cond-true _ _ (rest-is k ∙ m))
+  slot-whole g k m = cc
 
   pub slot-longer : {z : Bool} {x : LineRead} → b ≡ true → z ≡ allZero (drop (r .next) slot) → z ≡ false → x ≡ refusedLine answer.LeftOver → x ≡ slotLine slot
   unfolding slotLine
-  slot-longer g k m y = y ∙ sym (cond-true _ _ (answer-is ∙ g) ∙ cond-false _ _ (rest-is k ∙ m))
+  slot-longer g k m y = cc
 
   pub slot-refused : b ≡ false → r ≡ slotLine slot
   unfolding slotLine
-  slot-refused g = e ∙ sym (cond-false _ _ (answer-is ∙ g))
+  slot-refused g = cc
 
 module _ (area : List ℕ) (i : ℕ) where
   pub slot-in : {r : LineRead} → i < length area / 18 → r ≡ slotLine (take (18 * i + 18 - 18 * i) (drop (18 * i) area)) → r ≡ slotRead area i
   unfolding slotRead
-  slot-in h e = let n : 18 * i + 18 - 18 * i ≡ 18 = omega arith in e ∙ ap (λ (k : ℕ). slotLine (take k (drop (18 * i) area))) n ∙ sym (cond-true _ _ (lt-ltb i (length area / 18) h))
+  slot-in h e = let n : 18 * i + 18 - 18 * i ≡ 18 = omega arith in cc (lt-ltb i (length area / 18) h)
 
   pub slot-out : {r : LineRead} → length area / 18 ≤ i → r ≡ refusedLine answer.CutShort → r ≡ slotRead area i
   unfolding slotRead
-  slot-out h e = e ∙ sym (cond-false _ _ (le-ltb i (length area / 18) h))
+  slot-out h e = cc (le-ltb i (length area / 18) h)
 
 -- ---- the first fault
-
-fault-from : (area : List ℕ) (n i : ℕ) → i < n → isTaken (slotRead area i .answer) ≡ true → areaFault area (n - i) i ≡ areaFault area (n - (i + 1)) (i + 1)
-unfolding areaFault
-fault-from area n i h e =
-    let k : n - i ≡ suc (n - (i + 1)) = omega arith in
-    ap (λ (j : ℕ). areaFault area j i) k ∙ cond-true _ _ e ∙ ap (λ (j : ℕ). areaFault area (n - (i + 1)) j) (sym (add-one i))
 
 module _ (area : List ℕ) (n : ℕ) where
   pub record Checked (i : ℕ) : Type 0 where
@@ -83,32 +66,30 @@ module _ (area : List ℕ) (n : ℕ) where
     pub same : areaFault area (n - i) i ≡ areaFault area n 0
 
   pub check-start : Checked 0
-  check-start = let k : n - 0 ≡ n = omega arith in record { upto = omega arith; same = ap (λ (j : ℕ). areaFault area j 0) k }
+  check-start = let k : n - 0 ≡ n = omega arith in record { upto = omega arith; same = cc }
 
-  pub check-more : (i : ℕ) {r : LineRead} {b : Bool} → Checked i → i < n → r ≡ slotRead area i → b ≡ isTaken (r .answer) → b ≡ true → Checked (i + 1)
-  check-more i c h e f g =
-      record { upto = omega arith; same = sym (fault-from area n i h (sym (ap (λ (x : LineRead). isTaken (x .answer)) e) ∙ sym f ∙ g)) ∙ c .same }
+  module _ (i : ℕ) {r : LineRead} {b : Bool} (c : Checked i) (h : i < n) (e : r ≡ slotRead area i) (f : b ≡ isTaken (r .answer)) where
+    one-less : n - i ≡ suc (n - (i + 1))
+    one-less = omega arith
 
-  pub check-stop : (i : ℕ) {r : LineRead} {b : Bool} → Checked i → i < n → r ≡ slotRead area i → b ≡ isTaken (r .answer) → b ≡ false
-      → record { answer = r .answer; line = i } ≡ areaFault area n 0
-  unfolding areaFault
-  check-stop i {r} {b} c h e f g =
-      let k : n - i ≡ suc (n - (i + 1)) = omega arith in
-      let t : isTaken (slotRead area i .answer) ≡ false = sym (ap (λ (x : LineRead). isTaken (x .answer)) e) ∙ sym f ∙ g in
-      ap (λ (x : LineRead). record { answer = x .answer; line = i }) e ∙ sym (ap (λ (j : ℕ). areaFault area j i) k ∙ cond-false _ _ t) ∙ c .same
+    pub check-more : b ≡ true → Checked (i + 1)
+    unfolding areaFault
+    check-more g = record { upto = omega arith; same = cc (one-less, add-one i, c .same) }
+
+    pub check-stop : b ≡ false → record { answer = r .answer; line = i } ≡ areaFault area n 0
+    unfolding areaFault
+    check-stop g = cc (one-less, c .same)
 
   pub check-end : (i : ℕ) → Checked i → n ≤ i → record { answer = answer.Taken; line = 0 } ≡ areaFault area n 0
   unfolding areaFault
-  check-end i c h = let k : n - i ≡ 0 = omega arith in sym (ap (λ (j : ℕ). areaFault area j i) k) ∙ c .same
+  check-end i c h = let k : n - i ≡ 0 = omega arith in cc (c .same)
 
 -- ---- the lines and their bits
 
 pub lines-snoc : (area : List ℕ) (n i : ℕ) → areaLines area (suc n) i ≡ areaLines area n i ++ (slotRead area (i + n) .line ∷ [])
 unfolding areaLines
 lines-snoc area zero i = ap (λ (j : ℕ). slotRead area j .line ∷ []) (sym (add-zero i))
-lines-snoc area (suc n) i =
-    let k : suc i + n ≡ i + suc n = omega arith in
-    ap (λ (ls : List Line). slotRead area i .line ∷ ls) (lines-snoc area n (suc i) ∙ ap (λ (j : ℕ). areaLines area n (suc i) ++ (slotRead area j .line ∷ [])) k)
+lines-snoc area (suc n) i = let k : suc i + n ≡ i + suc n = omega arith in cc (lines-snoc area n (suc i))
 
 pub lines-count : (area : List ℕ) (n i : ℕ) → length (areaLines area n i) ≡ n
 unfolding areaLines
@@ -118,24 +99,21 @@ lines-count area (suc n) i = ap suc (lines-count area n (suc i))
 bits-snoc : (ls : List Line) (l : Line) → linesBits (ls ++ (l ∷ [])) ≡ linesBits ls ++ lineBits l
 unfolding linesBits
 bits-snoc [] l = append-nil (lineBits l)
-bits-snoc (x ∷ ls) l = ap (λ (b : List Bool). lineBits x ++ b) (bits-snoc ls l) ∙ sym (append-assoc (lineBits x) (linesBits ls) (lineBits l))
+bits-snoc (x ∷ ls) l = cc (bits-snoc ls l, append-assoc (lineBits x) (linesBits ls) (lineBits l))
 
 -- the bits of one line more
 pub bits-more : (area : List ℕ) (i : ℕ) → linesBits (areaLines area (i + 1) 0) ≡ linesBits (areaLines area i 0) ++ lineBits (slotRead area i .line)
-bits-more area i =
-    ap (λ (j : ℕ). linesBits (areaLines area j 0)) (add-one i) ∙ ap linesBits (lines-snoc area i 0) ∙ bits-snoc (areaLines area i 0) (slotRead area (0 + i) .line)
-    ∙ ap (λ (j : ℕ). linesBits (areaLines area i 0) ++ lineBits (slotRead area j .line)) (zero-add i)
+bits-more area i = cc (add-one i, zero-add i, lines-snoc area i 0, bits-snoc (areaLines area i 0) (slotRead area (0 + i) .line))
 
 pub length-more : (area : List ℕ) (i : ℕ) → length (linesBits (areaLines area (i + 1) 0)) ≡ length (linesBits (areaLines area i 0)) + length (lineBits (slotRead area i .line))
 length-more area i = ap length (bits-more area i) ∙ length-append (linesBits (areaLines area i 0)) (lineBits (slotRead area i .line))
 
 pub bits-grow : (area : List ℕ) (i n : ℕ) → i ≤ n → length (linesBits (areaLines area i 0)) ≤ length (linesBits (areaLines area n 0))
-bits-grow area i zero h = let e : i ≡ 0 = omega arith in subst (λ (j : ℕ). length (linesBits (areaLines area j 0)) ≤ length (linesBits (areaLines area 0 0))) (sym e) (omega arith)
-bits-grow area i (suc n) h = go (decLe i n) (λ k. bits-grow area i n k)
-  where
-    go : Dec (i ≤ n) → (i ≤ n → length (linesBits (areaLines area i 0)) ≤ length (linesBits (areaLines area n 0))) → length (linesBits (areaLines area i 0)) ≤ length (linesBits (areaLines area (suc n) 0))
-    go (yes k) f = omega (arith, f k, length-more area n, ap (λ (j : ℕ). length (linesBits (areaLines area j 0))) (add-one n))
-    go (no k) f = let e : i ≡ suc n = omega arith in subst (λ (j : ℕ). length (linesBits (areaLines area i 0)) ≤ length (linesBits (areaLines area j 0))) e (omega arith)
+bits-grow area i zero h = let e : i ≡ 0 = omega arith in rw e (omega arith)
+bits-grow area i (suc n) h =
+    cases (leb i n)
+    (λ k. omega (arith, bits-grow area i n (leb-true i n k), length-more area n, ap (λ (j : ℕ). length (linesBits (areaLines area j 0))) (add-one n)))
+    (λ k. let e : i ≡ suc n = omega (arith, leb-false i n k) in rw e (omega arith))
 
 pub line-short : (l : Line) (r : ℕ) → length (l .values) ≡ 8 → r ≡ length (lineBits l) → Short (length (lineBits l)) 367 r
 line-short l r h e = record { is = e; bound = omega (arith, length-line l, line-wide l h .1) }
@@ -151,8 +129,7 @@ module _ (area : List ℕ) (n : ℕ) where
 
   pub sum-more : (total i m : ℕ) {r : LineRead} → Summed total i → i < n → r ≡ slotRead area i → Short (length (lineBits (r .line))) 367 m → Summed (total + m) (i + 1)
   sum-more total i m c h e s =
-      let k : m ≡ length (lineBits (slotRead area i .line)) = s .is ∙ ap (λ (x : LineRead). length (lineBits (x .line))) e in
-      record { upto = omega arith; sum = record { is = ap₂ (λ (x y : ℕ). x + y) (c .sum .is) k ∙ sym (length-more area i); bound = omega (arith, c .sum .bound, s .bound) } }
+      record { upto = omega arith; sum = record { is = cc (c .sum .is, s .is, length-more area i); bound = omega (arith, c .sum .bound, s .bound) } }
 
   pub sum-end : (total i : ℕ) → Summed total i → n ≤ i → Short (length (linesBits (areaLines area n 0))) (367 * n) total
-  sum-end total i c h = let e : i ≡ n = omega (arith, c .upto) in subst (λ (j : ℕ). Short (length (linesBits (areaLines area j 0))) (367 * j) total) e (c .sum)
+  sum-end total i c h = let e : i ≡ n = omega (arith, c .upto) in rw e at (c .sum)

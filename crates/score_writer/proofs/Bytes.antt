@@ -16,17 +16,16 @@ use Rattle.formats.specs.Format.{got, fieldBits, small}
 use Rattle.score_line.specs.LineFormat.{timed, when, kind, body, values, float, padded, afterTime, parts, line, lawful}
 use Rattle.score_line.specs.Reading.{lineRead, lineOf}
 use Rattle.score_line.specs.declared.Line.{Line}
-use Rattle.score_line.specs.declared.LineRead.{LineRead}
 use Rattle.line_writer.specs.Writing.{lineBefore, lineBits}
 use Rattle.score.specs.Score.{Score, scoreOf, unitOf}
 use Rattle.score.proofs.Walk.{answered}
 use Rattle.score_writer.specs.Writing.{linesBits, scoreBits, scoreBytes, unitBits, unitBytes}
 use Rattle.score_writer.specs.Bytes.{ScoreBytesRead, ScoreBytesWritten, ScoreBytesTell, UnitBytesRead, UnitBytesWritten, UnitBytesTell, Example}
-use Rattle.score_writer.proofs.Whole.{score-here, whole-bytes, score-back, unit-here, whole-unit, unit-back}
+use Rattle.score_writer.proofs.BitsAndBack.{whole-bytes, score-here, score-back, unit-here, unit-back}
 
 pub score-bytes-read : ScoreBytesRead
-unfolding scoreBytes
-score-bytes-read ls w h = ap scoreOf (bitsOf-bytesOf (scoreBits ls) (whole-bytes ls)) ∙ score-here ls w h
+unfolding scoreBytes scoreBits
+score-bytes-read ls w h = ap scoreOf (bitsOf-bytesOf (scoreBits ls) (whole-bytes 20 (length ls) (linesBits ls))) ∙ score-here ls w h
 
 whole : (s : List ℕ) → length (bitsOf s) % 8 ≡ 0
 whole s = omega (arith, length-bitsOf s)
@@ -43,14 +42,14 @@ score-bytes-tell ls ms a b c d e =
     ap (λ (x : Score). x .lines) (sym (score-bytes-read ls a c) ∙ ap (λ (x : List ℕ). scoreOf (bitsOf x)) e ∙ score-bytes-read ms b d)
 
 pub unit-whole : (l : Line) → T (lawful l) → unitOf (bitsOf (unitBytes l)) ≡ lineRead (got l (2 + length (lineBits l)))
-unfolding unitBytes
-unit-whole l w = ap unitOf (bitsOf-bytesOf (unitBits l) (whole-unit l)) ∙ unit-here l w
+unfolding unitBytes unitBits
+unit-whole l w = ap unitOf (bitsOf-bytesOf (unitBits l) (whole-bytes 2 0 (lineBits l))) ∙ unit-here l w
 
 pub unit-bytes-read : UnitBytesRead
 unfolding lineRead
 unit-bytes-read l w =
     let e = unit-whole l w in
-    record { answer = ap (λ (r : LineRead). r .answer) e; line = ap (λ (r : LineRead). r .line) e }
+    record { answer = cc; line = cc }
 
 -- a unit that was taken, as its line and the position past it
 unit-answered : (bits : List Bool) → unitOf bits .answer ≡ Taken → unitOf bits ≡ lineRead (got (unitOf bits .line) (unitOf bits .next))
@@ -65,7 +64,7 @@ unit-bytes-written s h e =
     (b .lawful, ap bytesOf (sym (b .bits)) ∙ bytesOf-bitsOf s h)
 
 pub unit-bytes-tell : UnitBytesTell
-unit-bytes-tell l m a b e = sym (unit-bytes-read l a .line) ∙ ap (λ (x : List ℕ). unitOf (bitsOf x) .line) e ∙ unit-bytes-read m b .line
+unit-bytes-tell l m a b e = cc (unit-bytes-read l a .line, unit-bytes-read m b .line)
 
 -- 00 00 18 FE 00 00 01 00
 pub example : Example

@@ -1,13 +1,14 @@
 -- Reading and writing undo each other through the public calls. Assumes nothing.
-use Prim.Native.Nat.{ℕ, zero, suc, _+_, _-_, _*_, _^_, _<_, _≤_}
+use Prim.Native.Nat.{ℕ, suc, _+_, _-_, _*_, _≤_}
 use mathlib.Core.Path.{_≡_, refl, sym, ap, ap₂, _∙_, subst}
-use mathlib.Core.Bool.{Bool, true, false, cond, _&&_, true≢false}
+use mathlib.Core.Bool.{Bool, true, false, cond, true≢false}
 use mathlib.Core.List.{List, [], _∷_, _++_, append-nil, map}
 use native.Mathlib.Omega.{arith}
 use borrow.Author.Tests.{le-leb, leb-true, eqb-true}
+use borrow.Table.Steps.{cases}
 use lib.Dec.{T, leb}
-use lib.ListN.{length, getD, take, drop, replicate, length-append, take-append-drop}
-use lib.Seq.{take-at, length-take-le}
+use lib.ListN.{length, take, drop, replicate, length-append, take-append-drop}
+use lib.Seq.{take-at}
 use lib.Ieee.Bits.{is-true}
 use lib.Ieee.Fits.{and-l, and-r}
 use Rattle.laws.proofs.Choice.{cond-true, cond-false}
@@ -18,12 +19,11 @@ use Rattle.bitstream.specs.Bits.{bitsOf, field}
 use Rattle.bitstream.specs.Fields.{farthest, over}
 use Rattle.bitstream.specs.Filling.{filledUp, bytesOf}
 use Rattle.bitstream.proofs.Fields.{drop-over, bitsOf-inj}
-use Rattle.formats.specs.Format.{got}
 use Rattle.score_line.specs.LineFormat.{lawful}
 use Rattle.score_line.specs.Reading.{lineAt, keypadLine, lineRead}
 use Rattle.score_line.specs.declared.Line.{Line}
 use Rattle.score_line.specs.declared.LineRead.{LineRead}
-use Rattle.line_writer.specs.Writing.{lineBits, lineWords, lineFault, lineSlot, bitsFit, LineWritten}
+use Rattle.line_writer.specs.Writing.{lineBefore, lineBits, lineFault, lineSlot, bitsFit}
 use Rattle.line_writer.specs.Claims.{taken, FaultNumber, no-fault, out-of-range, too-many-values}
 use Rattle.line_writer.specs.Stored.{stored, meant}
 use Rattle.line_writer.proofs.Writes.{fit-back}
@@ -31,34 +31,34 @@ use Rattle.line_writer.proofs.Proved.{values-long, before-append, line-here, li
 use Rattle.line_writer.proofs.AnyLine.{every-meant, fault-numbers}
 use Rattle.score.specs.Score as score
 use Rattle.score.specs.Score.{Score, scoreOf, unitOf}
-use Rattle.score.specs.declared.ScoreRead.{ScoreRead}
-use Rattle.score.proofs.Walk.{answered}
 use Rattle.score_area.specs.Area.{areaWords, laid, decodedOf, areaAfter, carried, Left}
 use Rattle.score_area.specs.declared.Decoded.{Decoded}
+use Rattle.score_area.proofs.Slots.{taken-is}
 use Rattle.score_writer.specs.Writing.{linesBits, scoreBits, scoreBytes, unitBits, unitBytes, mostLines}
 use Rattle.score_writer.specs.Bytes.{allLawful}
 use Rattle.score_writer.specs.Slots.{slotRead, areaFault, areaLines}
 use Rattle.score_writer.specs.Written.{refusal, told, left, scoreWritten, scoreLeft, unitWritten, unitLeft, slotWritten, slotLeft, ScoreDone, UnitDone, SlotDone}
-use Rattle.score_writer.specs.Claims.{Bytes, Words, Took, LineReadBack, LineWrittenBack, KeypadReadBack, KeypadWrittenBack, SlotsBack, ScoreReadBack, BytesBack, ScoreWrittenBack, UnitReadBack, UnitWrittenBack, SlotReadBack, SlotWrittenBack, allStored, linesFault, linesWritten, linesLeft, WriterNumber, AsLines, LinesWritten}
+use Rattle.score_writer.specs.Claims.{Took, LineReadBack, LineWrittenBack, KeypadReadBack, KeypadWrittenBack, SlotsBack, ScoreReadBack, BytesBack, ScoreWrittenBack, UnitReadBack, UnitWrittenBack, SlotReadBack, SlotWrittenBack, allStored, linesFault, linesWritten, linesLeft, WriterNumber, LinesWritten}
 use Rattle.score_writer.specs.Claims as claims
 use Rattle.score_writer.specs.declared.Written.{Written}
 use Rattle.score_writer.proofs.Area.{lines-count}
 use Rattle.score_writer.proofs.Lays.{line-laid}
 use Rattle.score_writer.proofs.Bytes.{score-bytes-read, score-bytes-written, unit-bytes-read, unit-bytes-written, unit-whole}
-use Rattle.score_writer.proofs.InSlots.{zero-taken, zero-is, as-taken, slot-split, slot-long, held-from, first-slot, stored-from, slot-of, slots-back}
+use Rattle.score_writer.proofs.InSlots.{zero-is, as-taken, slot-split, slot-long, held-from, first-slot, stored-from, slot-of, slots-back}
 
 -- ---- lines
 
 took : {r : LineRead} {l : Line} {p : ℕ} → r ≡ taken l p → Took r l p
-took e = record { number = ap (λ (x : LineRead). numberOf (x .answer)) e; line = ap (λ (x : LineRead). x .line) e; next = ap (λ (x : LineRead). x .next) e }
+took e = record { number = cc; line = cc; next = cc }
 
 pub line-read-back : LineReadBack
 line-read-back old new at p l h w f =
     let b = lineBits l in
     let k = fit-back (length (bitsOf old)) at (length b) (is-true (bitsFit (length (bitsOf old)) at (length b)) f) in
     let d = line-laid (bitsOf old) (bitsOf new) at p l (k .0) (k .1) w in
-    let e : drop at (bitsOf new) ≡ b ++ drop (at + length b) (bitsOf old) = ap (drop at) (d .stands) ∙ drop-over (bitsOf old) at b (k .1) in
-    took (line-here (bitsOf new) at l (drop (at + length b) (bitsOf old)) h (k .0) (e ∙ before-append l (drop (at + length b) (bitsOf old))) .0 ∙ ap (taken l) (sym (d .past)))
+    let rest = drop (at + length b) (bitsOf old) in
+    let e : drop at (bitsOf new) ≡ lineBefore l rest = cc (d .stands, drop-over (bitsOf old) at b (k .1), before-append l rest) in
+    took (cc (line-here (bitsOf new) at l rest h (k .0) e .0, d .past))
 
 pub line-written-back : LineWrittenBack
 line-written-back s t at p hs ht e near w =
@@ -68,9 +68,8 @@ line-written-back s t at p hs ht e near w =
     let n : at + length b ≤ farthest = omega (arith, h .past) in
     let m : at + length b ≤ length (bitsOf s) = omega (arith, h .past, h .within) in
     let d = line-laid (bitsOf s) (bitsOf t) at p (r .line) n m w in
-    let same : over (bitsOf s) at b ≡ bitsOf s =
-    ap (λ (j : ℕ). take at (bitsOf s) ++ (b ++ drop j (bitsOf s))) (sym (h .past)) ∙ ap (λ (x : List Bool). take at (bitsOf s) ++ x) (before-append (r .line) (drop (r .next) (bitsOf s)) ∙ sym (h .here)) ∙ take-append-drop at (bitsOf s) in
-    (bitsOf-inj t s ht hs (d .stands ∙ same), d .past ∙ sym (h .past))
+    let same : over (bitsOf s) at b ≡ bitsOf s = cc (h .past, h .here, before-append (r .line) (drop (r .next) (bitsOf s)), take-append-drop at (bitsOf s)) in
+    (bitsOf-inj t s ht hs (d .stands ∙ same), cc (d .past, h .past))
 
 pub keypad-read-back : KeypadReadBack
 keypad-read-back l h = took (words-read-back l h)
@@ -83,28 +82,17 @@ keypad-written-back ws h e =
 
 -- ---- bytes that were told
 
--- the answer for bytes that have room, and what is left
-module _ (b out : List ℕ) (h : length b ≤ length out) where
-  told-yes : told b (length out) ≡ record { answer = answer.Taken; line = 0; bytes = length b }
-  told-yes = cond-true _ _ (le-leb (length b) (length out) h)
-
-  left-yes : left b out ≡ b ++ drop (length b) out
-  left-yes = cond-true _ _ (le-leb (length b) (length out) h)
-
 pub bytes-back : (b out new : List ℕ) (w : Written) → length b ≤ length out → w ≡ told b (length out) → new ≡ left b out → BytesBack b out new w
-bytes-back b out new w h e f =
-    let t = e ∙ told-yes b out h in
-    record { number = ap (λ (x : Written). numberOf (x .answer)) t; line = ap (λ (x : Written). x .line) t; bytes = ap (λ (x : Written). x .bytes) t; are = f ∙ left-yes b out h }
+bytes-back b out new w h e f = let t = le-leb (length b) (length out) h in let k = e ∙ cond-true _ _ t in record { number = cc; line = cc; bytes = cc; are = cc }
+
+-- no answer of the number 0 refuses
+never : {X : Type 0} (a : Answer) → numberOf a ≡ 0 → isTaken a ≡ false → X
+never a e f = absurd (true≢false (cc))
 
 -- what was told as written stands at the start
 pub told-zero : (b out new : List ℕ) (w : Written) → w ≡ told b (length out) → new ≡ left b out → numberOf (w .answer) ≡ 0 → take (w .bytes) new ≡ b
-told-zero b out new w e f z = go (leb (length b) (length out)) refl
-  where
-    go : (t : Bool) → leb (length b) (length out) ≡ t → take (w .bytes) new ≡ b
-    go true k =
-        let h = leb-true (length b) (length out) k in
-        ap₂ (λ (x : Written) (y : List ℕ). take (x .bytes) y) (e ∙ told-yes b out h) (f ∙ left-yes b out h) ∙ take-at b (drop (length b) out) (length b) refl
-    go false k = absurd (let y : numberOf answer.NoRoom ≡ 0 = sym (ap (λ (x : Written). numberOf (x .answer)) (e ∙ cond-false _ _ k)) ∙ z in omega arith)
+told-zero b out new w e f z = cases (leb (length b) (length out)) (λ k. cc (e ∙ cond-true _ _ k, take-at b (drop (length b) out) (length b) refl))
+    (λ k. never (w .answer) z (cc (e ∙ cond-false _ _ k)))
 
 -- ---- a score that was written
 
@@ -115,23 +103,20 @@ record WroteScore (area : List ℕ) (n : ℕ) (out new : List ℕ) (w : Written)
 
 wrote-score : (area : List ℕ) (n : ℕ) (out new : List ℕ) (w : Written) → ScoreDone area n out new w → numberOf (w .answer) ≡ 0 → WroteScore area n out new w
 unfolding scoreWritten scoreLeft
-wrote-score area n out new w d z = go (isTaken (areaFault area n 0 .answer)) (leb n mostLines) refl refl (d .answers) (d .leaves)
-  where
-    go : (a b : Bool) → isTaken (areaFault area n 0 .answer) ≡ a → leb n mostLines ≡ b
-        → w ≡ cond a (cond b (told (scoreBytes (areaLines area n 0)) (length out)) (refusal answer.OutOfRange 0)) (refusal (areaFault area n 0 .answer) (areaFault area n 0 .line))
-        → new ≡ cond a (cond b (left (scoreBytes (areaLines area n 0)) out) out) out → WroteScore area n out new w
-    go true true e f x y = record { fault = zero-is (areaFault area n 0 .answer) (eqb-true (numberOf (areaFault area n 0 .answer)) 0 e); few = leb-true n mostLines f; bytes = told-zero (scoreBytes (areaLines area n 0)) out new w x y z }
-    go true false e f x y = absurd (let k : numberOf answer.OutOfRange ≡ 0 = sym (ap (λ (r : Written). numberOf (r .answer)) x) ∙ z in omega arith)
-    go false b e f x y = absurd (true≢false (sym (zero-taken (areaFault area n 0 .answer) (sym (ap (λ (r : Written). numberOf (r .answer)) x) ∙ z)) ∙ e))
+wrote-score area n out new w d z =
+    let f = areaFault area n 0 .answer in
+    cases (isTaken f)
+    (λ e. cases (leb n mostLines)
+    (λ k.
+    let b = told-zero (scoreBytes (areaLines area n 0)) out new w (cc (d .answers)) (cc (d .leaves)) z in
+    record { fault = taken-is f e; few = leb-true n mostLines k; bytes = b })
+    (λ k. never (w .answer) z (cc (d .answers ∙ cond-true _ _ e ∙ cond-false _ _ k)))) (λ e. never (w .answer) z (cc (d .answers ∙ cond-false _ _ e)))
 
 -- and one that can be
 can-write : (area : List ℕ) (n : ℕ) (out new : List ℕ) (w : Written) (s : List ℕ) → ScoreDone area n out new w → areaFault area n 0 .answer ≡ answer.Taken → n ≤ mostLines
     → scoreBytes (areaLines area n 0) ≡ s → length s ≤ length out → BytesBack s out new w
 unfolding scoreWritten scoreLeft
-can-write area n out new w s d f few e h =
-    let a : isTaken (areaFault area n 0 .answer) ≡ true = ap isTaken f in
-    let b = le-leb n mostLines few in
-    bytes-back s out new w h (d .answers ∙ cond-true _ _ a ∙ cond-true _ _ b ∙ ap (λ (x : List ℕ). told x (length out)) e) (d .leaves ∙ cond-true _ _ a ∙ cond-true _ _ b ∙ ap (λ (x : List ℕ). left x out) e)
+can-write area n out new w s d f few e h = let b = le-leb n mostLines few in bytes-back s out new w h (cc (d .answers)) (cc (d .leaves))
 
 -- ---- lines that are decoded into an area
 
@@ -141,43 +126,28 @@ pub record Decodes (ls : List Line) (old new : List ℕ) (r : Decoded) : Type 0 
 
 pub decodes : (s : Score) (ls : List Line) (old new : List ℕ) (r : Decoded) → s .answer ≡ answer.Taken → s .lines ≡ ls → 18 * length ls ≤ length old → Left s old new r → Decodes ls old new r
 unfolding decodedOf areaAfter laid
-decodes s ls old new r a e h d =
-    let t : isTaken (s .answer) ≡ true = ap isTaken a in
-    let k : leb (18 * length (s .lines)) (length old) ≡ true = ap (λ (x : List Line). leb (18 * length x) (length old)) e ∙ le-leb (18 * length ls) (length old) h in
-    record {
-      is = d .told ∙ cond-true _ _ t ∙ cond-true _ _ k ∙ ap (λ (x : List Line). record { answer = answer.Taken; line = 0; count = length x }) e;
-      words = d .area ∙ cond-true _ _ t ∙ cond-true _ _ k ∙ ap (λ (x : List Line). areaWords x ++ drop (length (areaWords x)) old) e;
-    }
+decodes s ls old new r a e h d = let k = le-leb (18 * length ls) (length old) h in record { is = cc (d .told); words = cc (d .area) }
 
 -- what was decoded was read, and had room
 pub decoded-zero : (s : Score) (old new : List ℕ) (r : Decoded) → Left s old new r → numberOf (r .answer) ≡ 0 → (s .answer ≡ answer.Taken) × (18 * length (s .lines) ≤ length old)
 unfolding decodedOf
-decoded-zero s old new r d z = go (isTaken (s .answer)) (leb (18 * length (s .lines)) (length old)) refl refl (d .told)
-  where
-    go : (a b : Bool) → isTaken (s .answer) ≡ a → leb (18 * length (s .lines)) (length old) ≡ b
-        → r ≡ cond a (cond b (record { answer = answer.Taken; line = 0; count = length (s .lines) }) (record { answer = answer.NoRoom; line = 0; count = 0 })) (record { answer = s .answer; line = s .line; count = 0 })
-        → (s .answer ≡ answer.Taken) × (18 * length (s .lines) ≤ length old)
-    go true true e f x = (zero-is (s .answer) (eqb-true (numberOf (s .answer)) 0 e), leb-true (18 * length (s .lines)) (length old) f)
-    go true false e f x = absurd (let k : numberOf answer.NoRoom ≡ 0 = sym (ap (λ (y : Decoded). numberOf (y .answer)) x) ∙ z in omega arith)
-    go false b e f x = absurd (true≢false (sym (zero-taken (s .answer) (sym (ap (λ (y : Decoded). numberOf (y .answer)) x) ∙ z)) ∙ e))
+decoded-zero s old new r d z =
+    cases (isTaken (s .answer))
+    (λ e. cases (leb (18 * length (s .lines)) (length old)) (λ f. (taken-is (s .answer) e, leb-true (18 * length (s .lines)) (length old) f))
+    (λ f. never (r .answer) z (cc (d .told ∙ cond-true _ _ e ∙ cond-false _ _ f))))
+    (λ e. never (r .answer) z (cc (d .told ∙ cond-false _ _ e)))
 
 -- lines whose words are the first n slots of an area
 pub slots-decoded : (area : List ℕ) (n : ℕ) (ls : List Line) (into new : List ℕ) (d : Decoded) → length ls ≡ n → areaWords ls ≡ take (18 * n) area → length (take (18 * n) area) ≡ 18 * n
     → Decodes ls into new d → SlotsBack area n into new d
-slots-decoded area n ls into new d c e m k =
-    record {
-      number = ap (λ (x : Decoded). numberOf (x .answer)) (k .is);
-      line = ap (λ (x : Decoded). x .line) (k .is);
-      count = ap (λ (x : Decoded). x .count) (k .is) ∙ c;
-      words = k .words ∙ ap (λ (x : List ℕ). x ++ drop (length x) into) e ∙ ap (λ (j : ℕ). take (18 * n) area ++ drop j into) m;
-    }
+slots-decoded area n ls into new d c e m k = record { number = cc (k .is); line = cc (k .is); count = cc (k .is); words = cc (k .words) }
 
 pub words-long : (ls : List Line) → T (allLawful ls) → length (areaWords ls) ≡ 18 * length ls
 unfolding areaWords allLawful
 words-long [] h = refl
 words-long (l ∷ ls) h =
-    let k : 18 + 18 * length ls ≡ 18 * suc (length ls) = omega arith in
-    length-append (lineSlot l) (areaWords ls) ∙ ap₂ (λ (x y : ℕ). x + y) (slot-long l (values-long l (and-l (lawful l) (allLawful ls) h))) (words-long ls (and-r (lawful l) (allLawful ls) h)) ∙ k
+    let s = slot-long l (values-long l (and-l (lawful l) (allLawful ls) h)) in
+    omega (arith, length-append (lineSlot l) (areaWords ls), words-long ls (and-r (lawful l) (allLawful ls) h))
 
 -- ---- scores
 
@@ -197,7 +167,7 @@ score-written-back s area words out new d w hs dec z done room =
     let a = decoded-zero (scoreOf (bitsOf s)) area words d dec z in
     let b = score-bytes-written s hs (a .0) in
     let k = decodes (scoreOf (bitsOf s)) ls area words d (a .0) refl (a .1) dec in
-    let c : d .count ≡ length ls = ap (λ (x : Decoded). x .count) (k .is) in
+    let c : d .count ≡ length ls = cc (k .is) in
     let f = held-from ls words (drop (length (areaWords ls)) area) 0 (b .lawful-lines) (k .words) in
     can-write words (length ls) out new w s (subst (λ (j : ℕ). ScoreDone words j out new w) c done) (f .0) (b .count) (ap scoreBytes (f .1) ∙ b .bytes-are) room
 
@@ -209,11 +179,10 @@ record WroteUnit (l : Line) (out new : List ℕ) (w : Written) : Type 0 where
 
 wrote-unit : (l : Line) (out new : List ℕ) (w : Written) → UnitDone l out new w → numberOf (w .answer) ≡ 0 → WroteUnit l out new w
 unfolding unitWritten unitLeft
-wrote-unit l out new w d z = go (isTaken (lineFault l)) refl (d .answers) (d .leaves)
-  where
-    go : (a : Bool) → isTaken (lineFault l) ≡ a → w ≡ cond a (told (unitBytes l) (length out)) (refusal (lineFault l) 0) → new ≡ cond a (left (unitBytes l) out) out → WroteUnit l out new w
-    go true e x y = record { fault = eqb-true (numberOf (lineFault l)) 0 e; bytes = told-zero (unitBytes l) out new w x y z }
-    go false e x y = absurd (true≢false (sym (zero-taken (lineFault l) (sym (ap (λ (r : Written). numberOf (r .answer)) x) ∙ z)) ∙ e))
+wrote-unit l out new w d z =
+    cases (isTaken (lineFault l))
+    (λ e. record { fault = eqb-true (numberOf (lineFault l)) 0 e; bytes = told-zero (unitBytes l) out new w (cc (d .answers)) (cc (d .leaves)) z })
+    (λ e. never (w .answer) z (cc (d .answers ∙ cond-false _ _ e)))
 
 meant-unit : (l : Line) → lineBits (meant l) ≡ lineBits l → unitBytes (meant l) ≡ unitBytes l
 unfolding unitBytes unitBits
@@ -233,9 +202,7 @@ lawful-fault l h = ap (λ (x : LineRead). x .answer) (words-read-back l h)
 
 can-unit : (l : Line) (out new : List ℕ) (w : Written) (s : List ℕ) → T (lawful l) → UnitDone l out new w → unitBytes l ≡ s → length s ≤ length out → BytesBack s out new w
 unfolding unitWritten unitLeft
-can-unit l out new w s h d e room =
-    let a : isTaken (lineFault l) ≡ true = ap isTaken (lawful-fault l h) in
-    bytes-back s out new w room (d .answers ∙ cond-true _ _ a ∙ ap (λ (x : List ℕ). told x (length out)) e) (d .leaves ∙ cond-true _ _ a ∙ ap (λ (x : List ℕ). left x out) e)
+can-unit l out new w s h d e room = let a = lawful-fault l h in bytes-back s out new w room (cc (d .answers)) (cc (d .leaves))
 
 pub unit-written-back : UnitWrittenBack
 unit-written-back s out new w hs z done room =
@@ -245,12 +212,9 @@ unit-written-back s out new w hs z done room =
 -- a slot that was written
 slot-unit : (area out new : List ℕ) (w : Written) → SlotDone area out new w → numberOf (w .answer) ≡ 0 → (isTaken (slotRead area 0 .answer) ≡ true) × UnitDone (slotRead area 0 .line) out new w
 unfolding slotWritten slotLeft
-slot-unit area out new w d z = go (isTaken (slotRead area 0 .answer)) refl (d .answers) (d .leaves)
-  where
-    go : (a : Bool) → isTaken (slotRead area 0 .answer) ≡ a → w ≡ cond a (unitWritten (slotRead area 0 .line) (length out)) (refusal (slotRead area 0 .answer) 0) → new ≡ cond a (unitLeft (slotRead area 0 .line) out) out
-        → (isTaken (slotRead area 0 .answer) ≡ true) × UnitDone (slotRead area 0 .line) out new w
-    go true e x y = (e, record { answers = x; leaves = y })
-    go false e x y = absurd (true≢false (sym (zero-taken (slotRead area 0 .answer) (sym (ap (λ (r : Written). numberOf (r .answer)) x) ∙ z)) ∙ e))
+slot-unit area out new w d z =
+    cases (isTaken (slotRead area 0 .answer)) (λ e. (e, record { answers = cc (d .answers); leaves = cc (d .leaves) }))
+    (λ e. never (w .answer) z (cc (d .answers ∙ cond-false _ _ e)))
 
 pub slot-read-back : SlotReadBack
 unfolding carried areaWords
@@ -275,10 +239,7 @@ slot-written-back s area words out new d w hs dec z done room =
     let f = first-slot (r .line) words (drop (length (areaWords (r .line ∷ []))) area) (b .0) (k .words ∙ ap (λ (x : List ℕ). x ++ drop (length (areaWords (r .line ∷ []))) area) (append-nil (lineSlot (r .line)))) in
     let t : isTaken (slotRead words 0 .answer) ≡ true = ap (λ (x : LineRead). isTaken (x .answer)) f in
     can-unit (r .line) out new w s (b .0)
-    (record {
-      answers = done .answers ∙ cond-true _ _ t ∙ ap (λ (x : LineRead). unitWritten (x .line) (length out)) f;
-      leaves = done .leaves ∙ cond-true _ _ t ∙ ap (λ (x : LineRead). unitLeft (x .line) out) f;
-    }) (b .1) room
+    (record { answers = cc (done .answers); leaves = cc (done .leaves) }) (b .1) room
 
 -- ---- the answers for any lines
 
@@ -289,12 +250,12 @@ map-count (l ∷ ls) = ap suc (map-count ls)
 meant-bits : (ls : List Line) (i : ℕ) → T (allStored ls) → isTaken (linesFault ls i .answer) ≡ true → linesBits (map meant ls) ≡ linesBits ls
 unfolding linesBits linesFault
 meant-bits [] i h e = refl
-meant-bits (l ∷ ls) i h e = go (isTaken (lineFault l)) refl e (λ k. meant-bits ls (suc i) (and-r (stored l) (allStored ls) h) k)
-  where
-    go : (b : Bool) → isTaken (lineFault l) ≡ b → isTaken (cond b (linesFault ls (suc i)) (record { answer = lineFault l; line = i }) .answer) ≡ true
-        → (isTaken (linesFault ls (suc i) .answer) ≡ true → linesBits (map meant ls) ≡ linesBits ls) → lineBits (meant l) ++ linesBits (map meant ls) ≡ lineBits l ++ linesBits ls
-    go true f k r = ap₂ (λ (x y : List Bool). x ++ y) (every-meant l (and-l (stored l) (allStored ls) h) (eqb-true (numberOf (lineFault l)) 0 f) .same-bits) (r k)
-    go false f k r = absurd (true≢false (sym k ∙ f))
+meant-bits (l ∷ ls) i h e =
+    cases (isTaken (lineFault l))
+    (λ f.
+    let m = every-meant l (and-l (stored l) (allStored ls) h) (eqb-true (numberOf (lineFault l)) 0 f) in
+    cc (m .same-bits, meant-bits ls (suc i) (and-r (stored l) (allStored ls) h) (cc)))
+    (λ f. absurd (true≢false (cc)))
 
 meant-bytes : (ls : List Line) → T (allStored ls) → isTaken (linesFault ls 0 .answer) ≡ true → scoreBytes (map meant ls) ≡ scoreBytes ls
 unfolding scoreBytes scoreBits
@@ -325,25 +286,14 @@ writer-number ls room h = go (isTaken (linesFault ls 0 .answer)) (leb (length ls
     go false b c = fault-written ls 0 h
 
 pub lines-written : LinesWritten
+unfolding scoreWritten scoreLeft linesWritten linesLeft
 lines-written ls rest out new w h done =
     let area = areaWords ls ++ rest in
     let k = stored-from ls area rest 0 h refl in
-    let t : areaFault area (length ls) 0 ≡ linesFault ls 0 = k .0 in
-    let a : w ≡ linesWritten ls (length out) = done .answers ∙ answers area t (isTaken (linesFault ls 0 .answer)) refl (λ e. ap scoreBytes (k .1 e) ∙ meant-bytes ls h e) in
-    record { answers = a; leaves = done .leaves ∙ leaves area t (isTaken (linesFault ls 0 .answer)) refl (λ e. ap scoreBytes (k .1 e) ∙ meant-bytes ls h e); number = subst (λ (x : Written). WriterNumber (numberOf (x .answer))) (sym a) (writer-number ls (length out) h) }
-  where
-    answers : (area : List ℕ) → areaFault area (length ls) 0 ≡ linesFault ls 0 → (b : Bool) → isTaken (linesFault ls 0 .answer) ≡ b
-        → (isTaken (linesFault ls 0 .answer) ≡ true → scoreBytes (areaLines area (length ls) 0) ≡ scoreBytes ls) → scoreWritten area (length ls) (length out) ≡ linesWritten ls (length out)
-    answers area t true e f =
-        unfold scoreWritten linesWritten in
-        (cond-true _ _ (ap (λ (x : ScoreRead). isTaken (x .answer)) t ∙ e) ∙ ap (λ (b : List ℕ). cond (leb (length ls) mostLines) (told b (length out)) (refusal answer.OutOfRange 0)) (f e) ∙ sym (cond-true _ _ e))
-    answers area t false e f =
-        unfold scoreWritten linesWritten in
-        (cond-false _ _ (ap (λ (x : ScoreRead). isTaken (x .answer)) t ∙ e) ∙ ap (λ (x : ScoreRead). refusal (x .answer) (x .line)) t ∙ sym (cond-false _ _ e))
-
-    leaves : (area : List ℕ) → areaFault area (length ls) 0 ≡ linesFault ls 0 → (b : Bool) → isTaken (linesFault ls 0 .answer) ≡ b
-        → (isTaken (linesFault ls 0 .answer) ≡ true → scoreBytes (areaLines area (length ls) 0) ≡ scoreBytes ls) → scoreLeft area (length ls) out ≡ linesLeft ls out
-    leaves area t true e f =
-        unfold scoreLeft linesLeft in
-        (cond-true _ _ (ap (λ (x : ScoreRead). isTaken (x .answer)) t ∙ e) ∙ ap (λ (b : List ℕ). cond (leb (length ls) mostLines) (left b out) out) (f e) ∙ sym (cond-true _ _ e))
-    leaves area t false e f = unfold scoreLeft linesLeft in (cond-false _ _ (ap (λ (x : ScoreRead). isTaken (x .answer)) t ∙ e) ∙ sym (cond-false _ _ e))
+    let a : w ≡ linesWritten ls (length out) = cases (isTaken (linesFault ls 0 .answer)) (λ e. cc (done .answers, k .0, k .1 e, meant-bytes ls h e))
+    (λ e. cc (done .answers, k .0)) in
+    record {
+      answers = a;
+      leaves = cases (isTaken (linesFault ls 0 .answer)) (λ e. cc (done .leaves, k .0, k .1 e, meant-bytes ls h e)) (λ e. cc (done .leaves, k .0));
+      number = subst (λ (x : Written). WriterNumber (numberOf (x .answer))) (sym a) (writer-number ls (length out) h);
+    }

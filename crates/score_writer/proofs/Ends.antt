@@ -5,10 +5,10 @@ use mathlib.Core.Bool.{Bool, true, false}
 use mathlib.Core.List.{List, _++_}
 use native.Mathlib.Omega.{arith}
 use borrow.Author.Tests.{le-leb, lt-leb}
-use lib.ListN.{length, getD, replicate, length-append}
+use lib.Dec.{leb}
+use lib.ListN.{length, getD, drop, replicate, length-append}
 use mir.Val.{Fits}
 use mir.Syntax.{w8}
-use Rattle.laws.proofs.Choice.{cond-true, cond-false}
 use Rattle.answer.specs.Numbers.{isTaken}
 use Rattle.answer.specs.declared.Answer.{Answer}
 use Rattle.answer.specs.declared.Answer.the-variants.{Taken, OutOfRange, NoRoom}
@@ -23,7 +23,7 @@ use Rattle.line_writer.specs.Writing.{lineBits, lineFault, LineWritten}
 use Rattle.score.specs.declared.ScoreRead.{ScoreRead}
 use Rattle.score_writer.specs.Writing.{linesBits, scoreBits, scoreBytes, unitBits, unitBytes, mostLines}
 use Rattle.score_writer.specs.Slots.{slotRead, areaFault, areaLines}
-use Rattle.score_writer.specs.Written.{refusal, told, left, scoreWritten, scoreLeft, unitWritten, unitLeft, slotWritten, slotLeft, ScoreDone, UnitDone, SlotDone}
+use Rattle.score_writer.specs.Written.{refusal, scoreWritten, scoreLeft, unitWritten, unitLeft, slotWritten, slotLeft, ScoreDone, UnitDone, SlotDone}
 use Rattle.score_writer.specs.inside.Laid.{Laid, RoomAt, Short}
 use Rattle.score_writer.specs.declared.Written.{Written}
 use Rattle.score_writer.proofs.Area.{lines-count}
@@ -45,19 +45,16 @@ module _ (l : Line) (first s t : List ℕ) (p : ℕ) (room : RoomAt (8 * length 
 
 module _ (area : List ℕ) (n : ℕ) (first s t : List ℕ) (p : ℕ) (room : RoomAt (8 * length first) 20 (length (linesBits (areaLines area n 0))))
     (wrote : bitsOf s ≡ written (bitsOf first) 0 20 n) (same : length s ≡ length first) (lines : Laid (bitsOf s) 20 (linesBits (areaLines area n 0)) (bitsOf t) p) (kept : length t ≡ length s) where
-  length-lines : length (areaLines area n 0) ≡ n
-  length-lines = lines-count area n 0
-
   pub score-bits : (u : List ℕ) → bitsOf u ≡ over (bitsOf t) p (replicate (missing p) false) → bitsOf u ≡ over (bitsOf first) 0 (scoreBits (areaLines area n 0))
   unfolding scoreBits
   score-bits u e =
       whole-laid first s t 20 n p (linesBits (areaLines area n 0)) (omega arith) room wrote same lines kept u e
-      ∙ ap (λ (k : ℕ). over (bitsOf first) 0 (filledUp (field 20 k ++ linesBits (areaLines area n 0)))) (sym length-lines)
+      ∙ ap (λ (k : ℕ). over (bitsOf first) 0 (filledUp (field 20 k ++ linesBits (areaLines area n 0)))) (sym (lines-count area n 0))
 
 -- ---- bytes into the lent bytes
 
 head-length : (w v : ℕ) (body : List Bool) → length (bytesOf (filledUp (field w v ++ body))) ≡ (w + length body + 7) / 8
-head-length w v body = length-bytes (field w v ++ body) ∙ ap (λ (k : ℕ). (k + 7) / 8) (length-append (field w v) body ∙ ap (λ (k : ℕ). k + length body) (length-field w v))
+head-length w v body = cc (length-bytes (field w v ++ body), length-append (field w v) body, length-field w v)
 
 abbrev Bytes : List ℕ → Type 0
 Bytes s = (i : ℕ) → Fits w8 (getD s i 0)
@@ -66,31 +63,22 @@ module _ (s : List ℕ) (w v : ℕ) (body : List Bool) (m : ℕ) (short : m ≡ 
   abbrev bytes : List ℕ
   bytes = bytesOf (filledUp (field w v ++ body))
 
-  told-short : length s < m → told bytes (length s) ≡ refusal NoRoom 0
-  told-short h = cond-false _ _ (lt-leb (length bytes) (length s) (omega (arith, head-length w v body)))
+  no-room : length s < m → leb (length bytes) (length s) ≡ false
+  no-room h = lt-leb (length bytes) (length s) (omega (arith, head-length w v body))
 
-  left-short : length s < m → left bytes s ≡ s
-  left-short h = cond-false _ _ (lt-leb (length bytes) (length s) (omega (arith, head-length w v body)))
+  has-room : m ≤ length s → leb (length bytes) (length s) ≡ true
+  has-room h = le-leb (length bytes) (length s) (omega (arith, head-length w v body))
 
-  told-taken : m ≤ length s → told bytes (length s) ≡ record { answer = Taken; line = 0; bytes = m }
-  told-taken h =
-      let e : length bytes ≡ m = head-length w v body ∙ sym short in
-      cond-true _ _ (le-leb (length bytes) (length s) (omega arith)) ∙ ap (λ (k : ℕ). record { answer = Taken; line = 0; bytes = k }) e
-
-  left-taken : (t : List ℕ) → Bytes s → Bytes t → m ≤ length s → bitsOf t ≡ over (bitsOf s) 0 (filledUp (field w v ++ body)) → t ≡ left bytes s
-  left-taken t hs ht h e =
-      let k : (length (field w v ++ body) + 7) / 8 ≤ length s = omega (arith, head-length w v body, length-bytes (field w v ++ body)) in
-      laid-bytes s t (field w v ++ body) (λ i. hs i .fits) (λ i. ht i .fits) k e ∙ sym (cond-true _ _ (le-leb (length bytes) (length s) (omega (arith, head-length w v body))))
+  laid-there : (t : List ℕ) → Bytes s → Bytes t → m ≤ length s → bitsOf t ≡ over (bitsOf s) 0 (filledUp (field w v ++ body)) → t ≡ bytes ++ drop (length bytes) s
+  laid-there t hs ht h e = laid-bytes s t (field w v ++ body) (λ i. hs i .fits) (λ i. ht i .fits)
+      (omega (arith, head-length w v body, length-bytes (field w v ++ body))) e
 
 -- ---- a unit
 
 module _ (l : Line) (s : List ℕ) {a : Answer} {b : Bool} (e : a ≡ lineFault l) (f : b ≡ isTaken a) where
-  fault-is : isTaken (lineFault l) ≡ b
-  fault-is = ap isTaken (sym e) ∙ sym f
-
   pub unit-refused : {x : Written} → b ≡ false → x ≡ refusal a 0 → UnitDone l s s x
   unfolding unitWritten unitLeft
-  unit-refused g y = record { answers = y ∙ ap (λ (z : Answer). refusal z 0) e ∙ sym (cond-false _ _ (fault-is ∙ g)); leaves = sym (cond-false _ _ (fault-is ∙ g)) }
+  unit-refused g y = record { answers = cc; leaves = cc }
 
   module _ (g : b ≡ true) (m : ℕ) (short : Short (length (lineBits l)) 367 m) where
     size : (m + 9) / 8 ≡ (2 + length (lineBits l) + 7) / 8
@@ -98,55 +86,36 @@ module _ (l : Line) (s : List ℕ) {a : Answer} {b : Bool} (e : a ≡ lineFault 
 
     pub unit-short : {x : Written} → length s < (m + 9) / 8 → x ≡ refusal NoRoom 0 → UnitDone l s s x
     unfolding unitWritten unitLeft unitBytes unitBits
-    unit-short h y =
-        record {
-          answers = y ∙ sym (cond-true _ _ (fault-is ∙ g) ∙ told-short s 2 0 (lineBits l) ((m + 9) / 8) size h);
-          leaves = sym (cond-true _ _ (fault-is ∙ g) ∙ left-short s 2 0 (lineBits l) ((m + 9) / 8) size h);
-        }
+    unit-short h y = let k = no-room s 2 0 (lineBits l) ((m + 9) / 8) size h in record { answers = cc; leaves = cc }
 
     pub unit-taken : (t : List ℕ) → Bytes s → Bytes t → (m + 9) / 8 ≤ length s → bitsOf t ≡ over (bitsOf s) 0 (unitBits l) → UnitDone l s t (record { answer = Taken; line = 0; bytes = (m + 9) / 8 })
     unfolding unitWritten unitLeft unitBytes unitBits
     unit-taken t hs ht h k =
-        record {
-          answers = sym (cond-true _ _ (fault-is ∙ g) ∙ told-taken s 2 0 (lineBits l) ((m + 9) / 8) size h);
-          leaves = left-taken s 2 0 (lineBits l) ((m + 9) / 8) size t hs ht h k ∙ sym (cond-true _ _ (fault-is ∙ g));
-        }
+        let j = has-room s 2 0 (lineBits l) ((m + 9) / 8) size h in
+        record { answers = cc (head-length 2 0 (lineBits l), size); leaves = cc (laid-there s 2 0 (lineBits l) ((m + 9) / 8) size t hs ht h k) }
 
 -- ---- a slot
 
 module _ (area s : List ℕ) {r : LineRead} {b : Bool} (e : r ≡ slotRead area 0) (f : b ≡ isTaken (r .answer)) where
-  slot-is : isTaken (slotRead area 0 .answer) ≡ b
-  slot-is = sym (f ∙ ap (λ (x : LineRead). isTaken (x .answer)) e)
-
   pub slot-refused : {x : Written} → b ≡ false → x ≡ refusal (r .answer) 0 → SlotDone area s s x
   unfolding slotWritten slotLeft
-  slot-refused g y = record { answers = y ∙ ap (λ (z : LineRead). refusal (z .answer) 0) e ∙ sym (cond-false _ _ (slot-is ∙ g)); leaves = sym (cond-false _ _ (slot-is ∙ g)) }
+  slot-refused g y = record { answers = cc; leaves = cc }
 
   pub slot-unit : (t : List ℕ) {x : Written} → b ≡ true → UnitDone (r .line) s t x → SlotDone area s t x
   unfolding slotWritten slotLeft
-  slot-unit t g u =
-      record {
-        answers = u .answers ∙ ap (λ (z : LineRead). unitWritten (z .line) (length s)) e ∙ sym (cond-true _ _ (slot-is ∙ g));
-        leaves = u .leaves ∙ ap (λ (z : LineRead). unitLeft (z .line) s) e ∙ sym (cond-true _ _ (slot-is ∙ g));
-      }
+  slot-unit t g u = record { answers = cc (u .answers); leaves = cc (u .leaves) }
 
 -- ---- a score
 
 module _ (area : List ℕ) (n : ℕ) (s : List ℕ) {r : ScoreRead} {b : Bool} (e : r ≡ areaFault area n 0) (f : b ≡ isTaken (r .answer)) where
-  area-is : isTaken (areaFault area n 0 .answer) ≡ b
-  area-is = sym (f ∙ ap (λ (x : ScoreRead). isTaken (x .answer)) e)
-
   pub score-refused : {x : Written} → b ≡ false → x ≡ refusal (r .answer) (r .line) → ScoreDone area n s s x
   unfolding scoreWritten scoreLeft
-  score-refused g y =
-      record { answers = y ∙ ap (λ (z : ScoreRead). refusal (z .answer) (z .line)) e ∙ sym (cond-false _ _ (area-is ∙ g)); leaves = sym (cond-false _ _ (area-is ∙ g)) }
+  score-refused g y = record { answers = cc; leaves = cc }
 
   module _ (g : b ≡ true) where
     pub score-many : {x : Written} → 1048575 < n → x ≡ refusal OutOfRange 0 → ScoreDone area n s s x
     unfolding scoreWritten scoreLeft
-    score-many h y =
-        let k = lt-leb n mostLines h in
-        record { answers = y ∙ sym (cond-true _ _ (area-is ∙ g) ∙ cond-false _ _ k); leaves = sym (cond-true _ _ (area-is ∙ g) ∙ cond-false _ _ k) }
+    score-many h y = let k = lt-leb n mostLines h in record { answers = cc; leaves = cc }
 
     module _ (few : n ≤ 1048575) (m : ℕ) (short : Short (length (linesBits (areaLines area n 0))) (367 * n) m) where
       abbrev body : List Bool
@@ -162,17 +131,13 @@ module _ (area : List ℕ) (n : ℕ) (s : List ℕ) {r : ScoreRead} {b : Bool} (
       unfolding scoreWritten scoreLeft scoreBytes scoreBits
       score-short h y =
           let k = le-leb n mostLines few in
-          record {
-            answers = y ∙ sym (cond-true _ _ (area-is ∙ g) ∙ cond-true _ _ k ∙ told-short s 20 number body ((m + 27) / 8) score-size h);
-            leaves = sym (cond-true _ _ (area-is ∙ g) ∙ cond-true _ _ k ∙ left-short s 20 number body ((m + 27) / 8) score-size h);
-          }
+          let j = no-room s 20 number body ((m + 27) / 8) score-size h in
+          record { answers = cc; leaves = cc }
 
       pub score-taken : (t : List ℕ) → Bytes s → Bytes t → (m + 27) / 8 ≤ length s → bitsOf t ≡ over (bitsOf s) 0 (scoreBits (areaLines area n 0))
           → ScoreDone area n s t (record { answer = Taken; line = 0; bytes = (m + 27) / 8 })
       unfolding scoreWritten scoreLeft scoreBytes scoreBits
       score-taken t hs ht h q =
           let k = le-leb n mostLines few in
-          record {
-            answers = sym (cond-true _ _ (area-is ∙ g) ∙ cond-true _ _ k ∙ told-taken s 20 number body ((m + 27) / 8) score-size h);
-            leaves = left-taken s 20 number body ((m + 27) / 8) score-size t hs ht h q ∙ sym (cond-true _ _ (area-is ∙ g) ∙ cond-true _ _ k);
-          }
+          let j = has-room s 20 number body ((m + 27) / 8) score-size h in
+          record { answers = cc (head-length 20 number body, score-size); leaves = cc (laid-there s 20 number body ((m + 27) / 8) score-size t hs ht h q) }

@@ -1,8 +1,8 @@
 -- Bits laid behind one another into lent bytes. Assumes nothing.
 use Prim.Native.Nat.{ℕ, zero, suc, _+_, _*_, _/_, _^_, _<_, _≤_}
-use mathlib.Core.Path.{_≡_, refl, sym, ap, ap₂, _∙_, subst}
+use mathlib.Core.Path.{_≡_, refl, sym, ap, _∙_}
 use mathlib.Core.Bool.{Bool, false}
-use mathlib.Core.List.{List, [], _∷_, _++_}
+use mathlib.Core.List.{List, _++_}
 use native.Mathlib.Nat.{zero-div, add-zero, zero-add}
 use native.Mathlib.Omega.{arith}
 use borrow.Author.Tests.{le-leb}
@@ -13,9 +13,9 @@ use Rattle.bitstream.specs.Fields.{over, farthest}
 use Rattle.bitstream.specs.inside.Fields.{written}
 use Rattle.bitstream.specs.Filling.{missing, filledUp, bytesFrom, bytesOf}
 use Rattle.bitstream.proofs.Laws.{length-bitsOf, length-field}
-use Rattle.bitstream.proofs.Fields.{over-over, length-over, written-over}
+use Rattle.bitstream.proofs.Fields.{over-over, written-over}
 use Rattle.bitstream.proofs.Filling.{length-filledUp, bytesOf-bitsOf}
-use Rattle.bitstream.proofs.Window.{bitsOf-take, bytes-after}
+use Rattle.bitstream.proofs.Window.{bitsOf-take, bytes-after, below-take}
 use Rattle.score_line.specs.declared.Line.{Line}
 use Rattle.score_line.specs.declared.LineRead.{LineRead}
 use Rattle.line_writer.specs.Writing.{lineBits, bitsFit, lineOver, pastLine, LineWritten}
@@ -28,14 +28,7 @@ use Rattle.score_writer.proofs.Area.{bits-more, length-more, bits-grow}
 
 laid-then : (a x y : List Bool) (at p q : ℕ) (b c : List Bool) → Laid a at b x p → Laid x p c y q → at + length b + length c ≤ length a → Laid a at (b ++ c) y q
 laid-then a x y at p q b c f g h =
-    let m : at + length b ≤ length a = omega arith in
-    record {
-      past = omega (arith, f .past, g .past, length-append b c);
-      stands = g .stands ∙ ap₂ (λ (l : List Bool) (j : ℕ). over l j c) (f .stands) (f .past) ∙ over-over a at b m c h;
-    }
-
-laid-same : (a x : List Bool) (at p : ℕ) (b : List Bool) → Laid a at b x p → at + length b ≤ length a → length x ≡ length a
-laid-same a x at p b f h = ap length (f .stands) ∙ length-over a at b h
+    record { past = omega (arith, f .past, g .past, length-append b c); stands = cc (g .stands, f .stands, f .past, over-over a at b (omega arith) c h) }
 
 pub line-laid : (old new : List Bool) (at p : ℕ) (l : Line) → at + length (lineBits l) ≤ farthest → at + length (lineBits l) ≤ length old → LineWritten old at l new p → Laid old at (lineBits l) new p
 unfolding pastLine lineOver bitsFit
@@ -53,46 +46,40 @@ module _ (area : List ℕ) (n : ℕ) (first : List ℕ) (start : ℕ) where
 
   pub lay-start : Laying first start 0
   unfolding linesBits areaLines
-  lay-start = record { upto = omega arith; same = refl; laid = record { past = sym (add-zero start); stands = none (bitsOf first) start } }
-    where
-      none : (l : List Bool) (j : ℕ) → l ≡ over l j []
-      none l j = sym (ap (λ (k : ℕ). take j l ++ drop k l) (add-zero j) ∙ take-append-drop j l)
+  lay-start =
+      let z = add-zero start in
+      record { upto = omega arith; same = refl; laid = record { past = sym z; stands = cc (take-append-drop start (bitsOf first)) } }
 
   pub lay-more : (s t : List ℕ) (p q i : ℕ) {r : LineRead} → RoomAt (8 * length first) start (length (linesBits (areaLines area n 0))) → Laying s p i → i < n
       → r ≡ slotRead area i → length t ≡ length s → LineWritten (bitsOf s) p (r .line) (bitsOf t) q → Laying t q (i + 1)
   lay-more s t p q i {r} h c l e k w =
       let x = slotRead area i .line in
       let b = linesBits (areaLines area i 0) in
-      let v : LineWritten (bitsOf s) p x (bitsOf t) q = subst (λ (y : LineRead). LineWritten (bitsOf s) p (y .line) (bitsOf t) q) e w in
       let g : length (linesBits (areaLines area (i + 1) 0)) ≤ length (linesBits (areaLines area n 0)) = bits-grow area (i + 1) n (omega arith) in
-      let m : length (linesBits (areaLines area (i + 1) 0)) ≡ length b + length (lineBits x) = length-more area i in
-      let bs : length (bitsOf s) ≡ 8 * length first = length-bitsOf s ∙ ap (λ (z : ℕ). 8 * z) (c .same) in
-      let bf : length (bitsOf first) ≡ 8 * length first = length-bitsOf first in
-      let d = line-laid (bitsOf s) (bitsOf t) p q x (omega (arith, c .laid .past, h .near)) (omega (arith, c .laid .past, h .within)) v in
+      let m = length-more area i in
+      let bs = length-bitsOf s in
+      let bf = length-bitsOf first in
+      let d = line-laid (bitsOf s) (bitsOf t) p q x (omega (arith, c .laid .past, h .near)) (omega (arith, c .laid .past, h .within, c .same)) (rw e at w) in
       record {
         upto = omega arith;
         same = k ∙ c .same;
-        laid = subst (λ (z : List Bool). Laid (bitsOf first) start z (bitsOf t) q) (sym (bits-more area i))
-            (laid-then (bitsOf first) (bitsOf s) (bitsOf t) start p q b (lineBits x) (c .laid) d (omega (arith, h .within)));
+        laid = rw bits-more (laid-then (bitsOf first) (bitsOf s) (bitsOf t) start p q b (lineBits x) (c .laid) d (omega (arith, h .within)));
       }
 
   pub lay-end : (s : List ℕ) (p i : ℕ) → Laying s p i → n ≤ i → Laid (bitsOf first) start (linesBits (areaLines area n 0)) (bitsOf s) p
-  lay-end s p i c h = let e : i ≡ n = omega (arith, c .upto) in subst (λ (j : ℕ). Laid (bitsOf first) start (linesBits (areaLines area j 0)) (bitsOf s) p) e (c .laid)
+  lay-end s p i c h = let e : i ≡ n = omega (arith, c .upto) in rw e at (c .laid)
 
 -- ---- zero bits to a whole byte
 
 field-zero : (n : ℕ) → field n 0 ≡ replicate n false
 unfolding field bit
 field-zero zero = refl
-field-zero (suc n) = ap₂ (λ (b : Bool) (l : List Bool). b ∷ l) (rw (zero-div (2 ^ n))) (field-zero n)
+field-zero (suc n) = rw (zero-div (2 ^ n), field-zero n)
 
 pub byte-filled : (s t : List ℕ) (p : ℕ) → RoomAt (8 * length s) p 0 → bitsOf t ≡ written (bitsOf s) p (missing p) 0 → bitsOf t ≡ over (bitsOf s) p (replicate (missing p) false)
 byte-filled s t p h e =
-    let k : length (bitsOf s) ≡ 8 * length s = length-bitsOf s in
-    let m : p + missing p ≤ length (bitsOf s) = omega (arith, h .within) in
-    let n : missing p ≤ 32 = omega arith in
-    let f : p ≤ farthest = omega (arith, h .near) in
-    e ∙ written-over (bitsOf s) p (missing p) 0 n f m ∙ ap (over (bitsOf s) p) (field-zero (missing p))
+    let k = length-bitsOf s in
+    e ∙ written-over (bitsOf s) p (missing p) 0 (omega arith) (omega (arith, h .near)) (omega (arith, h .within)) ∙ ap (over (bitsOf s) p) (field-zero (missing p))
 
 -- ---- a first field, what follows it, and zero bits to a whole byte
 
@@ -100,10 +87,8 @@ module _ (first s t : List ℕ) (w v p : ℕ) (body : List Bool) (small : w ≤ 
     (wrote : bitsOf s ≡ written (bitsOf first) 0 w v) (same : length s ≡ length first) where
   head-laid : Laid (bitsOf first) 0 (field w v) (bitsOf s) w
   head-laid =
-      let k : length (bitsOf first) ≡ 8 * length first = length-bitsOf first in
-      let m : 0 + w ≤ length (bitsOf first) = omega (arith, room .within) in
-      let o : 0 ≤ farthest = omega arith in
-      record { past = sym (ap (λ (j : ℕ). 0 + j) (length-field w v) ∙ zero-add w); stands = wrote ∙ written-over (bitsOf first) 0 w v small o m }
+      let k = length-bitsOf first in
+      record { past = cc (length-field w v, zero-add w); stands = wrote ∙ written-over (bitsOf first) 0 w v small (omega arith) (omega (arith, room .within)) }
 
   pub body-room : RoomAt (8 * length s) w (length body)
   body-room = record { near = room .near; within = omega (arith, room .within) }
@@ -116,17 +101,14 @@ module _ (first s t : List ℕ) (w v p : ℕ) (body : List Bool) (small : w ≤ 
     unfolding filledUp
     whole-laid u e =
         let l = field w v ++ body in
-        let k : length (bitsOf first) ≡ 8 * length first = length-bitsOf first in
-        let lw : length (field w v) ≡ w = length-field w v in
-        let ln : length l ≡ w + length body = length-append (field w v) body ∙ ap (λ (j : ℕ). j + length body) lw in
+        let k = length-bitsOf first in
+        let lw = length-field w v in
+        let ln = length-append (field w v) body in
         let a = laid-then (bitsOf first) (bitsOf s) (bitsOf t) 0 w p (field w v) body head-laid laid (omega (arith, room .within)) in
-        let q : p ≡ length l = laid .past ∙ sym ln in
+        let q : p ≡ length l = omega (arith, laid .past) in
         let z = replicate (missing p) false in
         let lz : length z ≡ missing p = length-replicate (missing p) false in
-        let m : 0 + length l ≤ length (bitsOf first) = omega (arith, room .within) in
-        let o : 0 + length l + length z ≤ length (bitsOf first) = omega (arith, room .within) in
-        e ∙ ap₂ (λ (x : List Bool) (j : ℕ). over x j z) (a .stands) (q ∙ sym (zero-add (length l))) ∙ over-over (bitsOf first) 0 l m z o
-        ∙ ap (λ (j : ℕ). over (bitsOf first) 0 (l ++ replicate (missing j) false)) q
+        cc (a .stands, zero-add (length l), over-over (bitsOf first) 0 l (omega (arith, room .within)) z (omega (arith, room .within)))
 
 -- ---- bits that fill bytes, as bytes
 
@@ -139,22 +121,12 @@ pub length-bytes : (b : List Bool) → length (bytesOf (filledUp b)) ≡ (length
 unfolding bytesOf
 length-bytes b = length-bytesFrom (length (filledUp b) / 8) (filledUp b) ∙ ap (λ (j : ℕ). j / 8) (length-filledUp b) ∙ omega arith
 
-byte-take : (k : ℕ) (t : List ℕ) → ((i : ℕ) → getD t i 0 < 2 ^ 8) → (i : ℕ) → getD (take k t) i 0 < 2 ^ 8
-byte-take zero t h i = omega arith
-byte-take (suc k) [] h i = omega arith
-byte-take (suc k) (x ∷ t) h zero = h 0
-byte-take (suc k) (x ∷ t) h (suc i) = byte-take k t (λ j. h (suc j)) i
-
 pub laid-bytes : (s t : List ℕ) (b : List Bool) → ((i : ℕ) → getD s i 0 < 2 ^ 8) → ((i : ℕ) → getD t i 0 < 2 ^ 8) → (length b + 7) / 8 ≤ length s
     → bitsOf t ≡ over (bitsOf s) 0 (filledUp b) → t ≡ bytesOf (filledUp b) ++ drop (length (bytesOf (filledUp b))) s
 laid-bytes s t b hs ht h e =
     let f = filledUp b in
-    let n : length f ≡ length b + missing (length b) = length-filledUp b in
     let k = length (bytesOf f) in
-    let kn : k ≡ (length b + 7) / 8 = length-bytes b in
-    let k8 : length f ≡ 8 * k = omega arith in
-    let r : 0 + length f ≤ 8 * length s = omega arith in
-    let q : 0 + length f ≤ 8 * k = omega arith in
-    let d : drop k t ≡ drop k s = bytes-after s t 0 f k hs ht r q e in
-    let g : bitsOf (take k t) ≡ f = bitsOf-take k t ∙ ap (take (8 * k)) e ∙ take-at f (drop (0 + length f) (bitsOf s)) (8 * k) k8 in
-    sym (take-append-drop k t) ∙ ap₂ (λ (x y : List ℕ). x ++ y) (sym (bytesOf-bitsOf (take k t) (byte-take k t ht)) ∙ ap bytesOf g) d
+    let k8 : length f ≡ 8 * k = omega (arith, length-filledUp b, length-bytes b) in
+    let d = bytes-after s t 0 f k hs ht (omega (arith, length-bytes b)) (omega arith) e in
+    let g : bitsOf (take k t) ≡ f = cc (bitsOf-take k t, take-at f (drop (0 + length f) (bitsOf s)) (8 * k) k8) in
+    cc (take-append-drop k t, bytesOf-bitsOf (take k t) (below-take (2 ^ 8) k t (omega arith) ht))

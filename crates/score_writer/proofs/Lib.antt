@@ -1,4 +1,4 @@
-pub mod Whole
+pub mod BitsAndBack
 pub mod Bytes
 pub mod Area
 pub mod Lays

@@ -19,7 +19,7 @@ use Rattle.score_line.specs.declared.Line.{Line}
 use Rattle.score_line.specs.declared.LineRead.{LineRead}
 use Rattle.score.specs.Score.{Lines, all, faulty, before, lineThen}
 use Rattle.score.specs.declared.ScoreRead.{ScoreRead}
-use Rattle.score.proofs.Ways.{fault-not-taken}
+use Rattle.score.proofs.Readers.{fault-not-taken}
 use Rattle.score_text.specs.Said.{Said, lineSaid, mostLines, judgedFrom, judgement}
 use Rattle.score_text.specs.inside.Reading.{lineFrom, Text, lines, bad, thenLines, unlessNone, linesFrom, judged, textOf}
 use Rattle.score_text.specs.inside.Reading as text

@@ -1,9 +1,10 @@
 -- A tempo times 1,024 is exact. Assumes nothing.
 use Prim.Native.Nat.{ℕ, zero, suc, _+_, _-_, _*_, _/_, _%_, _^_, _<_, _≤_, min}
 use mathlib.Core.Path.{_≡_, refl, sym, ap, _∙_, subst}
-use mathlib.Core.Bool.{Bool, true, false, _&&_, cond, true≢false}
+use mathlib.Core.Bool.{Bool, true, false, _&&_, true≢false, and-false}
 use native.Mathlib.Nat.{mul-assoc, mul-right-comm, mul-one, mul-lt-mul-of-pos-right, lt-of-mul-lt-mul-right, lt-of-le-of-lt, lt-of-lt-of-le, div-lt-iff-lt-mul}
 use native.Mathlib.Omega.{arith}
+use denote.Floats.{passes}
 use lib.IntN.{ℤ, pos, negsuc}
 use lib.Dec.{T, ltb, leb, eqb, lt→ltb, ltb→lt, leb→le}
 use lib.Pow.{pow-pos, pow-add, pow-mono, shl-lt}
@@ -74,12 +75,9 @@ exact m (negsuc k) t h =
     let e : j + suc k ≡ 159 = omega arith in
     let q : M * 1 * 1024 * 2 ^ 149 ≡ M * 2 ^ j * (2 ^ suc k * 1) =
     mul-assoc (M * 1) 1024 (2 ^ 149) ∙ ap (λ (n : ℕ). n * 2 ^ 159) (mul-one M)
-    ∙ ap (λ (n : ℕ). M * 2 ^ n) (sym e) ∙ ap (λ (n : ℕ). M * n) (pow-add 2 j (suc k)) ∙ sym (mul-assoc M (2 ^ j) (2 ^ suc k)) ∙ ap (λ (n : ℕ). M * 2 ^ j * n) (sym (mul-one (2 ^ suc k))) in
+    ∙ cc (pow-add 2 j (suc k), mul-assoc M (2 ^ j) (2 ^ suc k), mul-one (2 ^ suc k)) in
     let b : M * 2 ^ j < 2 ^ 277 = lt-of-lt-of-le (shl-lt 24 j (f .0)) (pow-mono {j = 277} (omega arith)) in
     round-exact binary32 false (M * 1 * 1024) (2 ^ suc k * 1) M j (rw mul-one (pow-pos (suc k))) (f .0) b q
-
-yes-of : {b : Bool} → b ≡ true → T b
-yes-of e = subst T (sym e) tt
 
 go : (x : Float) → T (fits binary32 x) → T (positive x) → num x * 1 ≤ 960 * den x → Cut (mul binary32 x scale) (cycleOf x)
 unfolding cycleOf
@@ -94,18 +92,14 @@ go (fin false (suc m) e) t p h =
 pub tempo : (x : Float) → T (fits binary32 x) → le slowest x ≡ true → le x fastest ≡ true → Cut (mul binary32 x scale) (cycleIn x)
 unfolding cycleIn
 tempo x t p q =
-    let o : T (positive x) = between slowest x fastest tt tt (yes-of p) (yes-of q) in
+    let o : T (positive x) = between slowest x fastest tt tt (passes _ p) (passes _ q) in
     subst (Cut (mul binary32 x scale)) (sym (rw (p, q)))
-    (go x t o (values-of-le x fastest (num x) (den x) 960 1 o tt (own-value x o) (refl, refl) (yes-of q)))
+    (go x t o (values-of-le x fastest (num x) (den x) 960 1 o tt (own-value x o) (refl, refl) (passes _ q)))
 
 pub not-slow : (x : Float) → le slowest x ≡ false → 0 ≡ cycleIn x
 unfolding cycleIn
 not-slow x p = sym (rw p)
 
-and-false : (b : Bool) (n : ℕ) → cond (b && false) n 0 ≡ 0
-and-false true n = refl
-and-false false n = refl
-
 pub not-fast : (x : Float) → le x fastest ≡ false → 0 ≡ cycleIn x
 unfolding cycleIn
-not-fast x p = sym (rw p (and-false (le slowest x) (cycleOf x)))
+not-fast x p = cc (and-false (le slowest x))

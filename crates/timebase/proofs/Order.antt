@@ -3,9 +3,9 @@ use Prim.Native.Nat.{ℕ, _+_, _*_, _<_, _≤_}
 use mathlib.Core.Path.{_≡_, refl, sym, ap, _∙_}
 use mathlib.Core.Bool.{Bool, true, false, not, _&&_, _||_, true≢false}
 use native.Mathlib.Nat.{zero-mul, mul-pos}
-use native.Mathlib.Decide.{decLe, decLt}
 use native.Mathlib.Omega.{arith}
-use borrow.Author.Tests.{eqb-true, lt-ltb, le-ltb, eq-eqb, ne-eqb}
+use borrow.Author.Tests.{eqb-true, eqb-false, ltb-true, ltb-false, lt-ltb, le-ltb, eq-eqb, ne-eqb, not-true}
+use borrow.Table.Steps.{cases}
 use lib.Dec.{T, ltb, eqb}
 use lib.Ieee.{Float, nan, inf, fin, up, down, below, level, lt, eq, le, isNan}
 use lib.Ieee.Fits.{down-pos}
@@ -23,58 +23,33 @@ AtMost true a true b = b ≤ a
 abbrev test : Bool → ℕ → Bool → ℕ → Bool
 test s a t b = below s a t b || level s a t b
 
-less-or-equal : (a b : ℕ) (q : Bool) → (ltb a b || (eqb a b && q)) ≡ true → a ≤ b
-less-or-equal a b q e = go (decLe a b)
-  where
-    go : Dec (a ≤ b) → a ≤ b
-    go (yes h) = h
-    go (no n) = absurd (true≢false (sym e ∙ rw (le-ltb a b (omega arith), ne-eqb a b (λ z. omega arith))))
+at-most-of : (a b : ℕ) (q : Bool) → (ltb a b || q) ≡ true → (q ≡ true → a ≡ b) → a ≤ b
+at-most-of a b q e f = cases (ltb a b) (λ l. omega (arith, ltb-true a b l)) (λ l. let z : a ≡ b = f (cc) in omega arith)
 
+-- the tests that `below` and `level` make of two magnitudes of one sign
 pub at-most : (s : Bool) (a : ℕ) (t : Bool) (b : ℕ) → test s a t b ≡ true → AtMost s a t b
 unfolding AtMost
-at-most false a false b e = less-or-equal a b true e
-at-most false a true b e =
-    let p = both-true (eqb a b) (eqb a 0) e in
-    let u : a ≡ b = eqb-true a b (p .0) in
-    let v : a ≡ 0 = eqb-true a 0 (p .1) in
-    (v, sym u ∙ v)
+at-most false a false b e = at-most-of a b (eqb a b && true) e (λ q. eqb-true a b (both-true (eqb a b) true q .0))
+at-most false a true b e = let p = both-true (eqb a b) (eqb a 0) e in let v = eqb-true a 0 (p .1) in (v, sym (eqb-true a b (p .0)) ∙ v)
 at-most true a false b e = tt
-at-most true a true b e = go (decLe b a)
-  where
-    go : Dec (b ≤ a) → b ≤ a
-    go (yes h) = h
-    go (no n) = absurd (true≢false (sym e ∙ rw (le-ltb b a (omega arith), ne-eqb a b (λ z. omega arith))))
+at-most true a true b e = at-most-of b a (eqb a b && true) e (λ q. sym (eqb-true a b (both-true (eqb a b) true q .0)))
 
-ordered : (a b : ℕ) → a ≤ b → (ltb a b || (eqb a b && true)) ≡ true
-ordered a b h = go (decLt a b)
-  where
-    go : Dec (a < b) → (ltb a b || (eqb a b && true)) ≡ true
-    go (yes l) = rw (lt-ltb a b l)
-    go (no n) = let q : a ≡ b = omega arith in rw (le-ltb a b (omega arith), eq-eqb a b q)
+-- a test that holds where the first number is less, and where they are equal
+ordered : (a b : ℕ) (q : Bool) → a ≤ b → (a ≡ b → q ≡ true) → (ltb a b || q) ≡ true
+ordered a b q h f = cases (ltb a b) (λ l. cc) (λ l. let z : a ≡ b = omega (arith, ltb-false a b l) in cc (f z))
 
 pub at-most-back : (s : Bool) (a : ℕ) (t : Bool) (b : ℕ) → AtMost s a t b → test s a t b ≡ true
 unfolding AtMost
-at-most-back false a false b h = ordered a b h
+at-most-back false a false b h = ordered a b (eqb a b && true) h (λ z. cc (eq-eqb a b z))
 at-most-back false a true b h = let q : a ≡ b = h .0 ∙ sym (h .1) in rw (eq-eqb a b q, eq-eqb a 0 (h .0))
-at-most-back true a false b h = go (decLt 0 (a + b))
-  where
-    go : Dec (0 < a + b) → (ltb 0 (a + b) || (eqb a b && eqb a 0)) ≡ true
-    go (yes l) = rw (lt-ltb 0 (a + b) l)
-    go (no n) = let q : a ≡ b = omega arith in let z : a ≡ 0 = omega arith in rw (le-ltb 0 (a + b) (omega arith), eq-eqb a b q, eq-eqb a 0 z)
-at-most-back true a true b h = go (decLt b a)
-  where
-    go : Dec (b < a) → (ltb b a || (eqb a b && true)) ≡ true
-    go (yes l) = rw (lt-ltb b a l)
-    go (no n) = let q : a ≡ b = omega arith in rw (le-ltb b a (omega arith), eq-eqb a b q)
+at-most-back true a false b h =
+    ordered 0 (a + b) (eqb a b && eqb a 0) (omega arith) (λ z. let p : a ≡ b = omega arith in let q : a ≡ 0 = omega arith in cc (eq-eqb a b p, eq-eqb a 0 q))
+at-most-back true a true b h = ordered b a (eqb a b && true) h (λ z. cc (eq-eqb a b (sym z)))
 
 -- ---- from float to float
 
 pub none : (x d : ℕ) → 0 < d → x * d ≡ 0 → x ≡ 0
-none x d h e = go (decLt 0 x)
-  where
-    go : Dec (0 < x) → x ≡ 0
-    go (yes p) = absurd (let q : 0 < x * d = mul-pos p h in omega arith)
-    go (no n) = omega arith
+none x d h e = cases (ltb 0 x) (λ p. let q : 0 < x * d = mul-pos (ltb-true 0 x p) h in absurd (omega arith)) (λ p. omega (arith, ltb-false 0 x p))
 
 none-at-most : (x d y c : ℕ) → 0 < d → x * d ≤ y * c → y ≡ 0 → x ≡ 0
 none-at-most x d y c h l e = none x d h (let z : y * c ≡ 0 = ap (λ (n : ℕ). n * c) e ∙ zero-mul c in omega arith)
@@ -132,31 +107,14 @@ le-trans (fin s m e) (fin t n d) (fin r i c) h k =
 
 -- ---- of two numbers: y is below x exactly where x is not at most y
 
-and-no : (p : Bool) → (p && false) ≡ false
-and-no true = refl
-and-no false = refl
-
 turned : (s : Bool) (a : ℕ) (t : Bool) (b : ℕ) → below t b s a ≡ not (test s a t b)
-turned false a false b = go (decLt b a)
-  where
-    go : Dec (b < a) → ltb b a ≡ not (ltb a b || (eqb a b && true))
-    go (yes l) = rw (lt-ltb b a l, le-ltb a b (omega arith), ne-eqb a b (λ z. omega arith))
-    go (no n) = rw (le-ltb b a (omega arith), ordered a b (omega arith))
-turned false a true b = go (decLt 0 (b + a))
-  where
-    go : Dec (0 < b + a) → ltb 0 (b + a) ≡ not (eqb a b && eqb a 0)
-    go (no n) = let q : a ≡ b = omega arith in let z : a ≡ 0 = omega arith in rw (le-ltb 0 (b + a) (omega arith), eq-eqb a b q, eq-eqb a 0 z)
-    go (yes l) = rw (lt-ltb 0 (b + a) l, not-both (decLt 0 a))
-      where
-        not-both : Dec (0 < a) → (eqb a b && eqb a 0) ≡ false
-        not-both (yes p) = rw (ne-eqb a 0 (λ z. omega arith)) (and-no (eqb a b))
-        not-both (no n) = rw (ne-eqb a b (λ z. omega arith))
+turned false a false b = cases (ltb b a) (λ l. let k = ltb-true b a l in cc (le-ltb a b (omega arith), ne-eqb a b (λ z. omega arith)))
+    (λ n. cc (ordered a b (eqb a b && true) (ltb-false b a n) (λ z. cc (eq-eqb a b z))))
+turned false a true b = cases (eqb a b) (λ e. cases (eqb a 0) (λ z. let p = eqb-true a b e in let q = eqb-true a 0 z in cc (le-ltb 0 (b + a) (omega arith)))
+    (λ z. cc (lt-ltb 0 (b + a) (omega (arith, eqb-false a 0 z))))) (λ e. cc (lt-ltb 0 (b + a) (omega (arith, eqb-false a b e))))
 turned true a false b = rw (at-most-back true a false b (unfold AtMost in tt))
-turned true a true b = go (decLt a b)
-  where
-    go : Dec (a < b) → ltb a b ≡ not (ltb b a || (eqb a b && true))
-    go (yes l) = rw (lt-ltb a b l, le-ltb b a (omega arith), ne-eqb a b (λ z. omega arith))
-    go (no n) = rw (le-ltb a b (omega arith), at-most-back true a true b (unfold AtMost in (omega arith)))
+turned true a true b = cases (ltb a b) (λ l. let k = ltb-true a b l in cc (le-ltb b a (omega arith), ne-eqb a b (λ z. omega arith)))
+    (λ n. cc (ordered b a (eqb a b && true) (ltb-false a b n) (λ z. cc (eq-eqb a b (sym z)))))
 
 pub lt-is : (x y : Float) → isNan x ≡ false → isNan y ≡ false → lt y x ≡ not (le x y)
 unfolding lt eq le isNan
@@ -175,16 +133,6 @@ lt-is (fin s m e) (fin t n d) p q = turned s (m * up e * down d) t (n * up d * d
 
 -- ---- what follows for sorting by time
 
-pub lt-numbers : (x y : Float) → lt x y ≡ true → (isNan x ≡ false) × (isNan y ≡ false)
-unfolding lt isNan
-lt-numbers nan y h = absurd (true≢false (sym h))
-lt-numbers (inf s) nan h = absurd (true≢false (sym h))
-lt-numbers (inf s) (inf t) h = (refl, refl)
-lt-numbers (inf s) (fin t n d) h = (refl, refl)
-lt-numbers (fin s m e) nan h = absurd (true≢false (sym h))
-lt-numbers (fin s m e) (inf t) h = (refl, refl)
-lt-numbers (fin s m e) (fin t n d) h = (refl, refl)
-
 pub le-numbers : (x y : Float) → le x y ≡ true → (isNan x ≡ false) × (isNan y ≡ false)
 unfolding le lt eq isNan
 le-numbers nan y h = absurd (true≢false (sym h))
@@ -199,9 +147,8 @@ pub lt-le : (x y : Float) → lt x y ≡ true → le x y ≡ true
 unfolding le
 lt-le x y h = rw h
 
-not-true : (b : Bool) → not b ≡ true → b ≡ false
-not-true true e = absurd (true≢false (sym e))
-not-true false e = refl
+pub lt-numbers : (x y : Float) → lt x y ≡ true → (isNan x ≡ false) × (isNan y ≡ false)
+lt-numbers x y h = le-numbers x y (lt-le x y h)
 
 pub lt-not-le : (x y : Float) → lt x y ≡ true → le y x ≡ false
 lt-not-le x y h = let n = lt-numbers x y h in not-true (le y x) (sym (lt-is y x (n .1) (n .0)) ∙ h)
@@ -211,22 +158,8 @@ pub le-total : (x y : Float) → isNan x ≡ false → isNan y ≡ false → le 
 le-total x y p q h = lt-le y x (lt-is x y p q ∙ ap not h)
 
 pub le-refl : (x : Float) → isNan x ≡ false → le x x ≡ true
-le-refl x p = go (le x x) refl
-  where
-    go : (b : Bool) → le x x ≡ b → le x x ≡ true
-    go true e = e
-    go false e = le-total x x p p e
+le-refl x p = cases (le x x) (λ e. e) (le-total x x p p)
 
 pub le-lt-trans : (x y z : Float) → le x y ≡ true → lt y z ≡ true → lt x z ≡ true
-le-lt-trans x y z h k = lt-is z x (lt-numbers y z k .1) (le-numbers x y h .0) ∙ ap not (go (le z x) refl)
-  where
-    go : (b : Bool) → le z x ≡ b → le z x ≡ false
-    go true e = absurd (true≢false (sym (le-trans z x y e h) ∙ lt-not-le y z k))
-    go false e = e
-
-pub lt-le-trans : (x y z : Float) → lt x y ≡ true → le y z ≡ true → lt x z ≡ true
-lt-le-trans x y z h k = lt-is z x (le-numbers y z k .1) (lt-numbers x y h .0) ∙ ap not (go (le z x) refl)
-  where
-    go : (b : Bool) → le z x ≡ b → le z x ≡ false
-    go true e = absurd (true≢false (sym (le-trans y z x k e) ∙ lt-not-le x y h))
-    go false e = e
+le-lt-trans x y z h k =
+    lt-is z x (lt-numbers y z k .1) (le-numbers x y h .0) ∙ ap not (cases (le z x) (λ e. absurd (true≢false (sym (le-trans z x y e h) ∙ lt-not-le y z k))) (λ e. e))

@@ -4,6 +4,7 @@ use mathlib.Core.Path.{_≡_, refl, sym, ap, _∙_, subst}
 use mathlib.Core.Bool.{Bool, true, false, not, cond, true≢false}
 use native.Mathlib.Nat.{mul-right-comm, div-eq-of-lt}
 use native.Mathlib.Omega.{arith}
+use denote.Floats.{passes}
 use lib.IntN.{pos}
 use lib.Dec.{T, leb, eqb, lt→ltb}
 use lib.Pow.{pow-pos}
@@ -71,9 +72,6 @@ ticks-num (inf s) p = absurd p
 ticks-num (fin true m e) p = absurd p
 ticks-num (fin false m e) p = refl
 
-yes-of : {b : Bool} → b ≡ true → T b
-yes-of e = subst T (sym e) tt
-
 -- a time of a units of 2 ^ -149
 pub record Units (x : Float) (a : ℕ) : Type 0 where
   pub some : 0 < a
@@ -87,7 +85,7 @@ units x s a p q h =
     let v = clear x s a (2 ^ 149) o h in
     let k : num x * 2 ^ 149 ≡ a * den x = value→cross x a (2 ^ 149) v in
     let u : a * 6144000 * den x ≡ num x * 6144000 * 2 ^ 149 = mul-right-comm a 6144000 (den x) ∙ ap (λ (n : ℕ). n * 6144000) (sym k) ∙ mul-right-comm (num x) (2 ^ 149) 6144000 in
-    let m : a * 1 ≤ 2 ^ 14 * 2 ^ 149 = values-of-le x latest a (2 ^ 149) (2 ^ 14) 1 o tt v (refl, refl) (yes-of q) in
+    let m : a * 1 ≤ 2 ^ 14 * 2 ^ 149 = values-of-le x latest a (2 ^ 149) (2 ^ 14) 1 o tt v (refl, refl) (passes _ q) in
     record {
       some = value-pos x a (2 ^ 149) o (pow-pos 149) v;
       most = subst (λ (n : ℕ). n ≤ 2 ^ 163) (native.Mathlib.Nat.mul-one a) m;

@@ -1,11 +1,11 @@
 -- Which patterns are in range. Assumes nothing.
 use Prim.Native.Nat.{ℕ, zero, suc, _+_, _*_, _/_, _%_, _^_, _<_, _≤_}
 use mathlib.Core.Path.{_≡_, refl, sym, _∙_}
-use mathlib.Core.Bool.{Bool, true, false, not, _&&_, cond, true≢false}
+use mathlib.Core.Bool.{Bool, true, false, not, cond, true≢false, and-false}
 use native.Mathlib.Nat.{mod-eq-of-lt, mod-lt}
-use native.Mathlib.Decide.{decLt}
 use native.Mathlib.Omega.{arith}
-use borrow.Author.Tests.{lt-ltb, le-ltb, lt-leb, eq-eqb, ne-eqb}
+use borrow.Author.Tests.{ltb-true, ltb-false, lt-ltb, le-ltb, lt-leb, eq-eqb, ne-eqb}
+use borrow.Table.Steps.{cases}
 use lib.Dec.{T, ltb, leb, eqb}
 use lib.IntN.{pos}
 use lib.Ieee.{Float, nan, inf, fin, binary32, up, down, odd, ofFields, ofBits, nanBits, isNan, le, lt, eq}
@@ -27,18 +27,11 @@ is-nan (fin s m d) e = cc
 pub nan-of : (b : ℕ) → 0x7f80_0000 < b % 2 ^ 31 → ofBits binary32 b ≡ nan
 nan-of b h = is-nan (ofBits binary32 b) (sym (nanBits-is binary32 b) ∙ nanBits-above binary32 b ∙ lt-ltb (0x7f80_0000) (b % 2 ^ 31) h)
 
-and-no : (p : Bool) → (p && false) ≡ false
-and-no true = refl
-and-no false = refl
-
 -- the tests that `time_of` and `tempo_of` refuse by
 pub time-outside : (b : ℕ) → b < 2 ^ 32 → 0x7f80_0000 < b → timeBits b ≡ false
 unfolding timeBits
-time-outside b f h = go (decLt b (2 ^ 31))
-  where
-    go : Dec (b < 2 ^ 31) → (ltb b (2 ^ 31) && le (ofBits binary32 b) latest) ≡ false
-    go (yes l) = rw (nan-of b (rw (mod-eq-of-lt l) h)) (and-no (ltb b (2 ^ 31)))
-    go (no n) = rw (le-ltb b (2 ^ 31) (omega arith))
+time-outside b f h =
+    cases (ltb b (2 ^ 31)) (λ l. rw (nan-of b (rw (mod-eq-of-lt (ltb-true b (2 ^ 31) l)) h)) (and-false (ltb b (2 ^ 31)))) (λ l. rw l)
 
 pub time-is : (b : ℕ) → b ≤ 0x7f80_0000 → timeBits b ≡ le (ofBits binary32 b) latest
 unfolding timeBits
@@ -66,11 +59,9 @@ fields-finite s zero t = odd-finite 24 s t 0 149
 fields-finite s (suc x) t = either (eqb (suc x) 255) (eqb t 0) s (odd 24 s (8388608 + t) x 149) (odd-finite 24 s (8388608 + t) x 149)
 
 field-below : (r : ℕ) → r < 2 ^ 31 → not (eqb (r / 2 ^ 23) 255) ≡ ltb r 0x7f80_0000
-field-below r h = go (decLt r 0x7f80_0000)
-  where
-    go : Dec (r < 0x7f80_0000) → not (eqb (r / 2 ^ 23) 255) ≡ ltb r 0x7f80_0000
-    go (yes l) = let u : r / 8388608 < 255 = omega arith in rw (lt-ltb r 0x7f80_0000 l, ne-eqb (r / 8388608) 255 (λ e. omega arith))
-    go (no n) = let u : r / 8388608 ≡ 255 = omega arith in rw (le-ltb r 0x7f80_0000 (omega arith), eq-eqb (r / 8388608) 255 u)
+field-below r h =
+    cases (ltb r 0x7f80_0000) (λ l. let k = ltb-true r 0x7f80_0000 l in cc (ne-eqb (r / 8388608) 255 (λ e. omega arith)))
+    (λ l. let u : r / 8388608 ≡ 255 = omega (arith, ltb-false r 0x7f80_0000 l) in cc (eq-eqb (r / 8388608) 255 u))
 
 -- the test that `value_of` makes
 pub finite-test : (b : ℕ) → finiteBits b ≡ ltb (b % 2 ^ 31) 0x7f80_0000

@@ -1,8 +1,10 @@
 -- Rounding sees only a fraction's value, and a time's ticks are one shift. Assumes nothing.
 use Prim.Native.Nat.{ℕ, suc, _+_, _-_, _*_, _/_, _%_, _^_, _<_, _≤_, min}
 use mathlib.Core.Path.{_≡_, sym, ap, ap₂, _∙_, subst}
-use native.Mathlib.Nat.{mul-assoc, mul-comm, mul-left-comm, mul-right-comm, add-mul, mul-pos, le-trans, lt-of-not-le, not-le-of-lt, mul-le-mul-right, le-of-eq, div-eq-of-lt, mul-div-mul-right, pow-suc, min-eq-left, min-eq-right, min-le-right, le-min}
-use native.Mathlib.Decide.{decLe}
+use native.Mathlib.Nat.{mul-assoc, mul-comm, mul-left-comm, mul-right-comm, add-mul, mul-pos, le-trans, not-le-of-lt, mul-le-mul-right, le-of-eq, div-eq-of-lt, mul-div-mul-right, pow-suc, min-eq-left, min-le-right, le-min}
+use borrow.Author.Tests.{leb-true, leb-false}
+use borrow.Table.Steps.{cases}
+use lib.Dec.{leb}
 use native.Mathlib.Omega.{arith}
 use lib.Pow.{pow-add, pow-pos, pow-lt, pow-mono, shl-lt, shl-exact}
 use lib.Count.{leadingZeros, leading-top}
@@ -28,11 +30,7 @@ pub record Top (m e z : ℕ) : Type 0 where
   pub below : m * 2 ^ z < 2 ^ 32
 
 pub pow-le-back : (i k : ℕ) → 2 ^ i ≤ 2 ^ k → i ≤ k
-pow-le-back i k h = go (decLe i k)
-  where
-    go : Dec (i ≤ k) → i ≤ k
-    go (yes l) = l
-    go (no n) = absurd (not-le-of-lt (pow-lt (lt-of-not-le n)) h)
+pow-le-back i k h = cases (leb i k) (leb-true i k) (λ n. absurd (not-le-of-lt (pow-lt (leb-false i k n)) h))
 
 pub top : (m e : ℕ) → 0 < m → 0 < e → m < 2 ^ 32 → m * 2 ^ (e - 1) ≤ 2 ^ 163 → Top m e (leadingZeros 32 m)
 top m e p o h b =
@@ -75,15 +73,13 @@ far a s h = div-eq-of-lt (omega arith)
 
 -- every distance past the farthest gives what the farthest gives
 pub held : (a s : ℕ) → a < 2 ^ 41 → nearest a (2 ^ min s 63) ≡ nearest a (2 ^ s)
-held a s h = go (decLe s 63)
-  where
-    go : Dec (s ≤ 63) → nearest a (2 ^ min s 63) ≡ nearest a (2 ^ s)
-    go (yes l) = ap (λ (n : ℕ). nearest a (2 ^ n)) (min-eq-left l)
-    go (no n) =
-        let l : 63 < s = lt-of-not-le n in
-        let k : 2 ^ 42 ≤ 2 ^ s = pow-mono {i = 42} (omega arith) in
-        ap (λ (n : ℕ). nearest a (2 ^ n)) (min-eq-right (let k : 63 ≤ s = omega arith in k))
-        ∙ far a 63 (omega arith) ∙ sym (far a s (omega arith))
+held a s h =
+    cases (leb s 63) (λ l. cc (min-eq-left (leb-true s 63 l)))
+    (λ n.
+    let l : 63 < s = leb-false s 63 n in
+    let k : 2 ^ 42 ≤ 2 ^ s = pow-mono {i = 42} (omega arith) in
+    let m : min s 63 ≡ 63 = omega arith in
+    cc (far a 63 (omega arith), far a s (omega arith)))
 
 -- the half that is added before the shift
 pub half-added : (p s : ℕ) → 0 < s → (p + 2 ^ s / 2) / 2 ^ s ≡ nearest p (2 ^ s)
@@ -112,12 +108,7 @@ down-by m e z p d o t hp hd =
       small = small;
       some = some;
       near = omega (arith, min-le-right s 63);
-      ticks =
-          half-added p d some
-          ∙ ap (λ n. nearest p (2 ^ n)) hd
-          ∙ held p s small
-          ∙ ap (λ n. nearest n (2 ^ s)) hp
-          ∙ one-shift m e z s o (omega arith);
+      ticks = cc (half-added p d some, held p s small, one-shift m e z s o (omega arith));
     }
 
 pub shift-is : (m z : ℕ) → m * 2 ^ z < 2 ^ 32 → (m * 2 ^ z) % 2 ^ 32 ≡ m * 2 ^ z

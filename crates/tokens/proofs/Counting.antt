@@ -76,15 +76,9 @@ module _ (m : Measure) (left : ℕ) where
   pub closed-late : {f : Found} → (left ≡ 1 → ⊥) → f ≡ found BadToken 0 → f ≡ closedOf m left
   closed-late a e = rw (e, ne-eqb left 1 a)
 
-  end-cond : (f l : Bool) → cond (f && l) (found Taken (m .count)) (found TooLarge 0) ≡ cond (f && (l && true)) (found Taken (m .count)) (found TooLarge 0)
-  end-cond true true = refl
-  end-cond true false = refl
-  end-cond false l = refl
-
-  closed-by : (f l : Bool) → m .fits ≡ f → leb (m .count) 2048 ≡ l → left ≡ 1
-      → cond (f && l) (found Taken (m .count)) (found TooLarge 0) ≡ closedOf m left
+  closed-by : (f l : Bool) → m .fits ≡ f → leb (m .count) 2048 ≡ l → left ≡ 1 → cond (f && l) (found Taken (m .count)) (found TooLarge 0) ≡ closedOf m left
   unfolding bracketsKept stretchesKept
-  closed-by f l p q e = rw (e, add-zero, p, q) (end-cond f l)
+  closed-by f l p q e = rw (e, add-zero, p, q) (sym (rw (and-true l)))
 
   pub closed-taken : left ≡ 1 → m .fits ≡ true → m .count ≤ 2048 → found Taken (m .count) ≡ closedOf m left
   closed-taken e p q = closed-by true true p (le-leb (m .count) 2048 q) e

@@ -3,10 +3,12 @@ use Prim.Native.Nat.{ℕ, zero, suc, _+_, _*_, _/_, _%_, _^_, _<_}
 use native.Mathlib.Omega.{arith}
 use native.Mathlib.Nat.{mod-eq-of-lt}
 use mathlib.Core.Path.{_≡_, refl, sym, ap, _∙_, subst}
-use mathlib.Core.Bool.{Bool, true, false, not, _&&_, cond}
+use mathlib.Core.Bool.{Bool, true, false, not, _&&_}
 use mathlib.Core.List.{List, [], _∷_, _++_, map}
 use lib.ListN.{length, take, drop, replicate, length-map}
 use lib.Seq.{take-at}
+use denote.Floats.{passes}
+use borrow.Table.Steps.{cases}
 use lib.Dec.{T, eqb, leb, ltb}
 use lib.Ieee.{Float, nan, inf, fin, binary32, ofBits, toBits, isNan, fits}
 use lib.Ieee.Bits.{ofBits-toBits, toBits-ofBits, toBits-lt}
@@ -48,10 +50,6 @@ and-right false b e = impossible (cc)
 
 -- ---- from tokens to bytes and back
 
-is-T : (b : Bool) → b ≡ true → T b
-is-T true e = tt
-is-T false e = impossible (cc)
-
 four-back : (w : ℕ) → w < 2 ^ 32 → 16777216 * (w / 16777216) + (65536 * (w / 65536 % 256) + (256 * (w / 256 % 256) + w % 256)) ≡ w
 four-back w h = omega arith
 
@@ -62,33 +60,17 @@ module _ (rest : List ℕ) where
   abbrev reads : Token → Type 0
   reads t = tokensAfter 0 (spelt t ++ rest) ≡ with t (tokensAfter 0 rest)
 
-  sign-back : (k : ℕ) → lawful (Sign k) ≡ true → reads (Sign k)
+  pub token-back : (t : Token) → lawful t ≡ true → reads t
   unfolding tokensAfter spelt tokenFrom
-  sign-back k e =
+  token-back (Number x) e =
+      let f = passes (fits binary32 x) (and-right (finite x) (fits binary32 x) e) in
+      rw (four-back (toBits binary32 x) (toBits-lt binary32 x f), ofBits-toBits binary32 x f, e)
+  token-back (Symbol s) e = rw (two-back s (ltb-true s 65536 e), e)
+  token-back (Whole w) e = let h = ltb-true w 16777217 e in rw (four-back w (omega arith), e)
+  token-back (Sign k) e =
       let lo = ltb-true 0 k (and-left (ltb 0 k) (leb k 36) e) in
       let hi = leb-true k 36 (and-right (ltb 0 k) (leb k 36) e) in
       rw (ne-eqb k 0xff (λ q. omega arith), ne-eqb k 0xf0 (λ q. omega arith), ne-eqb k 0xf1 (λ q. omega arith), ne-eqb k 0xf2 (λ q. omega arith), e)
-
-  symbol-back : (s : ℕ) → lawful (Symbol s) ≡ true → reads (Symbol s)
-  unfolding tokensAfter spelt tokenFrom
-  symbol-back s e = rw (two-back s (ltb-true s 65536 e), e)
-
-  whole-back : (w : ℕ) → lawful (Whole w) ≡ true → reads (Whole w)
-  unfolding tokensAfter spelt tokenFrom
-  whole-back w e = let h = ltb-true w 16777217 e in rw (four-back w (omega arith), e)
-
-  number-back : (x : Float) → lawful (Number x) ≡ true → reads (Number x)
-  unfolding tokensAfter spelt tokenFrom
-  number-back x e =
-      let f = is-T (fits binary32 x) (and-right (finite x) (fits binary32 x) e) in
-      let h : toBits binary32 x < 2 ^ 32 = toBits-lt binary32 x f in
-      rw (four-back (toBits binary32 x) h, ofBits-toBits binary32 x f, e)
-
-  pub token-back : (t : Token) → lawful t ≡ true → reads t
-  token-back (Number x) e = number-back x e
-  token-back (Symbol s) e = symbol-back s e
-  token-back (Whole w) e = whole-back w e
-  token-back (Sign k) e = sign-back k e
 
 -- the tokens of the bytes of lawful tokens are those tokens
 pub tokens-bytes : (ts : List Token) → allLawful ts ≡ true → tokensOf (bytesOf ts) ≡ some ts
@@ -191,24 +173,24 @@ record Starts (b : ℕ) (bs : List ℕ) (t : Token) (ts : List Token) : Type 0 w
 
 starts : (b : ℕ) (bs : List ℕ) (t : Token) (ts : List Token) → tokensAfter 0 (b ∷ bs) ≡ some (t ∷ ts) → Starts b bs t ts
 unfolding tokensAfter
-starts b bs t ts e = go (eqb b 0xff) (lawful (tokenFrom b bs)) refl e
-  where
-    go : (x y : Bool) → lawful (tokenFrom b bs) ≡ y → cond x (ended bs) (cond y (with (tokenFrom b bs) (tokensAfter (more b) bs)) none) ≡ some (t ∷ ts) → Starts b bs t ts
-    go true y l f = impossible (ended-some bs t ts f)
-    go false false l f = impossible (cc)
-    go false true l f =
-        let g = tokensAfter (more b) bs in
-        record { fine = l; first = with-first (tokenFrom b bs) g t ts f; rest = with-rest (tokenFrom b bs) g t ts f }
+starts b bs t ts e =
+    cases (eqb b 0xff) (λ x. impossible (ended-some bs t ts (rw x at e)))
+    (λ x.
+    cases (lawful (tokenFrom b bs))
+    (λ l.
+    let f = rw (x, l) at e in
+    let g = tokensAfter (more b) bs in
+    record { fine = l; first = with-first (tokenFrom b bs) g t ts f; rest = with-rest (tokenFrom b bs) g t ts f })
+    (λ l. let f = rw (x, l) at e in impossible (cc)))
 
 -- only the end token, alone, is no tokens
 ends : (b : ℕ) (bs : List ℕ) → tokensAfter 0 (b ∷ bs) ≡ some [] → 0xff ∷ [] ≡ b ∷ bs
 unfolding tokensAfter
-ends b bs e = go (eqb b 0xff) (lawful (tokenFrom b bs)) refl e
-  where
-    go : (x y : Bool) → eqb b 0xff ≡ x → cond x (ended bs) (cond y (with (tokenFrom b bs) (tokensAfter (more b) bs)) none) ≡ some [] → 0xff ∷ [] ≡ b ∷ bs
-    go true y q f = rw (eqb-true b 0xff q, ended-none bs f)
-    go false false q f = impossible (cc)
-    go false true q f = impossible (with-none (tokenFrom b bs) (tokensAfter (more b) bs) f)
+ends b bs e =
+    cases (eqb b 0xff) (λ x. rw (eqb-true b 0xff x, ended-none bs (rw x at e)))
+    (λ x.
+    cases (lawful (tokenFrom b bs)) (λ l. impossible (with-none (tokenFrom b bs) (tokensAfter (more b) bs) (rw (x, l) at e)))
+    (λ l. let f = rw (x, l) at e in impossible (cc)))
 
 none-back : (bs : List ℕ) → tokensOf bs ≡ some [] → 0xff ∷ [] ≡ bs
 none-back [] e = impossible (after-none 0 [] e)
@@ -257,13 +239,10 @@ every-scan bs b =
     record {
       found = λ ts e. found-spelt bs ts b e;
       finds = spelt-found bs;
-      unspelt = λ n ts s. never (let f = sym n ∙ spelt-found bs ts s in cc);
+      unspelt = λ n ts s. impossible (let f = sym n ∙ spelt-found bs ts s in cc);
       nothing = λ h. go h (tokensOf bs) refl;
     }
   where
-    never : {A : Type 0} → _≡_ {A = ℕ} 0 1 → A
-    never z = absurd (omega arith)
-
     go : ((ts : List Token) → Spells bs ts → ⊥) → (g : Got) → tokensOf bs ≡ g → tokensOf bs ≡ none
     go h none e = e
     go h (some ts) e = absurd (h ts (found-spelt bs ts b e))

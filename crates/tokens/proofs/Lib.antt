@@ -1,4 +1,4 @@
 mod Past
-mod Ways
+mod TokenAt
 mod Counting
 pub mod Laws

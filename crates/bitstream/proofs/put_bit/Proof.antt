@@ -1,10 +1,9 @@
 use borrow.Author.Needs.{needs}
-use Prim.Native.Nat.{ℕ, _+_, _-_, _*_, _/_, _%_, _^_}
-use mathlib.Core.Path.{_≡_, sym, ap, _∙_}
+use Prim.Native.Nat.{_+_, _-_, _*_, _/_, _%_}
+use mathlib.Core.Path.{_≡_}
 use native.Mathlib.Omega.{arith}
-use lib.ListN.{getD, set}
 use denote.Ref.{now}
-use Rattle.bitstream.specs.Bits.{bitsOf, bit}
+use Rattle.bitstream.specs.Bits.{bit}
 use Rattle.bitstream.proofs.Laws.{set-bitsOf, withBit, digit-bit}
 use Rattle.bitstream.proofs.put_bit.Statement.{statement}
 use Rattle.bitstream.proofs.put_bit.Tie as tie
@@ -19,6 +18,4 @@ put-bit-spec =
     let at = a .at in
     let b = bit (a .k) (a .v) in
     let e : at ≡ 8 * (at / 8) + at % 8 = omega arith in
-    ap (λ (x : ℕ). bitsOf (set s (at / 8) x)) (c .with-bit .ensures ∙ ap (λ (d : ℕ). (getD s (at / 8) 0 / 2 ^ (7 - at % 8) / 2 * 2 + d) * 2 ^ (7 - at % 8) + getD s (at / 8) 0 % 2 ^ (7 - at % 8)) (sym (digit-bit (a .k) (a .v))))
-    ∙ set-bitsOf s (at / 8) (at % 8) b (omega arith) (omega arith)
-    ∙ ap (λ (k : ℕ). set (bitsOf s) k b) (sym e)))
+    cc (c .with-bit .ensures, digit-bit (a .k) (a .v), set-bitsOf s (at / 8) (at % 8) b (omega arith) (omega arith))))

@@ -1,5 +1,5 @@
 use Prim.Native.Nat.{ℕ, suc, _+_, _-_, _*_, _≤_, _<_}
-use mathlib.Core.Path.{_≡_, refl, sym, ap, _∙_}
+use mathlib.Core.Path.{_≡_, refl, ap, _∙_}
 use mathlib.Core.Bool.{Bool, false}
 use mathlib.Core.List.{List}
 use native.Mathlib.Numerals.{add-one}
@@ -13,45 +13,20 @@ use Rattle.bitstream.proofs.Fields.{paste-over}
 use Rattle.bitstream.proofs.put_field.Statement.{statement}
 use Rattle.bitstream.proofs.put_field.Tie as tie
 
-abbrev Inv-loop : tie.InvT-loop
-Inv-loop s₀ at n v i₀ s i = (i ≤ n) × (length s ≡ length s₀) × (bitsOf s ≡ paste (bitsOf s₀) at (field n v) i)
-
-abbrev μ-loop : tie.MeasureT-loop
-μ-loop s₀ at n v i₀ s i = n - i
-
 -- one more bit of the field
 more : (d : List Bool) (at n v i : ℕ) → i < n → at + n ≤ length d → set (paste d at (field n v) i) (at + i) (bit (n - 1 - i) v) ≡ paste d at (field n v) (i + 1)
 more d at n v i h hd =
     let e : n - 1 - i ≡ n - suc i = omega arith in
-    ap (λ (k : ℕ). set (paste d at (field n v) i) (at + i) (bit k v)) e
-    ∙ ap (λ (b : Bool). set (paste d at (field n v) i) (at + i) b) (sym (getD-field n v i h))
-    ∙ paste-suc d at (field n v) i false (omega arith) (rw length-field h)
-    ∙ ap (λ (k : ℕ). paste d at (field n v) k) (sym (add-one i))
+    cc (getD-field n v i h, paste-suc d at (field n v) i false (omega arith) (rw length-field h), add-one i)
 
-loop-holds : tie.Need-loop-holds Inv-loop μ-loop
-loop-holds c = let a = c .before .args in (omega arith, refl, paste-zero (bitsOf (now (a .s))) (a .at) (field (a .n) (a .v)))
-
-add-put-bit : tie.Need-add-put-bit Inv-loop μ-loop
-add-put-bit c = omega arith
-
-sub-put-bit : tie.Need-sub-put-bit Inv-loop μ-loop
-sub-put-bit c = omega arith
-
-sub-put-bit-2 : tie.Need-sub-put-bit-2 Inv-loop μ-loop
-sub-put-bit-2 c = omega arith
-
-put-bit-requires : tie.Need-put-bit-requires Inv-loop μ-loop
-put-bit-requires c κs = omega arith
-
-add-i : tie.Need-add-i Inv-loop μ-loop
-add-i c = omega arith
-
-loop-less : tie.Need-loop-less Inv-loop μ-loop
-loop-less c = omega arith
-
-loop-again : tie.Need-loop-again Inv-loop μ-loop
-loop-again c =
-    let p = c .before .before .before .before .before in
+pub put-field-spec : {M : Type 1} → statement M
+put-field-spec =
+    tie.close (tie.spec
+    (λ s₀ at n v i₀ s i. (i ≤ n) × (length s ≡ length s₀) × (bitsOf s ≡ paste (bitsOf s₀) at (field n v) i))
+    (λ s₀ at n v i₀ s i. n - i)
+    (λ c. let a = c .before .args in (omega arith, refl, paste-zero (bitsOf (now (a .s))) (a .at) (field (a .n) (a .v))))
+    (λ c. omega arith) (λ c. omega arith) (λ c. omega arith) (λ c κs. omega arith) (λ c. omega arith) (λ c. omega arith)
+    (λ c. let p = c .before .before .before .before .before in
     let a = p .before .before .args in
     let i = p .loop .i in
     let d = bitsOf (now (a .s)) in
@@ -60,17 +35,9 @@ loop-again c =
       c .before .before .put-bit .kept .0 ∙ p .loop .inv .1,
       c .before .before .put-bit .ensures ∙ ap (λ (l : List Bool). set l (a .at + i) (bit (a .n - 1 - i) (a .v))) (p .loop .inv .2)
           ∙ more d (a .at) (a .n) (a .v) i (omega arith) (omega arith),
-    )
-
-same-length : tie.Need-same-length Inv-loop μ-loop
-same-length c = c .before .loop .inv .1
-
-returns : tie.Need-returns Inv-loop μ-loop
-returns c =
-    let a = c .before .before .before .args in
+    ))
+    (λ c. c .before .loop .inv .1)
+    (λ c. let a = c .before .before .before .args in
     let i : c .before .loop .i ≡ a .n = omega arith in
     c .before .loop .inv .2 ∙ ap (λ (k : ℕ). paste (bitsOf (now (a .s))) (a .at) (field (a .n) (a .v)) k) i
-    ∙ paste-over (bitsOf (now (a .s))) (a .at) (field (a .n) (a .v)) (a .n) (length-field (a .n) (a .v))
-
-pub put-field-spec : {M : Type 1} → statement M
-put-field-spec = tie.close (tie.spec Inv-loop μ-loop loop-holds add-put-bit sub-put-bit sub-put-bit-2 put-bit-requires add-i loop-less loop-again same-length returns)
+    ∙ paste-over (bitsOf (now (a .s))) (a .at) (field (a .n) (a .v)) (a .n) (length-field (a .n) (a .v))))

@@ -2,7 +2,7 @@ use borrow.Author.Needs.{needs}
 use lib.Dec.{T}
 use lib.Ieee.{ofBits}
 use mathlib.Core.Path.{sym, subst}
-use Rattle.float32.proofs.Whole.{int-is}
+use Rattle.float32.proofs.WholePart.{int-is}
 use Rattle.float32.proofs.int.Statement.{statement}
 use Rattle.float32.proofs.int.Tie as tie
 

@@ -1,5 +1,5 @@
 use borrow.Author.Needs.{needs}
-use Rattle.messages.proofs.Ways.{add-note, add-full, add-other}
+use Rattle.messages.proofs.OneByte.{add-note, add-full, add-other}
 use Rattle.messages.proofs.add.Statement.{statement}
 use Rattle.messages.proofs.add.Tie as tie
 

@@ -1,7 +1,7 @@
 use borrow.Author.Needs.{needs}
 use borrow.Author.Tests.{le-ltb}
 use Rattle.messages.specs.inside.Reading.{begun}
-use Rattle.messages.proofs.Ways.{begun-on}
+use Rattle.messages.proofs.OneByte.{begun-on}
 use Rattle.messages.proofs.begun.Statement.{statement}
 use Rattle.messages.proofs.begun.Tie as tie
 

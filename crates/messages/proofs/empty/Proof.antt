@@ -1,5 +1,5 @@
 use borrow.Author.Needs.{needs}
-use Rattle.messages.proofs.Ways.{nothing-held}
+use Rattle.messages.proofs.OneByte.{nothing-held}
 use Rattle.messages.proofs.empty.Statement.{statement}
 use Rattle.messages.proofs.empty.Tie as tie
 

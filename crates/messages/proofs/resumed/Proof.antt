@@ -1,7 +1,7 @@
 use borrow.Author.Needs.{needs}
 use borrow.Author.Tests.{eq-eqb}
 use Rattle.messages.specs.inside.Reading.{resumed}
-use Rattle.messages.proofs.Ways.{resumed-on}
+use Rattle.messages.proofs.OneByte.{resumed-on}
 use Rattle.messages.proofs.resumed.Statement.{statement}
 use Rattle.messages.proofs.resumed.Tie as tie
 

@@ -1,5 +1,5 @@
 use borrow.Author.Needs.{needs}
-use Rattle.number_reader.proofs.Ways.{digits-below, decimals-none, decimals-many, decimals-are, decimals-no}
+use Rattle.number_reader.proofs.Readers.{digits-below, decimals-none, decimals-many, decimals-are, decimals-no}
 use Rattle.number_reader.proofs.decimals_at.Statement.{statement}
 use Rattle.number_reader.proofs.decimals_at.Tie as tie
 

@@ -1,7 +1,7 @@
 use borrow.Author.Needs.{needs}
 use Prim.Native.Nat.{_-_}
 use lib.ListN.{length}
-use Rattle.number_reader.proofs.Ways.{Reading, starts, ends-low, ends-high, too-large, again, ends}
+use Rattle.number_reader.proofs.Readers.{Reading, starts, ends-low, ends-high, too-large, again, ends}
 use Rattle.number_reader.proofs.digits_at.Statement.{statement}
 use Rattle.number_reader.proofs.digits_at.Tie as tie
 

@@ -1,6 +1,6 @@
 use borrow.Author.Needs.{needs}
 use native.Mathlib.Omega.{arith}
-use Rattle.number_reader.proofs.Ways.{name-symbol, name-no}
+use Rattle.number_reader.proofs.Readers.{name-symbol, name-no}
 use Rattle.number_reader.proofs.name_at.Statement.{statement}
 use Rattle.number_reader.proofs.name_at.Tie as tie
 

@@ -1,6 +1,6 @@
 use borrow.Author.Needs.{needs}
 use native.Mathlib.Omega.{arith}
-use Rattle.number_reader.proofs.Ways.{number-minus, number-plain}
+use Rattle.number_reader.proofs.Readers.{number-minus, number-plain}
 use Rattle.number_reader.proofs.number_at.Statement.{statement}
 use Rattle.number_reader.proofs.number_at.Tie as tie
 

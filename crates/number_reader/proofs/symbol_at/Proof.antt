@@ -1,6 +1,6 @@
 use borrow.Author.Needs.{needs}
 use native.Mathlib.Omega.{arith}
-use Rattle.number_reader.proofs.Ways.{symbol-fits, symbol-zero, symbol-none, symbol-is, symbol-no}
+use Rattle.number_reader.proofs.Readers.{symbol-fits, symbol-zero, symbol-none, symbol-is, symbol-no}
 use Rattle.number_reader.proofs.symbol_at.Statement.{statement}
 use Rattle.number_reader.proofs.symbol_at.Tie as tie
 

@@ -1,6 +1,6 @@
 use borrow.Author.Needs.{needs}
 use native.Mathlib.Omega.{arith}
-use Rattle.number_reader.proofs.Ways.{digits-below, unsigned-none, unsigned-point, unsigned-plain, unsigned-no}
+use Rattle.number_reader.proofs.Readers.{digits-below, unsigned-none, unsigned-point, unsigned-plain, unsigned-no}
 use Rattle.number_reader.proofs.unsigned_at.Statement.{statement}
 use Rattle.number_reader.proofs.unsigned_at.Tie as tie
 

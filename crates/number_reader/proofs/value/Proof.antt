@@ -3,7 +3,7 @@ use Prim.Native.Nat.{_^_, _<_}
 use native.Mathlib.Omega.{arith}
 use lib.Dec.{le→leb}
 use lib.Ieee.{inFloat}
-use Rattle.number_reader.proofs.Ways.{value-minus, value-plain}
+use Rattle.number_reader.proofs.Readers.{value-minus, value-plain}
 use Rattle.number_reader.proofs.value.Statement.{statement}
 use Rattle.number_reader.proofs.value.Tie as tie
 

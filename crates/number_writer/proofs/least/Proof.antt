@@ -2,7 +2,7 @@ use borrow.Author.Needs.{needs}
 use mathlib.Core.Path.{sym, subst}
 use lib.Dec.{T}
 use lib.Ieee.{fits, binary32}
-use Rattle.number_writer.proofs.Ways.{first, second, neither}
+use Rattle.number_writer.proofs.ShortestText.{first, second, neither}
 use Rattle.number_writer.proofs.least.Statement.{statement}
 use Rattle.number_writer.proofs.least.Tie as tie
 

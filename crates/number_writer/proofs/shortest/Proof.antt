@@ -1,7 +1,7 @@
 use borrow.Author.Needs.{needs}
 use Prim.Native.Nat.{_-_}
 use native.Mathlib.Omega.{arith}
-use Rattle.number_writer.proofs.Ways.{Looked, start, on, done, never}
+use Rattle.number_writer.proofs.ShortestText.{Looked, start, on, done, never}
 use Rattle.number_writer.proofs.shortest.Statement.{statement}
 use Rattle.number_writer.proofs.shortest.Tie as tie
 

@@ -4,7 +4,7 @@ use native.Mathlib.Omega.{arith}
 use lib.Dec.{le→leb}
 use lib.Ieee.{inFloat}
 use Rattle.numerals.proofs.Quotient.{ten-mono}
-use Rattle.number_writer.proofs.Ways.{value-minus, value-plain}
+use Rattle.number_writer.proofs.ShortestText.{value-minus, value-plain}
 use Rattle.number_writer.proofs.value.Statement.{statement}
 use Rattle.number_writer.proofs.value.Tie as tie
 

@@ -1,5 +1,5 @@
 use borrow.Author.Needs.{needs}
-use Rattle.score.proofs.Ways.{end-filled, end-left}
+use Rattle.score.proofs.Readers.{end-filled, end-left}
 use Rattle.score.proofs.end_of.Statement.{statement}
 use Rattle.score.proofs.end_of.Tie as tie
 

@@ -1,5 +1,5 @@
 use borrow.Author.Needs.{needs}
-use Rattle.score.proofs.Ways.{first-counted, first-short}
+use Rattle.score.proofs.Readers.{first-counted, first-short}
 use Rattle.score.proofs.first.Statement.{statement}
 use Rattle.score.proofs.first.Tie as tie
 

@@ -1,5 +1,5 @@
 use borrow.Author.Needs.{needs}
-use Rattle.score.proofs.Ways.{next-step}
+use Rattle.score.proofs.Readers.{next-step}
 use Rattle.score.proofs.next.Statement.{statement}
 use Rattle.score.proofs.next.Tie as tie
 

@@ -1,7 +1,7 @@
 use borrow.Author.Needs.{needs}
 use Prim.Native.Nat.{_-_}
 use Rattle.bitstream.specs.Bits.{bitsOf}
-use Rattle.score.proofs.Ways.{Reading, starts, again, stops, ends}
+use Rattle.score.proofs.Readers.{Reading, starts, again, stops, ends}
 use Rattle.score.proofs.read_lines.Statement.{statement}
 use Rattle.score.proofs.read_lines.Tie as tie
 

@@ -1,5 +1,5 @@
 use borrow.Author.Needs.{needs}
-use Rattle.score.proofs.Ways.{score-counted, score-short}
+use Rattle.score.proofs.Readers.{score-counted, score-short}
 use Rattle.score.proofs.read_score.Statement.{statement}
 use Rattle.score.proofs.read_score.Tie as tie
 

@@ -1,5 +1,5 @@
 use borrow.Author.Needs.{needs}
-use Rattle.score.proofs.Ways.{unit-line, unit-other, unit-short}
+use Rattle.score.proofs.Readers.{unit-line, unit-other, unit-short}
 use Rattle.score.proofs.read_unit.Statement.{statement}
 use Rattle.score.proofs.read_unit.Tie as tie
 

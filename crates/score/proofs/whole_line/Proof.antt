@@ -1,5 +1,5 @@
 use borrow.Author.Needs.{needs}
-use Rattle.score.proofs.Ways.{whole-filled, whole-left, whole-refused}
+use Rattle.score.proofs.Readers.{whole-filled, whole-left, whole-refused}
 use Rattle.score.proofs.whole_line.Statement.{statement}
 use Rattle.score.proofs.whole_line.Tie as tie
 

@@ -1,5 +1,5 @@
 use borrow.Author.Needs.{needs}
-use Rattle.score_line.proofs.Ways.{control-labelled, control-unlabelled, control-no}
+use Rattle.score_line.proofs.Parts.{control-labelled, control-unlabelled, control-no}
 use Rattle.score_line.proofs.control_at.Statement.{statement}
 use Rattle.score_line.proofs.control_at.Tie as tie
 

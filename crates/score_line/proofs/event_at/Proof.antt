@@ -1,5 +1,5 @@
 use borrow.Author.Needs.{needs}
-use Rattle.score_line.proofs.Ways.{type-0, type-1, type-4, type-5, type-other}
+use Rattle.score_line.proofs.Parts.{type-0, type-1, type-4, type-5, type-other}
 use Rattle.score_line.proofs.event_at.Statement.{statement}
 use Rattle.score_line.proofs.event_at.Tie as tie
 

@@ -1,5 +1,5 @@
 use borrow.Author.Needs.{needs}
-use Rattle.score_line.proofs.Ways.{float-in, float-out, float-no}
+use Rattle.score_line.proofs.Parts.{float-in, float-out, float-no}
 use Rattle.score_line.proofs.float_at.Statement.{statement}
 use Rattle.score_line.proofs.float_at.Tie as tie
 

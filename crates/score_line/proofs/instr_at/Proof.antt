@@ -1,5 +1,5 @@
 use borrow.Author.Needs.{needs}
-use Rattle.score_line.proofs.Ways.{instr-in, instr-duration, instr-instrument, instr-label, symbol-fits}
+use Rattle.score_line.proofs.Parts.{instr-in, instr-duration, instr-instrument, instr-label, symbol-fits}
 use Rattle.score_line.proofs.instr_at.Statement.{statement}
 use Rattle.score_line.proofs.instr_at.Tie as tie
 

@@ -1,5 +1,5 @@
 use borrow.Author.Needs.{needs}
-use Rattle.score_line.proofs.Ways.{labelled-in, labelled-no, unlabelled, label-none, symbol-fits}
+use Rattle.score_line.proofs.Parts.{labelled-in, labelled-no, unlabelled, label-none, symbol-fits}
 use Rattle.score_line.proofs.label_at.Statement.{statement}
 use Rattle.score_line.proofs.label_at.Tie as tie
 

@@ -1,5 +1,5 @@
 use borrow.Author.Needs.{needs}
-use Rattle.score_line.proofs.Ways.{control-in, control-value, control-variable, control-label, symbol-fits}
+use Rattle.score_line.proofs.Parts.{control-in, control-value, control-variable, control-label, symbol-fits}
 use Rattle.score_line.proofs.labelled_at.Statement.{statement}
 use Rattle.score_line.proofs.labelled_at.Tie as tie
 

@@ -1,5 +1,5 @@
 use borrow.Author.Needs.{needs}
-use Rattle.score_line.proofs.Ways.{keypad-in, keypad-short, bits-in, bits-short}
+use Rattle.score_line.proofs.Parts.{keypad-in, keypad-short, bits-in, bits-short}
 use Rattle.score_line.proofs.number_at.Statement.{statement}
 use Rattle.score_line.proofs.number_at.Tie as tie
 

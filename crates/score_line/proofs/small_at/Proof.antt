@@ -1,5 +1,5 @@
 use borrow.Author.Needs.{needs}
-use Rattle.score_line.proofs.Ways.{small-in, small-out, small-no}
+use Rattle.score_line.proofs.Parts.{small-in, small-out, small-no}
 use Rattle.score_line.proofs.small_at.Statement.{statement}
 use Rattle.score_line.proofs.small_at.Tie as tie
 

@@ -1,5 +1,5 @@
 use borrow.Author.Needs.{needs}
-use Rattle.score_line.proofs.Ways.{tempo-in, tempo-no}
+use Rattle.score_line.proofs.Parts.{tempo-in, tempo-no}
 use Rattle.score_line.proofs.tempo_at.Statement.{statement}
 use Rattle.score_line.proofs.tempo_at.Tie as tie
 

@@ -1,5 +1,5 @@
 use borrow.Author.Needs.{needs}
-use Rattle.score_line.proofs.Ways.{timed-in, timed-time, timed-late}
+use Rattle.score_line.proofs.Parts.{timed-in, timed-time, timed-late}
 use Rattle.score_line.proofs.timed_at.Statement.{statement}
 use Rattle.score_line.proofs.timed_at.Tie as tie
 

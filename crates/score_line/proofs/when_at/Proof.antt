@@ -1,5 +1,5 @@
 use borrow.Author.Needs.{needs}
-use Rattle.score_line.proofs.Ways.{when-timed, when-untimed, when-no}
+use Rattle.score_line.proofs.Parts.{when-timed, when-untimed, when-no}
 use Rattle.score_line.proofs.when_at.Statement.{statement}
 use Rattle.score_line.proofs.when_at.Tie as tie
 

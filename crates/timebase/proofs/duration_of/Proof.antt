@@ -1,6 +1,6 @@
 use borrow.Author.Needs.{needs}
-use mathlib.Core.Path.{_≡_, refl, sym, _∙_}
-use mathlib.Core.Bool.{Bool, true, false, _||_}
+use mathlib.Core.Path.{sym, _∙_}
+use mathlib.Core.Bool.{or-false}
 use borrow.Author.Tests.{ne-eqb}
 use lib.Ieee.{ofBits, neg, le}
 use Rattle.timebase.specs.Time.{durationBits, timeBits}
@@ -8,13 +8,9 @@ use Rattle.timebase.specs.inside.Range.{checked}
 use Rattle.timebase.proofs.duration_of.Statement.{statement}
 use Rattle.timebase.proofs.duration_of.Tie as tie
 
-or-no : (b : Bool) → (b || false) ≡ b
-or-no true = refl
-or-no false = refl
-
 pub duration-of-spec : {M : Type 1} → statement M
 duration-of-spec =
     tie.close (tie.spec
     (λ c. unfold checked ofBits neg durationBits timeBits le in rw (c .if1 .taken))
     (λ c κs. search needs)
-    (λ c. unfold durationBits in c .time-of .ensures ∙ sym (rw (ne-eqb _ _ (c .before .if1 .left), or-no))))
+    (λ c. unfold durationBits in c .time-of .ensures ∙ sym (rw (ne-eqb _ _ (c .before .if1 .left), or-false))))

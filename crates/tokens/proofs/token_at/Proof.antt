@@ -1,4 +1,4 @@
-use Rattle.tokens.proofs.Ways.{symbol-at, number-at, whole-at, sign-at}
+use Rattle.tokens.proofs.HeldTokens.{symbol-at, number-at, whole-at, sign-at}
 use borrow.Author.Needs.{needs}
 use Rattle.tokens.proofs.token_at.Statement.{statement}
 use Rattle.tokens.proofs.token_at.Tie as tie

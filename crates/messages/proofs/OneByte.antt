@@ -18,11 +18,11 @@ use Rattle.messages.specs.declared.Gathered.{Gathered}
 
 pub begun-on : {b n : ℕ} → b < firstSystem → n ≡ dataBytes b → Goes (place b n 0) Other ≡ begun b
 unfolding begun
-begun-on {b} h e = ap (λ (n : ℕ). Goes (place b n 0) Other) e ∙ sym (cond-true _ _ (lt-ltb b firstSystem h))
+begun-on {b} h e = cc (lt-ltb b firstSystem h)
 
 pub resumed-on : (s b : ℕ) {n : ℕ} {r : Step} → (s ≡ none → ⊥) → n ≡ dataBytes s → r ≡ given s n 0 b → r ≡ resumed s b
 unfolding resumed
-resumed-on s b h e q = q ∙ ap (λ (n : ℕ). given s n 0 b) e ∙ sym (cond-false _ _ (ne-eqb s none h))
+resumed-on s b h e q = cc (ne-eqb s none h)
 
 pub add-note : (g : Gathered) {h : Heard} {m : Message} → h ≡ Note m → g .count < most
     → record { list = set (g .list) (g .count) m; count = g .count + 1; answer = g .answer } ≡ added g h

@@ -1,7 +1,7 @@
 -- One law for each way through the readers of scores and units. Assumes nothing.
 use Prim.Native.Nat.{ℕ, zero, suc, _+_, _-_, _<_, _≤_}
-use mathlib.Core.Path.{_≡_, refl, sym, ap, ap₂, _∙_}
-use mathlib.Core.Bool.{Bool, true, false, cond}
+use mathlib.Core.Path.{_≡_, refl, sym, ap, _∙_}
+use mathlib.Core.Bool.{Bool, true, false, cond, true≢false}
 use mathlib.Core.List.{List, [], _∷_}
 use native.Mathlib.Numerals.{add-one}
 use native.Mathlib.Omega.{arith}
@@ -41,7 +41,7 @@ pub record Got-line (x : Read Line) : Type 0 where
 pub line-taken : (x : Read Line) → isTaken (lineRead x .answer) ≡ true → Got-line x
 unfolding lineRead refusedLine
 line-taken (got l p) e = record { line = l; next = p; is = refl }
-line-taken (refused f) e = absurd (let k : true ≡ false = sym e ∙ fault-not-taken f in let z : _≡_ {A = ℕ} 0 1 = cc in omega arith)
+line-taken (refused f) e = absurd (true≢false (sym e ∙ fault-not-taken f))
 
 -- and any other a fault
 pub record Faulty (x : Read Line) : Type 0 where
@@ -50,7 +50,7 @@ pub record Faulty (x : Read Line) : Type 0 where
 
 pub line-refused : (x : Read Line) → isTaken (lineRead x .answer) ≡ false → Faulty x
 unfolding lineRead
-line-refused (got l p) e = absurd (let z : _≡_ {A = ℕ} 0 1 = cc in omega arith)
+line-refused (got l p) e = absurd (true≢false e)
 line-refused (refused f) e = record { fault = f; is = refl }
 
 -- ---- the lines of a score
@@ -69,9 +69,7 @@ heard-before bits l (faulty f i) = refl
 lines-more : (bits : List Bool) (n i at : ℕ) → 0 < n → linesFrom bits n i at ≡ lineThen (lineFrom (bitSource bits) at) i (λ p. linesFrom bits (n - 1) (suc i) p)
 unfolding linesFrom
 lines-more bits zero i at h = absurd (omega arith)
-lines-more bits (suc n) i at h =
-    let e : n ≡ suc n - 1 = omega arith in
-    ap (λ (k : ℕ). lineThen (lineFrom (bitSource bits) at) i (λ p. linesFrom bits k (suc i) p)) e
+lines-more bits (suc n) i at h = let e : suc n - 1 ≡ n = omega arith in rw e
 
 -- the reading of what is left gives what the reading of all gives
 pub record Reading (bits : List Bool) (count start at i : ℕ) : Type 0 where
@@ -82,34 +80,28 @@ pub starts : (bits : List Bool) (count start : ℕ) → Reading bits count start
 starts bits count start = record { within = omega arith; same = let e : count - 0 ≡ count = omega arith in rw e }
 
 module _ (bits : List Bool) (count start at i : ℕ) where
-  pub again : {r : LineRead} {b : Bool} → Reading bits count start at i → i < count → r ≡ lineAt bits at → b ≡ isTaken (r .answer) → b ≡ true
-      → Reading bits count start (r .next) (i + 1)
-  unfolding lineAt lineRead
-  again {r} g h e f k =
-      let x = lineFrom (bitSource bits) at in
-      let t = line-taken x (ap (λ (y : LineRead). isTaken (y .answer)) (sym e) ∙ sym f ∙ k) in
-      let p : r .next ≡ t .next = ap (λ (y : LineRead). y .next) e ∙ ap (λ (y : Read Line). lineRead y .next) (t .is) in
-      let n : count - i - 1 ≡ count - (i + 1) = omega arith in
-      let m : linesFrom bits (count - i) i at ≡ before (t .line) (linesFrom bits (count - (i + 1)) (i + 1) (r .next)) =
-      lines-more bits (count - i) i at (omega arith)
-      ∙ ap (λ (y : Read Line). lineThen y i (λ p. linesFrom bits (count - i - 1) (suc i) p)) (t .is)
-      ∙ ap (before (t .line)) (ap₂ (λ (y z : ℕ). linesFrom bits y z (t .next)) n (sym (add-one i)) ∙ ap (linesFrom bits (count - (i + 1)) (i + 1)) (sym p)) in
-      record { within = omega (arith, g .within); same = sym (heard-before bits (t .line) _) ∙ ap (λ (y : Lines). heard (ended bits y)) (sym m) ∙ g .same }
+  module _ {r : LineRead} {b : Bool} (g : Reading bits count start at i) (h : i < count) (e : r ≡ lineAt bits at) (f : b ≡ isTaken (r .answer)) where
+    pub again : b ≡ true → Reading bits count start (r .next) (i + 1)
+    unfolding lineAt lineRead
+    again k =
+        let t = line-taken (lineFrom (bitSource bits) at) (cc) in
+        let p : r .next ≡ t .next = ap (λ (y : LineRead). y .next) e ∙ ap (λ (y : Read Line). lineRead y .next) (t .is) in
+        let n : count - i - 1 ≡ count - (i + 1) = omega arith in
+        let m = rw (t .is) at (lines-more bits (count - i) i at (omega arith)) in
+        let q = heard-before bits (t .line) (linesFrom bits (count - (i + 1)) (i + 1) (r .next)) in
+        record { within = omega (arith, g .within); same = cc (m, q, add-one i, g .same) }
 
-  pub stops : {r : LineRead} {b : Bool} → Reading bits count start at i → i < count → r ≡ lineAt bits at → b ≡ isTaken (r .answer) → b ≡ false
-      → record { answer = r .answer; line = i } ≡ heard (ended bits (linesFrom bits count 0 start))
-  unfolding lineAt lineRead ended refusedLine
-  stops {r} g h e f k =
-      let x = lineFrom (bitSource bits) at in
-      let t = line-refused x (ap (λ (y : LineRead). isTaken (y .answer)) (sym e) ∙ sym f ∙ k) in
-      let a : r .answer ≡ answerOf (t .fault) = ap (λ (y : LineRead). y .answer) e ∙ ap (λ (y : Read Line). lineRead y .answer) (t .is) in
-      let m : linesFrom bits (count - i) i at ≡ faulty (t .fault) i =
-      lines-more bits (count - i) i at (omega arith) ∙ ap (λ (y : Read Line). lineThen y i (λ p. linesFrom bits (count - i - 1) (suc i) p)) (t .is) in
-      (λ j. record { answer = a j; line = i }) ∙ ap (λ (y : Lines). heard (ended bits y)) (sym m) ∙ g .same
+    pub stops : b ≡ false → record { answer = r .answer; line = i } ≡ heard (ended bits (linesFrom bits count 0 start))
+    unfolding lineAt lineRead ended refusedLine
+    stops k =
+        let t = line-refused (lineFrom (bitSource bits) at) (cc) in
+        let a : r .answer ≡ answerOf (t .fault) = ap (λ (y : LineRead). y .answer) e ∙ ap (λ (y : Read Line). lineRead y .answer) (t .is) in
+        let m = rw (t .is) at (lines-more bits (count - i) i at (omega arith)) in
+        (λ j. record { answer = a j; line = i }) ∙ rw m at (g .same)
 
   pub ends : {r : ScoreRead} → Reading bits count start at i → count ≤ i → r ≡ heard (ended bits (all [] at)) → r ≡ heard (ended bits (linesFrom bits count 0 start))
   unfolding linesFrom
-  ends g h e = let n : count - i ≡ 0 = omega arith in e ∙ ap (λ (y : ℕ). heard (ended bits (linesFrom bits y i at))) (sym n) ∙ g .same
+  ends g h e = let n : count - i ≡ 0 = omega arith in e ∙ rw n at (g .same)
 
 -- ---- a whole score
 
@@ -161,11 +153,11 @@ whole-refused bits r e f = sym (rw (sym e ∙ f))
 pub unit-line : (bits : List Bool) (kind p : ℕ) {g : Got} {r x : LineRead} → g ≡ readAt bits 0 2 → g ≡ Value kind p → kind ≡ 0 → r ≡ lineAt bits p → x ≡ wholeLine bits r → x ≡ unitOf bits
 unfolding unitOf opened
 unit-line bits kind p e f z h k =
-    k ∙ ap (wholeLine bits) h ∙ sym (ap (λ (b : Bool). cond b (wholeLine bits (lineAt bits p)) (refusedLine NotCarried)) (eq-eqb kind 0 z)) ∙ ap (opened bits) (sym f ∙ e)
+    k ∙ ap (wholeLine bits) h ∙ sym (rw (sym e ∙ f, eq-eqb kind 0 z))
 
 pub unit-other : (bits : List Bool) (kind p : ℕ) {g : Got} {x : LineRead} → g ≡ readAt bits 0 2 → g ≡ Value kind p → (kind ≡ 0 → ⊥) → x ≡ refusedLine NotCarried → x ≡ unitOf bits
 unfolding unitOf opened
-unit-other bits kind p e f z k = k ∙ sym (ap (λ (b : Bool). cond b (wholeLine bits (lineAt bits p)) (refusedLine NotCarried)) (ne-eqb kind 0 z)) ∙ ap (opened bits) (sym f ∙ e)
+unit-other bits kind p e f z k = k ∙ sym (rw (sym e ∙ f, ne-eqb kind 0 z))
 
 pub unit-short : (bits : List Bool) {g : Got} {x : LineRead} → g ≡ readAt bits 0 2 → g ≡ Short → x ≡ refusedLine CutShort → x ≡ unitOf bits
 unfolding unitOf opened

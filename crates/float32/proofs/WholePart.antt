@@ -6,6 +6,7 @@ use mathlib.Core.Bool.{Bool, true, false, _&&_, cond, true≢false}
 use native.Mathlib.Nat.{le-refl, zero-lt-suc, eq-or-lt-of-le, mul-one, one-mul, zero-mul, add-mul, mul-sub, mul-comm, mul-assoc, mul-right-comm, div-one, div-lt-iff-lt-mul, div-mul-le-self, mul-le-mul-right, mul-le-mul-left, mul-lt-mul-of-pos-right, pow-suc, mul-pos}
 use native.Mathlib.Omega.{arith}
 use borrow.Author.Tests.{ltb-true, ltb-false, lt-ltb, le-ltb, ne-eqb}
+use borrow.Table.Steps.{cases}
 use lib.IntN.{ℤ, pos, negsuc}
 use lib.Dec.{T, ltb, leb, eqb, ltb→lt, lit≤, eqb·suc-zero}
 use lib.Pow.{pow-add, pow-pos}
@@ -59,7 +60,7 @@ own-large s m (pos j) t h =
 -- ---- the difference of two whole numbers is exact
 -- a float of the value a, over a common denominator
 over : (x p a q : ℕ) → x * 1 ≡ a * p → x * q ≡ p * q * a
-over x p a q h = ap (λ (z : ℕ). z * q) (sym (mul-one x) ∙ h) ∙ mul-assoc a p q ∙ mul-comm a (p * q)
+over x p a q h = cc (mul-one x, mul-assoc a p q, mul-comm a (p * q))
 
 sub-whole : (x y : Float) (a b : ℕ) → HasValue x false a 1 → HasValue y false b 1 → b ≤ a → sub binary32 x y ≡ round binary32 false (a - b) 1
 unfolding sub
@@ -72,7 +73,7 @@ sub-whole (fin false m e) (fin false n d) a b h k l =
     let o : n * up d * down e ≤ m * up e * down d = rw (x, y) (mul-le-mul-left c l) in
     rw (le-ltb _ _ o)
     (round-same binary32 false (m * up e * down d - n * up d * down e) c (a - b) 1 (mul-pos (down-pos e) (down-pos d)) (lit≤ tt)
-    (mul-one _ ∙ (λ i. x i - y i) ∙ sym (mul-sub c a b) ∙ mul-comm c (a - b)))
+    (cc (mul-one (m * up e * down d - n * up d * down e), mul-sub c a b, mul-comm c (a - b))))
 
 -- 0 less a whole number; the zero is +0
 minus-whole : (y : Float) (n : ℕ) → HasValue y false n 1 → sub binary32 zeroF y ≡ cond (eqb n 0) zeroF (round binary32 true n 1)
@@ -88,7 +89,7 @@ minus-whole (fin false k d) (suc n) v =
 
 -- ---- a float against a whole number
 across : (k : ℕ) (d : ℤ) (n c : ℕ) → k * up d * 1 ≡ n * down d → k * up d * c ≡ n * c * down d
-across k d n c h = ap (λ (z : ℕ). z * c) (sym (mul-one (k * up d)) ∙ h) ∙ mul-right-comm n (down d) c
+across k d n c h = cc (mul-one (k * up d), mul-right-comm n (down d) c)
 
 below-whole : (m : ℕ) (e : ℤ) (y : Float) (n : ℕ) → HasValue y false n 1 → m * up e < n * down e → lt (fin false m e) y ≡ true
 unfolding lt
@@ -110,11 +111,7 @@ settled (fin false m (negsuc k)) q s o t p b l u =
     let g : 2 ^ 23 * 2 ^ suc k ≤ q * 2 ^ suc k = mul-le-mul-right (2 ^ suc k) b in
     let w : 2 ^ suc k ≡ 2 ^ k * 2 = pow-suc 2 k in
     absurd (omega (arith, fits-parts false m (negsuc k) t .0, pow-pos k))
-settled (fin false m (pos j)) q s o t p b l u = go (eq-or-lt-of-le l)
-  where
-    go : (q * 1 ≡ m * 2 ^ j * 1) ⊎ (q * 1 < m * 2 ^ j * 1) → HasValue (fin false m (pos j)) false q 1 ⊎ HasValue (fin false m (pos j)) false s 1
-    go (inl e) = inl (refl, sym e)
-    go (inr h) = inr (refl, omega arith)
+settled (fin false m (pos j)) q s o t p b l u = ⊎-elim (λ e. inl (refl, sym e)) (λ h. inr (refl, omega arith)) (eq-or-lt-of-le l)
 
 sum-whole : (m : ℕ) (e : ℤ) → m * up e < 2 ^ 23 * down e
     → HasValue (add binary32 (fin false m e) big) false (2 ^ 23 + whole m e) 1 ⊎ HasValue (add binary32 (fin false m e) big) false (2 ^ 23 + suc (whole m e)) 1
@@ -192,11 +189,9 @@ abbrev worked : Float → Float → Bool → Float
 worked x a b = cond (lt a big) (cond b (sub binary32 zeroF (dropped a)) (dropped a)) x
 
 worked-is : (s : Bool) (m : ℕ) (e : ℤ) → T (fits binary32 (fin s m e)) → worked (fin s m e) (fin false m e) s ≡ intOf (fin s m e)
-worked-is s m e t = go (lt (fin false m e) big) refl
-  where
-    go : (b : Bool) → lt (fin false m e) big ≡ b → cond b (cond s (sub binary32 zeroF (dropped (fin false m e))) (dropped (fin false m e))) (fin s m e) ≡ intOf (fin s m e)
-    go true p = let h : m * up e * 1 < 1 * 2 ^ 23 * down e = unfold lt in ltb-true _ _ p in signed-is s m e (omega arith)
-    go false p = own-large s m e t (unfold lt in ltb-false _ _ p)
+worked-is s m e t =
+    cases (lt (fin false m e) big) (λ p. let h : m * up e * 1 < 1 * 2 ^ 23 * down e = unfold lt in ltb-true _ _ p in cc (signed-is s m e (omega arith)))
+    (λ p. cc (own-large s m e t (unfold lt in ltb-false _ _ p)))
 
 abbrev worked-out : Float → Float
 worked-out x = worked x (cond (lt x zeroF) (neg x) x) (lt x zeroF)
