@@ -15,7 +15,7 @@ use Rattle.bitstream.specs.Bits.{field, bitsOf, valueOf}
 use Rattle.bitstream.specs.Fields.{farthest, put, over, roomFor, readAt}
 use Rattle.bitstream.specs.inside.Fields.{Room, written}
 use Rattle.bitstream.specs.declared.Got.the-variants.{Value, Short}
-use Rattle.bitstream.proofs.Laws.{length-field, valueOf-field, field-valueOf, valueOf-lt, length-bitsOf}
+use Rattle.bitstream.proofs.BitValues.{length-field, valueOf-field, field-valueOf, valueOf-lt, length-bitsOf}
 
 -- ---- room
 

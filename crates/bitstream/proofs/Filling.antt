@@ -13,7 +13,7 @@ use lib.Dec.{eqb, ltb}
 use Rattle.laws.proofs.Choice.{both-true}
 use Rattle.bitstream.specs.Bits.{field, bitsOf, valueOf}
 use Rattle.bitstream.specs.Filling.{filled, missing, filledUp, bytesFrom, bytesOf}
-use Rattle.bitstream.proofs.Laws.{length-field, valueOf-field, field-valueOf, length-bitsOf}
+use Rattle.bitstream.proofs.BitValues.{length-field, valueOf-field, field-valueOf, length-bitsOf}
 use Rattle.bitstream.proofs.Fields.{bitsOf-drop}
 use Rattle.bitstream.proofs.Window.{value-part}
 

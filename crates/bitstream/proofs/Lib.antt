@@ -1,4 +1,4 @@
-pub mod Laws
+pub mod BitValues
 pub mod Fields
 pub mod Window
 pub mod Filling

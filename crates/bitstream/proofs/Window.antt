@@ -9,7 +9,7 @@ use lib.ListN.{length, getD, take, drop, length-append, length-drop, take-append
 use lib.Seq.{take-nil, take-take, drop-drop, take-suc, getD-drop, length-take-le}
 use lib.Pow.{pow-add, high, low}
 use Rattle.bitstream.specs.Bits.{field, bitsOf, valueOf, digit}
-use Rattle.bitstream.proofs.Laws.{length-field, valueOf-field, valueOf-lt, length-bitsOf}
+use Rattle.bitstream.proofs.BitValues.{length-field, valueOf-field, valueOf-lt, length-bitsOf}
 use Rattle.bitstream.specs.Fields.{over}
 use Rattle.bitstream.proofs.Fields.{past-over, before-over, bitsOf-inj, bitsOf-drop}
 

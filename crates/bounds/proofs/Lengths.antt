@@ -10,7 +10,7 @@ use Rattle.translation.specs.Translation.{lowered}
 use Rattle.translation.proofs.Lengths.{lowered-short}
 use Rattle.bounds.specs.Sizes.{bodyAt, allLowered, LoweredFits}
 use Rattle.bounds.proofs.Exprs.{past-length}
-use Rattle.bounds.proofs.Whole.{program-fits, body-length}
+use Rattle.bounds.proofs.WholeOrchestra.{program-fits, body-length}
 
 pub lowered-length : (r n g : ℕ) (t : Statements) → length (lowered r n g t) ≤ length (code t)
 lowered-length r n g t = omega (arith, lowered-short r n g t, past-length n t)

@@ -3,7 +3,7 @@ pub mod Placing
 pub mod Measures
 pub mod Statements
 pub mod Stands
-pub mod Whole
+pub mod WholeOrchestra
 pub mod Lengths
 pub mod Ifs
 pub mod Sounding

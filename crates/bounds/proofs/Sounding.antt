@@ -4,9 +4,9 @@ use mathlib.Core.List.{List}
 use lib.Ieee.{Float}
 use Rattle.syntax.specs.Tree.{Statements}
 use Rattle.translation.specs.Statements.{Playable, BirthMeans, KMeans, PlayedMeans}
-use Rattle.translation.proofs.Laws.{birth-means, k-means, played-means}
+use Rattle.translation.proofs.CodeMeans.{birth-means, k-means, played-means}
 use Rattle.bounds.specs.Sounds.{Sounds, InstrumentSounds}
-use Rattle.bounds.proofs.Whole.{instrument-playable}
+use Rattle.bounds.proofs.WholeOrchestra.{instrument-playable}
 
 pub sounds : (vals : List Float) (n : ℕ) (t : Statements) → Playable vals n 0 t → Sounds vals n t
 unfolding BirthMeans KMeans PlayedMeans

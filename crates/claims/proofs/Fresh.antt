@@ -12,7 +12,7 @@ use Rattle.answer.specs.Numbers.{numberOf, isTaken}
 use Rattle.answer.specs.declared.Answer.the-variants.{Taken, OutOfRange, Ended, NoInstrument}
 use Rattle.tokens.specs.declared.Token.{Token}
 use Rattle.tokens.specs.Spelling.{Bytes}
-use Rattle.tokens.proofs.Laws.{one-spelling}
+use Rattle.tokens.proofs.RoundTrip.{one-spelling}
 use Rattle.tokens.specs.Measures.{longest, measured}
 use Rattle.syntax.specs.Tree.{Instrument}
 use Rattle.syntax.specs.Names.{nameRules}

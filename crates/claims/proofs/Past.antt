@@ -12,7 +12,7 @@ use Rattle.answer.specs.Numbers.{numberOf, isTaken}
 use Rattle.score_line.specs.declared.Line.{Line}
 use Rattle.syntax.specs.Tree.{Instrument}
 use Rattle.voices.specs.Tree.{treeVoices}
-use Rattle.voices.proofs.Laws.{Sixteen, alike}
+use Rattle.voices.proofs.Plays.{Sixteen, alike}
 use Rattle.voices.proofs.Alike.{Alike, Notes, block-same, played-same, played-good}
 use Rattle.kept_voices.specs.Voices.{Held}
 use Rattle.players.specs.Lists.{each}

@@ -17,7 +17,7 @@ use Rattle.bitstream.specs.Fields.{readAt}
 use Rattle.bitstream.specs.declared.Got.{Got}
 use Rattle.bitstream.specs.declared.Got.the-variants as gives
 use Rattle.timebase.specs.Time.{cycleIn, tempoBits}
-use Rattle.timebase.proofs.Laws.{tempo-from-to, cycle-from-to}
+use Rattle.timebase.proofs.RangesAndTicks.{tempo-from-to, cycle-from-to}
 use Rattle.formats.specs.Format.{Source, bitSource, keypadSource, Read, got, refused, andThen, numberFrom}
 use Rattle.formats.specs.Format as format
 use Rattle.formats.specs.Description.{Description, flag, pair, choose, format as formatOf}

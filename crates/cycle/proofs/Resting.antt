@@ -24,7 +24,7 @@ use Rattle.steps.specs.Steps.{advanced}
 use Rattle.state.specs.declared.Playing.{Playing}
 use Rattle.state.specs.States.{holdsOf, endsNow, queueAfter, restsNow, restedOf, silence}
 use Rattle.state.specs.declared.State.{State}
-use Rattle.state.proofs.Ways.{Rest, rest-facts}
+use Rattle.state.proofs.AtRest.{Rest, rest-facts}
 use Rattle.cycle.specs.OneCycle.{playedOf, stateAfter, blockAfter}
 
 module _ (v : Voices Held) (x : Settings) where

@@ -3,4 +3,4 @@ pub mod Readying
 pub mod Seating
 pub mod Rooms
 pub mod Together
-pub mod Whole
+pub mod StepFive

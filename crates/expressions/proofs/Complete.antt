@@ -17,7 +17,7 @@ use Rattle.expressions.specs.declared.Tail.the-variants.{Binary, Questio
 use Rattle.expressions.specs.Roles.{headL, tailOf, tailL, tailSign}
 use Rattle.expressions.specs.Reader.{Res, no, ok, prepend, lastly, byHead, byTail, reader}
 use Rattle.syntax.specs.Grammar.{Derives, real, whole, named, prefixed, bracketed, called, called2, sides, chosen, Binds}
-use Rattle.expressions.proofs.Laws.{expr·law, more·law}
+use Rattle.expressions.proofs.ReaderSteps.{expr·law, more·law}
 use Rattle.expressions.proofs.Tables as Tables
 use Rattle.expressions.proofs.Tables.{Tails, tails, Ends, levels, tail-operator, head-prefix, head-call, head-call2}
 

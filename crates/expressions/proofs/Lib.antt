@@ -3,7 +3,7 @@ pub mod Moves
 pub mod Results
 pub mod Tables
 pub mod Sound
-pub mod Laws
+pub mod ReaderSteps
 pub mod Complete
 pub mod Unique
 pub mod Runs

@@ -18,7 +18,7 @@ use Rattle.formats.specs.inside.Lengths.{widths, ifSetLength, timesLengt
 use Rattle.formats.specs.Format as F
 use Rattle.formats.specs.Description.{Description, flag, field, oneOf, nothing, choose, ifSet, setThen, times, as-a, format, small}
 use Rattle.formats.proofs.Gives.{Fits, Gives}
-use Rattle.formats.proofs.Laws.{Law, Stands, number-there, field-law, small-law, flag-law, lawful-flag, oneOf-law, nothing-law, choose-law, ifSet-law, setThen-law, times-law, as-a-law}
+use Rattle.formats.proofs.RoundTrips.{Law, Stands, number-there, field-law, small-law, flag-law, lawful-flag, oneOf-law, nothing-law, choose-law, ifSet-law, setThen-law, times-law, as-a-law}
 
 -- ---- what the laws ask of a description: of its fields, its names and its views
 

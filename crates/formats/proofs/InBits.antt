@@ -10,7 +10,7 @@ use lib.Seq.{take-at, drop-at, drop-drop}
 use Rattle.bitstream.specs.Bits.{field, valueOf}
 use Rattle.bitstream.specs.Fields.{put, farthest, readAt}
 use Rattle.bitstream.specs.declared.Got.the-variants.{Value}
-use Rattle.bitstream.proofs.Laws.{length-field, valueOf-field}
+use Rattle.bitstream.proofs.BitValues.{length-field, valueOf-field}
 use Rattle.bitstream.proofs.Fields.{room-yes, read-back}
 use Rattle.formats.specs.Format.{bitSource, Field, of, fieldBits}
 use Rattle.formats.specs.inside.Lengths.{widths}

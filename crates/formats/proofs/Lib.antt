@@ -1,5 +1,5 @@
 pub mod Gives
 pub mod InBits
 pub mod InWords
-pub mod Laws
+pub mod RoundTrips
 pub mod Descriptions

@@ -8,7 +8,7 @@ use Rattle.tokens.specs.declared.Token.{Token}
 use Rattle.syntax.specs.inside.Program.{Ins}
 use Rattle.expressions.specs.Reader.{Res, no, ok, seq, sign, emit, reader}
 use Rattle.expressions.proofs.Runs.{Took}
-use Rattle.expressions.proofs.Laws.{All, none, some, All-weaken, All-seq, All-if, reader-bounded}
+use Rattle.expressions.proofs.ReaderSteps.{All, none, some, All-weaken, All-seq, All-if, reader-bounded}
 
 pub sign-took : (s : ℕ) (ts : List Token) → All (Took 1 ts) (sign s ts)
 sign-took s ts = All-if s ts (ok []) no (λ r e. some (record { room = omega (arith, ap length e) })) none

@@ -19,7 +19,7 @@ use Rattle.grammar.specs.declared.Lead.the-variants.{Kind, Imports, Stop
 use Rattle.grammar.specs.Starts.{startL, leadL}
 use Rattle.grammar.specs.Reader.{setTo, bracketed, close, otherwise, branches, byStart, stepStatements, statements, name, names, stepNames, listed, byLead, stepDeclarations, declarations, fields, header, body, instrument, orchestra, stepInstruments, none as nothing}
 use Rattle.syntax.specs.Grammar.{IsExpr, Stmts, none, set, out, when, either, Names, one, more, Fields, none as no·fields, some as some·fields, Kinds, ivar, ksig, asig, imports, Decls, none as no·decls, some as some·decls, Instr, is, Orchestra, last, next}
-use Rattle.expressions.proofs.Laws.{All, none as unread, some as read, All-weaken, All-seq, All-cond, All-if, All-sign, All-read, Reads, reads, signed}
+use Rattle.expressions.proofs.ReaderSteps.{All, none as unread, some as read, All-weaken, All-seq, All-cond, All-if, All-sign, All-read, Reads, reads, signed}
 use Rattle.grammar.proofs.Steady.{whole-all}
 use Rattle.expressions.proofs.Sound.{sound as expr-sound}
 

@@ -11,7 +11,7 @@ use Rattle.syntax.specs.inside.Program.{Ins}
 use Rattle.expressions.specs.Roles.{signL}
 use Rattle.expressions.specs.Reader.{Res, ok, seq}
 use Rattle.grammar.specs.Reader.{deep, whole}
-use Rattle.expressions.proofs.Laws.{All, none, some, All-weaken, All-seq, All-if, seq-same}
+use Rattle.expressions.proofs.ReaderSteps.{All, none, some, All-weaken, All-seq, All-if, seq-same}
 use Rattle.expressions.proofs.Runs.{Took}
 
 -- a reader that reads no more instructions than tokens

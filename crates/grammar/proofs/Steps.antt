@@ -17,7 +17,7 @@ use Rattle.grammar.specs.declared.Word.{Word}
 use Rattle.grammar.specs.declared.Word.the-variants.{Is, Not}
 use Rattle.grammar.specs.Starts.{startL, startOf, leadL, leadOf, wordOf}
 use Rattle.grammar.specs.Reader.{setTo, bracketed, otherwise, branches, byStart, stepStatements, statements, byWord, name, stepNames, names, listed, byLead, stepDeclarations, declarations, fields, header, body, instrument, stepInstruments, orchestra, none as nothing}
-use Rattle.expressions.proofs.Laws.{All, none, some, All-weaken, All-cond}
+use Rattle.expressions.proofs.ReaderSteps.{All, none, some, All-weaken, All-cond}
 use Rattle.expressions.proofs.Runs.{Took}
 use Rattle.grammar.proofs.Results.{sign-took, seq-took, sign-emit, expr-took}
 use Rattle.grammar.proofs.Steady.{Bounded, Steady, steady-less, fixed, self, then, where-sign, past-first, whole-took, whole·law}

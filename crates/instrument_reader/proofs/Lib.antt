@@ -1,2 +1,2 @@
-pub mod Ways
-pub mod Laws
+pub mod Reading
+pub mod WholeReading

@@ -1,2 +1,2 @@
 pub mod Loop
-pub mod Laws
+pub mod WholeBlock

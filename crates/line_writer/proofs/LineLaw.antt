@@ -14,14 +14,14 @@ use lib.Ieee.{Float, binary32, fits, ofBits, toBits}
 use lib.Ieee.Bits.{ofBits-fits, ofBits-toBits, toBits-lt}
 use lib.Ieee.Fits.{and-i, and-l, and-r, eq→eqb}
 use Rattle.timebase.specs.Time.{finiteBits}
-use Rattle.timebase.proofs.Laws.{pattern-back, time-finite, duration-finite, tempo-finite}
+use Rattle.timebase.proofs.RangesAndTicks.{pattern-back, time-finite, duration-finite, tempo-finite}
 use Rattle.formats.specs.Format.{Format, all}
 use Rattle.formats.specs.Format as F
 use Rattle.formats.specs.Description.{format}
 use Rattle.formats.specs.inside.Lengths.{timesLength, lengthOf}
 use Rattle.formats.specs.declared.Fault.{Fault}
 use Rattle.formats.specs.declared.Fault.the-variants as fault
-use Rattle.formats.proofs.Laws.{Law}
+use Rattle.formats.proofs.RoundTrips.{Law}
 use Rattle.formats.proofs.Descriptions.{Views, Proper, Raises, Every, Held, law}
 use Rattle.score_line.specs.LineFormat.{symbol, inRange, float, number, whenOf, whenParts, timed, when, labelOf, labelParts, label, Kind, instr, control, end, tempo, kind, Body, labelled, body, counted, Values, values, Parts, afterTime, parts, eventOf, eventParts, countOf, listOf, valuesOf, zeroFloat, padded, lineWith, kindOf, partsOf, isZero, used, filled, line}
 use Rattle.score_line.specs.declared.When.{When}

@@ -18,7 +18,7 @@ use Rattle.answer.specs.declared.Answer.{Answer}
 use Rattle.bitstream.specs.Bits.{bitsOf, field}
 use Rattle.bitstream.specs.Fields.{farthest, over, put}
 use Rattle.bitstream.specs.inside.Fields.{written}
-use Rattle.bitstream.proofs.Laws.{length-field, length-bitsOf}
+use Rattle.bitstream.proofs.BitValues.{length-field, length-bitsOf}
 use Rattle.bitstream.proofs.Fields.{length-over, over-over, written-over}
 use Rattle.score_line.specs.Reading.{keypadLine}
 use Rattle.score_line.specs.declared.Line.{Line}

@@ -17,7 +17,7 @@ use Rattle.syntax.specs.Grammar.{Orchestra}
 use Rattle.rules.specs.Formed.{opOf, argOf, opsOf, argsOf, valsOf}
 use Rattle.operations.specs.Words.{codeSize, programSize}
 use Rattle.lowering.specs.Orchestra.{Code, code, codeOf, filled}
-use Rattle.bounds.proofs.Whole.{program-fits, orchestra-playable}
+use Rattle.bounds.proofs.WholeOrchestra.{program-fits, orchestra-playable}
 use Rattle.bounds.specs.Sizes.{numbers}
 use Rattle.loader_claims.specs.Code.{wordsOf, startsOf, ProgramCode}
 use Rattle.loader_claims.proofs.Stretches.{program-code}

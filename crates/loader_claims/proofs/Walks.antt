@@ -18,10 +18,10 @@ use Rattle.lowering.specs.Fold.{Low, low, rest, lowerOne, lowerAll}
 use Rattle.lowering.specs.Orchestra.{Code, code, noted, walkFrom}
 use Rattle.code_words.proofs.Lists.{emit-room}
 use Rattle.code_words.proofs.Trims.{Ended, none, ended-append, lowered-ended}
-use Rattle.lowering.proofs.Laws.{walk-lowers}
+use Rattle.lowering.proofs.WalkAppends.{walk-appends}
 use Rattle.bounds.specs.Sizes.{bodyAt, AllPlayable, allLowered}
 use Rattle.bounds.proofs.Exprs.{past-length}
-use Rattle.bounds.proofs.Whole.{body-length}
+use Rattle.bounds.proofs.WholeOrchestra.{body-length}
 use Rattle.bounds.proofs.Lengths.{lowered-length}
 use Rattle.loader_claims.specs.Code.{KindsAll, startsFrom}
 
@@ -149,7 +149,7 @@ module _ (cap r : ℕ) where
         lower-append ds (codeOfTree t) n (rest c 0)
         ∙ ap (lowerAll cap r m (codeOfTree t)) (idle-all ds n (rest c 0) q)
         ∙ ap (λ (x : List Ins). lowerAll cap r m x (rest c 0)) (sym (append-nil (codeOfTree t)))
-        ∙ walk-lowers cap r vals m 0 t [] c p (omega arith) (omega (arith, past-length m t)) j
+        ∙ walk-appends cap r vals m 0 t [] c p (omega arith) (omega (arith, past-length m t)) j
 
     -- one instrument: where its words begin is noted
     walk-instrument : (vals : List Float) (n : ℕ) (i : Instrument) (more : List Ins) (c s : List ℕ) → Playable vals (bodyAt n i) 0 (i .body) → FormedKinds (i .declarations)

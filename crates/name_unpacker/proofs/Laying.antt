@@ -15,7 +15,7 @@ use Rattle.answer.specs.declared.Answer.the-variants.{Taken, NoRoom}
 use Rattle.bitstream.specs.Bits.{bitsOf, valueOf}
 use Rattle.bitstream.specs.inside.Fields.{Room}
 use Rattle.bitstream.specs.Filling.{bytesFrom}
-use Rattle.bitstream.proofs.Laws.{length-bitsOf}
+use Rattle.bitstream.proofs.BitValues.{length-bitsOf}
 use Rattle.names.specs.Form.{Names, lengthBits, listBytes, Table, holds, refused}
 use Rattle.names.specs.inside.Reading.{Read, namesFrom, tableOf}
 use Rattle.names.specs.Asking.{Unpacking, unpacking, laid, unpackingOf}

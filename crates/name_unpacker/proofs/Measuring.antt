@@ -17,7 +17,7 @@ use Rattle.bitstream.specs.Fields.{readAt}
 use Rattle.bitstream.specs.Filling.{filled, bytesFrom}
 use Rattle.bitstream.specs.declared.Got.{Got}
 use Rattle.bitstream.specs.declared.Got.the-variants.{Value, Short}
-use Rattle.bitstream.proofs.Laws.{length-bitsOf, valueOf-lt}
+use Rattle.bitstream.proofs.BitValues.{length-bitsOf, valueOf-lt}
 use Rattle.bitstream.proofs.Fields.{read-back, room-yes}
 use Rattle.names.specs.Form.{Names, countBits, lengthBits, namesBits, listBytes, holds, refused}
 use Rattle.names.specs.inside.Reading.{Read, got, cut, andThen, numberFrom, namesFrom, tableFrom, isFilling, judged, tableOf}

@@ -15,7 +15,7 @@ use Rattle.bitstream.specs.Filling.{bytesFrom}
 use Rattle.bitstream.specs.Fields.{readAt}
 use Rattle.bitstream.specs.declared.Got.{Got}
 use Rattle.bitstream.specs.declared.Got.the-variants.{Value, Short}
-use Rattle.bitstream.proofs.Laws.{length-bitsOf, valueOf-lt}
+use Rattle.bitstream.proofs.BitValues.{length-bitsOf, valueOf-lt}
 use Rattle.bitstream.proofs.Fields.{room-yes}
 use Rattle.names.specs.Form.{Names, lengthBits, listBytes}
 use Rattle.names.specs.inside.Reading.{Read, got, cut, andThen, numberFrom, stretchFrom, nameFrom, namesFrom}

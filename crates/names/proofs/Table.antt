@@ -14,7 +14,7 @@ use Rattle.laws.proofs.Choice.{cond-true, both-true}
 use Rattle.answer.specs.declared.Answer.the-variants as answers
 use Rattle.bitstream.specs.Bits.{field, bitsOf, valueOf}
 use Rattle.bitstream.specs.Filling.{missing, filledUp, bytesFrom}
-use Rattle.bitstream.proofs.Laws.{length-field, valueOf-field, field-valueOf, valueOf-lt, length-bitsOf}
+use Rattle.bitstream.proofs.BitValues.{length-field, valueOf-field, field-valueOf, valueOf-lt, length-bitsOf}
 use Rattle.bitstream.proofs.Filling.{zeros-value, value-zeros, filled-up, bytesFrom-bits}
 use Rattle.names.specs.Form.{Names, countBits, lengthBits, nameBits, namesBits, tableBits, Bytes, LawfulName, LawfulNames, LawfulTable, holds, refused}
 use Rattle.names.specs.inside.Reading.{Read, got, cut, andThen, numberFrom, stretchFrom, nameFrom, namesFrom, tableFrom, isFilling, judged, tableOf}

@@ -19,7 +19,7 @@ use Rattle.tokens.specs.inside.Token.{toks}
 use Rattle.tokens.specs.inside.Scanning.{Got as Spelt, none, some, tokensOf}
 use Rattle.tokens.specs.Measures.{measured, bracketsKept, stretchesKept}
 use Rattle.tokens.specs.inside.Reading.{stored as stored·tokens, judged, readOf as tokens·of}
-use Rattle.tokens.proofs.Laws.{impossible as never, tokens-lawful, stored-tokens}
+use Rattle.tokens.proofs.RoundTrip.{impossible as never, tokens-lawful, stored-tokens}
 use Rattle.syntax.specs.Tree.{Instrument}
 use Rattle.syntax.specs.inside.Program.{zeroF, program, actOf}
 use Rattle.syntax.specs.Names.{Named}
@@ -27,7 +27,7 @@ use Rattle.expressions.specs.Reader.{Res, no, ok}
 use Rattle.expressions.specs.declared.Got.{Got}
 use Rattle.expressions.specs.declared.Got.the-variants.{Next, Refused}
 use Rattle.expressions.specs.Areas.{Areas, areas}
-use Rattle.expressions.proofs.Laws.{by-arm, All, some as took}
+use Rattle.expressions.proofs.ReaderSteps.{by-arm, All, some as took}
 use Rattle.expressions.proofs.Runs.{took-of}
 use Rattle.syntax.specs.Grammar.{Orchestra}
 use Rattle.grammar.specs.Reader.{orchestra, stepInstruments}

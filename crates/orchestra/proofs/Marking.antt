@@ -8,7 +8,7 @@ use lib.ListN.{length, take, drop, set, getD, length-append, length-set, drop-of
 use lib.Seq.{take-all, take-append-le, drop-cons, set-at}
 use lib.Dec.{eqb, ltb}
 use borrow.Author.Tests.{eq-eqb, ne-eqb, lt-ltb, le-ltb, ltb-true, ltb-false}
-use Rattle.expressions.proofs.Laws.{by-arm}
+use Rattle.expressions.proofs.ReaderSteps.{by-arm}
 use Rattle.orchestra.specs.declared.Starts.{Starts}
 use Rattle.orchestra.specs.inside.Compiled.{padded}
 use Rattle.orchestra.specs.inside.Reading.{startsFrom}

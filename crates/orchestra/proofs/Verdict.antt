@@ -11,7 +11,7 @@ use Rattle.answer.specs.declared.Answer.the-variants.{Taken, BadGrammar, BadNam
 use Rattle.tokens.specs.declared.Token.{Token}
 use Rattle.tokens.specs.inside.Scanning.{Got, none, some, tokensOf}
 use Rattle.tokens.specs.Measures.{longest, measured}
-use Rattle.tokens.proofs.Laws.{impossible as never, every-scan, spelt-found, one-spelling}
+use Rattle.tokens.proofs.RoundTrip.{impossible as never, every-scan, spelt-found, one-spelling}
 use Rattle.syntax.specs.Tree.{Instrument}
 use Rattle.syntax.specs.Names.{nameRules}
 use Rattle.syntax.specs.inside.Placed.{placed}
@@ -19,7 +19,7 @@ use Rattle.syntax.specs.Rates.{rateRules}
 use Rattle.syntax.proofs.Rates.{rates-agree}
 use Rattle.syntax.specs.inside.Program.{program}
 use Rattle.expressions.specs.Reader.{Res, no, ok}
-use Rattle.expressions.proofs.Laws.{by-arm, All, none as unread, some as read}
+use Rattle.expressions.proofs.ReaderSteps.{by-arm, All, none as unread, some as read}
 use Rattle.syntax.specs.Grammar.{Orchestra}
 use Rattle.grammar.specs.Reader.{orchestra}
 use Rattle.grammar.proofs.Complete.{complete}

@@ -18,7 +18,7 @@ use Rattle.bitstream.specs.declared.Got.the-variants as gives
 use Rattle.timebase.specs.inside.Range.{checked}
 use Rattle.timebase.specs.declared.Checked.{Checked}
 use Rattle.timebase.specs.declared.Checked.the-variants as range-check
-use Rattle.timebase.proofs.Laws.{checked-in, checked-out}
+use Rattle.timebase.proofs.RangesAndTicks.{checked-in, checked-out}
 use Rattle.formats.specs.Format.{Source, bitSource, keypadSource, Read, got, refused, andThen, numberFrom, small}
 use Rattle.formats.specs.inside.Source.{sourceOf}
 use Rattle.formats.specs.declared.Fault.{Fault}

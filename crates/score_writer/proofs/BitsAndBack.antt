@@ -13,7 +13,7 @@ use Rattle.bitstream.specs.Bits.{field}
 use Rattle.bitstream.specs.Fields.{farthest, readAt}
 use Rattle.bitstream.specs.declared.Got.the-variants.{Value}
 use Rattle.bitstream.specs.Filling.{missing, filled, filledUp}
-use Rattle.bitstream.proofs.Laws.{length-field}
+use Rattle.bitstream.proofs.BitValues.{length-field}
 use Rattle.bitstream.proofs.Fields.{read-here, read-back}
 use Rattle.bitstream.proofs.Filling.{filled-back, filled-here, filled-up, length-filledUp}
 use Rattle.formats.specs.Format.{bitSource, got}

@@ -10,7 +10,7 @@ use lib.ListN.{length}
 use Rattle.answer.specs.declared.Answer.the-variants.{Taken}
 use Rattle.bitstream.specs.Bits.{bitsOf, bit, field, valueOf}
 use Rattle.bitstream.specs.Filling.{filledUp, bytesFrom, bytesOf}
-use Rattle.bitstream.proofs.Laws.{length-bitsOf}
+use Rattle.bitstream.proofs.BitValues.{length-bitsOf}
 use Rattle.bitstream.proofs.Filling.{bitsOf-bytesOf, bytesOf-bitsOf}
 use Rattle.formats.specs.Format.{got, fieldBits, small}
 use Rattle.score_line.specs.LineFormat.{timed, when, kind, body, values, float, padded, afterTime, parts, line, lawful}

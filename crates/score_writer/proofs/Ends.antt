@@ -16,7 +16,7 @@ use Rattle.bitstream.specs.Bits.{bitsOf, field}
 use Rattle.bitstream.specs.Fields.{over}
 use Rattle.bitstream.specs.inside.Fields.{written}
 use Rattle.bitstream.specs.Filling.{missing, filledUp, bytesOf}
-use Rattle.bitstream.proofs.Laws.{length-field, length-bitsOf}
+use Rattle.bitstream.proofs.BitValues.{length-field, length-bitsOf}
 use Rattle.score_line.specs.declared.Line.{Line}
 use Rattle.score_line.specs.declared.LineRead.{LineRead}
 use Rattle.line_writer.specs.Writing.{lineBits, lineFault, LineWritten}

@@ -12,7 +12,7 @@ use Rattle.bitstream.specs.Bits.{bitsOf, field, bit}
 use Rattle.bitstream.specs.Fields.{over, farthest}
 use Rattle.bitstream.specs.inside.Fields.{written}
 use Rattle.bitstream.specs.Filling.{missing, filledUp, bytesFrom, bytesOf}
-use Rattle.bitstream.proofs.Laws.{length-bitsOf, length-field}
+use Rattle.bitstream.proofs.BitValues.{length-bitsOf, length-field}
 use Rattle.bitstream.proofs.Fields.{over-over, written-over}
 use Rattle.bitstream.proofs.Filling.{length-filledUp, bytesOf-bitsOf}
 use Rattle.bitstream.proofs.Window.{bitsOf-take, bytes-after, below-take}

@@ -1,5 +1,5 @@
 pub mod Running
-pub mod Ways
+pub mod OneInstruction
 pub mod Loops
 pub mod Numbers
 pub mod Rooms

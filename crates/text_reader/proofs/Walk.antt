@@ -20,7 +20,7 @@ use Rattle.score_text.specs.inside.Reading.{lineFrom, Text, lines, bad, thenLin
 use Rattle.score_text.specs.inside.Reading as text
 use Rattle.text_event.specs.Results.{lineTold}
 use Rattle.text_reader.specs.Texts.{lineAt, walked, Ahead}
-use Rattle.text_reader.proofs.Whole.{standing}
+use Rattle.text_reader.proofs.LineLoop.{standing}
 use Rattle.formats.specs.Format as fields
 
 -- ---- a text that is taken, and one that is not

@@ -2,6 +2,6 @@ pub mod Shift
 pub mod Pattern
 pub mod Cycle
 pub mod Ranges
-pub mod Laws
+pub mod RangesAndTicks
 pub mod Order
 pub mod Growth

@@ -17,7 +17,7 @@ use Rattle.tokens.specs.inside.Reading.{stored, judged, readOf}
 use Rattle.tokens.specs.declared.Token.{Token}
 use Rattle.tokens.specs.declared.Tokens.{Tokens}
 use Rattle.tokens.specs.declared.Found.{Found}
-use Rattle.tokens.proofs.Laws.{impossible}
+use Rattle.tokens.proofs.RoundTrip.{impossible}
 
 -- tokens that fit are taken, all else is refused
 data Ends (g : Got) : Found → Tokens → Type 0 where

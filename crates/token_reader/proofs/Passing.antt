@@ -17,7 +17,7 @@ use Rattle.tokens.specs.inside.Passes.{standing, found, next, closedOf, finishe
 use Rattle.tokens.specs.declared.Token.{Token}
 use Rattle.tokens.specs.declared.Measure.{Measure}
 use Rattle.tokens.specs.declared.Found.{Found}
-use Rattle.tokens.proofs.Laws.{after-drop}
+use Rattle.tokens.proofs.RoundTrip.{after-drop}
 use Rattle.token_reader.proofs.Standing.{kind-is}
 
 -- ---- the tokens of the bytes left at a place

@@ -16,7 +16,7 @@ use Rattle.timebase.specs.Time.{finiteBits}
 use Rattle.timebase.specs.inside.Range.{checked}
 use Rattle.timebase.specs.declared.Checked.{Checked}
 use Rattle.timebase.specs.declared.Checked.the-variants.{Value, Outside}
-use Rattle.timebase.proofs.Laws.{checked-in, checked-out}
+use Rattle.timebase.proofs.RangesAndTicks.{checked-in, checked-out}
 use Rattle.tokens.specs.inside.Token.{zeroF}
 use Rattle.tokens.specs.Spelling.{lawful}
 use Rattle.tokens.specs.inside.Scanning.{more, twoOf, fourOf, tokenFrom}

@@ -20,7 +20,7 @@ use Rattle.tokens.specs.inside.Passes.{standing, found, scanned}
 use Rattle.tokens.specs.inside.Reading.{wordOf, realOf, padded, stored, judged}
 use Rattle.tokens.specs.declared.Token.{Token}
 use Rattle.tokens.specs.declared.Token.the-variants.{Sign}
-use Rattle.tokens.proofs.Laws.{impossible, with-first, with-rest}
+use Rattle.tokens.proofs.RoundTrip.{impossible, with-first, with-rest}
 use Rattle.token_reader.proofs.Standing.{kind-is}
 use Rattle.token_reader.proofs.Judging.{Took, took}
 use Rattle.token_reader.proofs.Passing.{left-next, left-bad, left-end, left-none}

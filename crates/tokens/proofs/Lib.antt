@@ -1,4 +1,4 @@
 mod Past
-mod TokenAt
+mod HeldTokens
 mod Counting
-pub mod Laws
+pub mod RoundTrip

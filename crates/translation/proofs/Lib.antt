@@ -4,5 +4,5 @@ pub mod MinusZero
 pub mod Guards
 pub mod Steps
 pub mod Passing
-pub mod Laws
+pub mod CodeMeans
 pub mod Lengths

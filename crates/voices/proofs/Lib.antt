@@ -1,6 +1,6 @@
 pub mod Kept
 pub mod Alike
 pub mod Rows
-pub mod Laws
+pub mod Plays
 pub mod Lines
 pub mod Outputs

@@ -4,7 +4,7 @@ use mathlib.Core.Path.{_≡_}
 use native.Mathlib.Omega.{arith}
 use denote.Ref.{now}
 use Rattle.bitstream.specs.Bits.{bit}
-use Rattle.bitstream.proofs.Laws.{set-bitsOf, withBit, digit-bit}
+use Rattle.bitstream.proofs.BitValues.{set-bitsOf, withBit, digit-bit}
 use Rattle.bitstream.proofs.put_bit.Statement.{statement}
 use Rattle.bitstream.proofs.put_bit.Tie as tie
 

@@ -8,7 +8,7 @@ use lib.ListN.{length, set}
 use lib.Seq.{paste, paste-zero, paste-suc}
 use denote.Ref.{now}
 use Rattle.bitstream.specs.Bits.{bitsOf, field, bit}
-use Rattle.bitstream.proofs.Laws.{length-bitsOf, length-field, getD-field}
+use Rattle.bitstream.proofs.BitValues.{length-bitsOf, length-field, getD-field}
 use Rattle.bitstream.proofs.Fields.{paste-over}
 use Rattle.bitstream.proofs.put_field.Statement.{statement}
 use Rattle.bitstream.proofs.put_field.Tie as tie

@@ -9,7 +9,7 @@ use lib.Seq.{length-take-le}
 use lib.Pow.{pow-mono}
 use denote.Ref.{now}
 use Rattle.bitstream.specs.Bits.{bitsOf, valueOf}
-use Rattle.bitstream.proofs.Laws.{length-bitsOf, valueOf-lt}
+use Rattle.bitstream.proofs.BitValues.{length-bitsOf, valueOf-lt}
 use Rattle.bitstream.proofs.Window.{window-more, value-part, in-window}
 use Rattle.bitstream.proofs.value_at.Statement.{statement}
 use Rattle.bitstream.proofs.value_at.Tie as tie

@@ -3,7 +3,7 @@ use Prim.Native.Nat.{_+_, _*_, _/_, _%_, _^_, _<_}
 use native.Mathlib.Nat.{div-le-self}
 use native.Mathlib.Omega.{arith}
 use lib.Pow.{pow-pos}
-use Rattle.bitstream.proofs.Laws.{with-lt}
+use Rattle.bitstream.proofs.BitValues.{with-lt}
 use Rattle.bitstream.proofs.with_bit.Statement.{statement}
 use Rattle.bitstream.proofs.with_bit.Tie as tie
 

@@ -3,7 +3,7 @@ use lib.ListN.{length, length-map}
 use borrow.Author.Needs.{needs}
 use Rattle.players.proofs.Loops.{take-over}
 use Rattle.state.specs.States.{stopped}
-use Rattle.state.proofs.Ways.{near-law, rest-near}
+use Rattle.state.proofs.AtRest.{near-law, rest-near}
 use Rattle.cycle.proofs.Stepping.{cycle-stops, cycle-plays, block-stays, block-plays}
 use Rattle.cycle.proofs.Resting.{rest-law, rest-block}
 use Rattle.cycle.proofs.one_cycle.Statement.{statement}

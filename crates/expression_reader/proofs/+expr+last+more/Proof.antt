@@ -21,7 +21,7 @@ use Rattle.tokens.specs.inside.Token.{toks}
 use Rattle.expressions.specs.Areas.{gone}
 use Rattle.expressions.proofs.Toks.{length-toks}
 use Rattle.expressions.proofs.Runs.{past-place, past-sign, past-emit, past-passed}
-use Rattle.expression_reader.proofs.Ways.{head-in, tail-in, tail-small, head-past, tail-past, past-expr, past-last, falls, last-none, last-is, push-is, unary-is, open-is, call-is, call2-is, expr-bad, binary-is, choice-is, stop-binary, stop-question, stop-here}
+use Rattle.expression_reader.proofs.Reading.{head-in, tail-in, tail-small, head-past, tail-past, past-expr, past-last, falls, last-none, last-is, push-is, unary-is, open-is, call-is, call2-is, expr-bad, binary-is, choice-is, stop-binary, stop-question, stop-here}
 use native.Mathlib.Nat.{pos-of-ne-zero}
 use Rattle.expression_reader.proofs.+expr+last+more.Proof.Falling.{μ-expr, μ-last, μ-more, expr-at, last-at, more-at, expr-below, last-below, more-below}
 

@@ -1,7 +1,7 @@
 use mathlib.Core.Path.{sym, _∙_}
 use borrow.Author.Needs.{needs}
 use borrow.Author.Tests.{not-true, not-false}
-use Rattle.fresh_start.proofs.Ways.{too-low, too-high, unaccepted, absent, started}
+use Rattle.fresh_start.proofs.OneStart.{too-low, too-high, unaccepted, absent, started}
 use Rattle.fresh_start.proofs.starting.Statement.{statement}
 use Rattle.fresh_start.proofs.starting.Tie as tie
 

@@ -23,7 +23,7 @@ use Rattle.expressions.proofs.Runs.{runs-seq, runs-sign, past-ready, past-sign,
 use Rattle.grammar.specs.Reader as R
 use Rattle.grammar.specs.declared.Lead.the-variants.{Kind, Imports}
 use Rattle.grammar.proofs.Steps.{listed-took}
-use Rattle.instrument_reader.proofs.Ways.{lead-in, lead-past, declarations-as, declarations-stop}
+use Rattle.instrument_reader.proofs.Reading.{lead-in, lead-past, declarations-as, declarations-stop}
 
 abbrev μ-declarations : Measures 6 declarations-kinds.ps ℕ
 μ-declarations κs a = left (toks (a .0 .now) (a .1 .0 .now) (a .1 .1 .0 .now)) (a .1 .1 .1 .0)

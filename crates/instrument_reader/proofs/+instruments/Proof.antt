@@ -16,7 +16,7 @@ use Rattle.expressions.specs.Areas.{left}
 use Rattle.expressions.proofs.Toks.{length-toks}
 use Rattle.expressions.proofs.Runs.{past-ready, runs-to, past-first}
 use Rattle.grammar.proofs.Steps.{instrument-took}
-use Rattle.instrument_reader.proofs.Ways.{last-no, others-follow, last-one}
+use Rattle.instrument_reader.proofs.Reading.{last-no, others-follow, last-one}
 
 abbrev μ-instruments : Measures 6 instruments-kinds.ps ℕ
 μ-instruments κs a = left (toks (a .0 .now) (a .1 .0 .now) (a .1 .1 .0 .now)) (a .1 .1 .1 .0)

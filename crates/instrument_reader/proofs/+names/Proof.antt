@@ -18,7 +18,7 @@ use Rattle.expressions.specs.Areas.{left}
 use Rattle.expressions.proofs.Toks.{length-toks}
 use Rattle.expressions.proofs.Moves.{sign-in}
 use Rattle.expressions.proofs.Runs.{past-ready}
-use Rattle.instrument_reader.proofs.Ways.{names-no, names-more, names-end, names-past}
+use Rattle.instrument_reader.proofs.Reading.{names-no, names-more, names-end, names-past}
 
 abbrev μ-names : Measures 6 names-kinds.ps ℕ
 μ-names κs a = left (toks (a .0 .now) (a .1 .0 .now) (a .1 .1 .0 .now)) (a .1 .1 .1 .0)

@@ -4,7 +4,7 @@ use Rattle.tokens.specs.inside.Token.{toks}
 use Rattle.expressions.specs.Reader.{seq, sign}
 use Rattle.expressions.proofs.Runs.{runs-seq, runs-sign, ready-sign, ready-less, ready-took}
 use Rattle.grammar.specs.Reader as R
-use Rattle.instrument_reader.proofs.Ways.{declarations-took}
+use Rattle.instrument_reader.proofs.Reading.{declarations-took}
 use Rattle.instrument_reader.proofs.body.Statement.{statement}
 use Rattle.instrument_reader.proofs.body.Tie as tie
 

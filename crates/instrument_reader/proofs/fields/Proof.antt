@@ -2,8 +2,8 @@ use borrow.Author.Needs.{needs}
 use mathlib.Core.Path.{refl}
 use Rattle.tokens.specs.inside.Token.{toks}
 use Rattle.expressions.specs.Areas.{left, gone}
-use Rattle.statement_reader.proofs.Ways.{ready-at}
-use Rattle.instrument_reader.proofs.Ways.{fields-none, fields-some}
+use Rattle.statement_reader.proofs.Reading.{ready-at}
+use Rattle.instrument_reader.proofs.Reading.{fields-none, fields-some}
 use Rattle.instrument_reader.proofs.fields.Statement.{statement}
 use Rattle.instrument_reader.proofs.fields.Tie as tie
 

@@ -6,7 +6,7 @@ use Rattle.syntax.specs.inside.Program.{insArg}
 use Rattle.expressions.specs.Areas.{gone}
 use Rattle.expressions.proofs.Toks.{length-toks}
 use Rattle.expressions.proofs.Runs.{runs-emit, ready-place}
-use Rattle.instrument_reader.proofs.Ways.{word-in, ready-next, name-as, name-no}
+use Rattle.instrument_reader.proofs.Reading.{word-in, ready-next, name-as, name-no}
 use Rattle.instrument_reader.proofs.name.Statement.{statement}
 use Rattle.instrument_reader.proofs.name.Tie as tie
 

@@ -1,7 +1,7 @@
 use borrow.Author.Needs.{needs}
 use Rattle.tokens.specs.inside.Token.{toks}
 use Rattle.expressions.proofs.Toks.{length-toks}
-use Rattle.instrument_reader.proofs.Laws.{starts, reads}
+use Rattle.instrument_reader.proofs.WholeReading.{starts, reads}
 use Rattle.instrument_reader.proofs.orchestra.Statement.{statement}
 use Rattle.instrument_reader.proofs.orchestra.Tie as tie
 

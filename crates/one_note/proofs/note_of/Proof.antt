@@ -1,6 +1,6 @@
 use native.Mathlib.Omega.{arith}
 use borrow.Author.Needs.{needs}
-use Rattle.timebase.proofs.Laws.{ticks-most}
+use Rattle.timebase.proofs.RangesAndTicks.{ticks-most}
 use Rattle.one_note.proofs.OneNote.{minus-one, born-law}
 use Rattle.one_note.proofs.note_of.Statement.{statement}
 use Rattle.one_note.proofs.note_of.Tie as tie

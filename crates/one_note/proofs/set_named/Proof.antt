@@ -15,9 +15,9 @@ set-named-spec =
     (λ c. omega arith) (λ c. omega arith) (λ c κs. tt) (λ c. omega arith) (λ c. omega arith) (λ c. omega arith) (λ c. omega arith)
     (λ c. let s = c .before .before .before in
     let at = c .before .before .loop in (
-    omega arith,
-    simp length-set (at .inv .1),
-    named-step _ _ _ _ (s .good .1 .0 .1 .0 .1) (s .good .0 .1 .0 .1) _ _ _ _ _ (c .before .loop-test .taken) (at .inv .1) (at .inv .2) (c .either .ensures .0),
+      omega arith,
+      simp length-set (at .inv .1),
+      named-step _ _ _ _ (s .good .1 .0 .1 .0 .1) (s .good .0 .1 .0 .1) _ _ _ _ _ (c .before .loop-test .taken) (at .inv .1) (at .inv .2) (c .either .ensures .0),
     ))
     (λ c. let s = c .before .before in
     named-end _ _ _ _ (s .good .1 .0 .1 .0 .1) (s .good .0 .1 .0 .1) _ _ (c .loop-test .left) (c .before .loop .inv .1) (c .before .loop .inv .2)))

@@ -28,7 +28,7 @@ remaining-spec =
     (c .if1 .came))
     (λ c. let s = c .before .before .before in
     let e = take-end (s .args .t1) (s .args .count) 16 _ (s .good .0 .1 .0 .1) _ (c .before .before .within .ensures) (c .before .loop .inv .0) (c .loop-test .left) in (
-    c .before .loop .inv .2 .count ∙ ap (λ (l : List Note). length (keep (goesOnIn (s .args .position)) l)) e,
-    c .before .loop .inv .2 .held ∙ ap (λ (l : List Note). over (keep (goesOnIn (s .args .position)) l) (s .args .t1)) e,
-    omega arith,
+      c .before .loop .inv .2 .count ∙ ap (λ (l : List Note). length (keep (goesOnIn (s .args .position)) l)) e,
+      c .before .loop .inv .2 .held ∙ ap (λ (l : List Note). over (keep (goesOnIn (s .args .position)) l) (s .args .t1)) e,
+      omega arith,
     )))

@@ -33,10 +33,10 @@ run-notes-spec =
     let at = c .before .before .before .before .before .before .before .before .before .loop in
     let ran = c .before .before .run-note .ensures in
     let e = at .inv .3 in (
-    omega arith,
-    at .inv .1,
-    running-step _ _ _ _ _ _ _ _ _ (s .good .1 .1 .1 .1 .0 .1 .0 .1) (omega arith) _ (c .before .before .before .before .before .before .find .ensures) _ (ran .0 ∙ ran-here _ _ _ _ _ _ e) _ (ran .1 .0 ∙ mixed-here _ _ _ _ _ _ e) (at .inv .2),
-    ran .1 .1 ∙ e,
+      omega arith,
+      at .inv .1,
+      running-step _ _ _ _ _ _ _ _ _ (s .good .1 .1 .1 .1 .0 .1 .0 .1) (omega arith) _ (c .before .before .before .before .before .before .find .ensures) _ (ran .0 ∙ ran-here _ _ _ _ _ _ e) _ (ran .1 .0 ∙ mixed-here _ _ _ _ _ _ e) (at .inv .2),
+      ran .1 .1 ∙ e,
     ))
     (λ c. c .before .loop .inv .2 .samples)
     (λ c. let s = c .before .before .before .before .before .before .before in
@@ -46,6 +46,6 @@ run-notes-spec =
     let v = voices (take (s .args .n) (s .args .table)) (s .args .code .now) (s .args .vals .now) in
     let e : runFrom v (notesIn (s .args .t5) (c .before .loop .j)) (s .args .mix .now) ≡ runFrom v (notesIn (s .args .t5) (s .args .count)) (s .args .mix .now) =
     ap (λ (l : List Note). runFrom v (each noteOf l) (s .args .mix .now)) (take-end (s .args .t5) (s .args .count) 16 _ (s .good .1 .1 .1 .1 .0 .1 .0 .1) _ w i (c .loop-test .left)) in (
-    laid-notes (c .before .loop .a) (s .args .t5) (c .before .loop .j) _ (omega (arith, r .long, w, i)) (ap (λ (b : Band Held). b .notes) (r .are ∙ e)) (r .behind) .1,
-    ap (λ (b : Band Held). b .mix) (r .are ∙ e),
+      laid-notes (c .before .loop .a) (s .args .t5) (c .before .loop .j) _ (omega (arith, r .long, w, i)) (ap (λ (b : Band Held). b .notes) (r .are ∙ e)) (r .behind) .1,
+      ap (λ (b : Band Held). b .mix) (r .are ∙ e),
     )))

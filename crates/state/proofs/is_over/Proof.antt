@@ -1,5 +1,5 @@
 use borrow.Author.Needs.{needs}
-use Rattle.state.proofs.Ways.{over-far, over-near}
+use Rattle.state.proofs.AtRest.{over-far, over-near}
 use Rattle.state.proofs.is_over.Statement.{statement}
 use Rattle.state.proofs.is_over.Tie as tie
 

@@ -1,5 +1,5 @@
 use borrow.Author.Needs.{needs}
-use Rattle.state.proofs.Ways.{keep-law}
+use Rattle.state.proofs.AtRest.{keep-law}
 use Rattle.state.proofs.keep_waiting.Statement.{statement}
 use Rattle.state.proofs.keep_waiting.Tie as tie
 

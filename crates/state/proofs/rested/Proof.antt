@@ -1,8 +1,8 @@
 use native.Mathlib.Omega.{arith}
 use borrow.Author.Needs.{needs}
-use Rattle.timebase.proofs.Laws.{cycle-most}
+use Rattle.timebase.proofs.RangesAndTicks.{cycle-most}
 use Rattle.state.specs.States.{silence}
-use Rattle.state.proofs.Ways.{rested-law}
+use Rattle.state.proofs.AtRest.{rested-law}
 use Rattle.state.proofs.rested.Statement.{statement}
 use Rattle.state.proofs.rested.Tie as tie
 

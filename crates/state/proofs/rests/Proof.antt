@@ -1,5 +1,5 @@
 use borrow.Author.Needs.{needs}
-use Rattle.state.proofs.Ways.{past-limit, note-sounds, message-waits, by-due}
+use Rattle.state.proofs.AtRest.{past-limit, note-sounds, message-waits, by-due}
 use Rattle.state.proofs.rests.Statement.{statement}
 use Rattle.state.proofs.rests.Tie as tie
 

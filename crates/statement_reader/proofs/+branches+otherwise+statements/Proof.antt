@@ -31,7 +31,7 @@ use Rattle.expressions.specs.Areas.{left, gone}
 use Rattle.expressions.proofs.Toks.{length-toks}
 use Rattle.expressions.proofs.Moves.{sign-in}
 use Rattle.expressions.proofs.Runs.{runs-seq, runs-sign, runs-emit, ready-place, ready-less, past-ready, past-sign, past-start, runs-to, past-took, past-first}
-use Rattle.statement_reader.proofs.Ways.{start-in, start-past, statements-took, ready-at, statements-as, statements-stop, else-on, else-off}
+use Rattle.statement_reader.proofs.Reading.{start-in, start-past, statements-took, ready-at, statements-as, statements-stop, else-on, else-off}
 use Rattle.grammar.specs.Reader as R
 use Rattle.grammar.specs.declared.Start.the-variants.{Name, Output, If}
 use Rattle.grammar.proofs.Results.{sign-emit}

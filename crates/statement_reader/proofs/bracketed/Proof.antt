@@ -5,7 +5,7 @@ use Rattle.syntax.specs.inside.Program.{ins}
 use Rattle.expressions.specs.Reader.{reader, seq, sign}
 use Rattle.expressions.specs.Reader as E
 use Rattle.expressions.proofs.Runs.{runs-seq, runs-sign, runs-emit, ready-sign, ready-place, ready-less}
-use Rattle.statement_reader.proofs.Ways.{ready-expr}
+use Rattle.statement_reader.proofs.Reading.{ready-expr}
 use Rattle.statement_reader.proofs.bracketed.Statement.{statement}
 use Rattle.statement_reader.proofs.bracketed.Tie as tie
 

@@ -1,6 +1,6 @@
 use native.Mathlib.Omega.{arith}
 use borrow.Author.Needs.{needs}
-use Rattle.timebase.proofs.Laws.{cycle-most}
+use Rattle.timebase.proofs.RangesAndTicks.{cycle-most}
 use Rattle.steps.proofs.Steps.{advance-law}
 use Rattle.steps.proofs.advance.Statement.{statement}
 use Rattle.steps.proofs.advance.Tie as tie

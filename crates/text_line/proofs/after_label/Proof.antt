@@ -1,5 +1,5 @@
 use borrow.Author.Needs.{needs}
-use Rattle.text_line.proofs.Ways.{label-colon, label-time, label-name, label-instr}
+use Rattle.text_line.proofs.LineParts.{label-colon, label-time, label-name, label-instr}
 use Rattle.text_line.proofs.after_label.Statement.{statement}
 use Rattle.text_line.proofs.after_label.Tie as tie
 

@@ -1,5 +1,5 @@
 use borrow.Author.Needs.{needs}
-use Rattle.text_line.proofs.Ways.{body-name, body-labelled, body-timed}
+use Rattle.text_line.proofs.LineParts.{body-name, body-labelled, body-timed}
 use Rattle.text_line.proofs.body_at.Statement.{statement}
 use Rattle.text_line.proofs.body_at.Tie as tie
 

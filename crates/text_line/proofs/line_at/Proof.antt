@@ -1,6 +1,6 @@
 use borrow.Author.Needs.{needs}
 use native.Mathlib.Omega.{arith}
-use Rattle.text_line.proofs.Ways.{line-starred, line-plain}
+use Rattle.text_line.proofs.LineParts.{line-starred, line-plain}
 use Rattle.text_line.proofs.line_at.Statement.{statement}
 use Rattle.text_line.proofs.line_at.Tie as tie
 

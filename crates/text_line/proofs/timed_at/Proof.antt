@@ -1,5 +1,5 @@
 use borrow.Author.Needs.{needs}
-use Rattle.text_line.proofs.Ways.{timed-number, timed-gap, timed-event}
+use Rattle.text_line.proofs.LineParts.{timed-number, timed-gap, timed-event}
 use Rattle.text_line.proofs.timed_at.Statement.{statement}
 use Rattle.text_line.proofs.timed_at.Tie as tie
 

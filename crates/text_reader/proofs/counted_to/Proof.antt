@@ -1,5 +1,5 @@
 use borrow.Author.Needs.{needs}
-use Rattle.text_reader.proofs.Whole.{counted-all, counted-fault}
+use Rattle.text_reader.proofs.LineLoop.{counted-all, counted-fault}
 use Rattle.text_reader.proofs.counted_to.Statement.{statement}
 use Rattle.text_reader.proofs.counted_to.Tie as tie
 

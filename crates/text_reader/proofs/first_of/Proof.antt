@@ -1,5 +1,5 @@
 use borrow.Author.Needs.{needs}
-use Rattle.text_reader.proofs.Whole.{first-none, first-here, first-kept}
+use Rattle.text_reader.proofs.LineLoop.{first-none, first-here, first-kept}
 use Rattle.text_reader.proofs.first_of.Statement.{statement}
 use Rattle.text_reader.proofs.first_of.Tie as tie
 

@@ -13,7 +13,7 @@ use Rattle.expressions.specs.declared.Got.the-variants.{Next, Refused}
 use Rattle.expressions.specs.Roles.{signL}
 use Rattle.expressions.specs.Reader.{Res, ok, emit}
 use Rattle.expressions.specs.Areas.{Areas, left, Ready, gone, Runs, refused}
-use Rattle.expressions.proofs.Laws.{All}
+use Rattle.expressions.proofs.ReaderSteps.{All}
 use Rattle.expressions.proofs.Moves.{in-tokens, sign-in}
 use Rattle.expressions.proofs.Runs.{runs-seq, runs-as, runs-after, runs-by, stays, Past, past-start, runs-law, runs-to, ready-took, left-took, Took}
 use Rattle.grammar.specs.declared.Lead.{Lead}

@@ -12,7 +12,7 @@ use Rattle.expressions.specs.declared.Got.the-variants.{Next}
 use Rattle.expressions.specs.Roles.{signL}
 use Rattle.expressions.specs.Reader.{Res, seq, sign, emit, reader}
 use Rattle.expressions.specs.Areas.{Areas, left, Ready, gone, come, Runs}
-use Rattle.expressions.proofs.Laws.{All}
+use Rattle.expressions.proofs.ReaderSteps.{All}
 use Rattle.expressions.proofs.Moves.{in-tokens}
 use Rattle.expressions.proofs.Runs.{runs-as, runs-after, runs-by, stays, ready-less, Past, past-start, Took, ready-took}
 use Rattle.grammar.specs.declared.Start.{Start}

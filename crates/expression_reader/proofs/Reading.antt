@@ -18,7 +18,7 @@ use Rattle.expressions.specs.declared.Tail.the-variants.{Binary, Question, Stop
 use Rattle.expressions.specs.Roles.{headL, tailL}
 use Rattle.expressions.specs.Reader.{seq, sign, emit, lastly, byHead, right, parts, reader}
 use Rattle.expressions.specs.Areas.{Areas, storedAt, oneMore, passed, left, Ready, Runs, gone, refused}
-use Rattle.expressions.proofs.Laws.{All-weaken, reader-bounded, expr·law, more·law, lastly-took}
+use Rattle.expressions.proofs.ReaderSteps.{All-weaken, reader-bounded, expr·law, more·law, lastly-took}
 use Rattle.expressions.proofs.Tables as Tables
 use Rattle.expressions.proofs.Tables.{Tails, tails, levels}
 use Rattle.expressions.proofs.Runs.{runs-seq, runs-as, runs-after, runs-sign, runs-emit, stays, Past, past-ready, past-sign, past-passed, past-start, past-runs}
