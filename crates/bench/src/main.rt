@@ -1,17 +1,17 @@
 // 16 notes of one fixed tone for 1,000 cycles, and a checksum of the samples. The orchestra is bench/tone.orc.
 use panel::Core;
 use panel::Panel;
-use panel::Parted;
+use panel::SplitPanel;
 
 const CYCLES: u32 = 1000;
 
-fn started() -> Parted {
+fn started() -> SplitPanel {
     let f = Panel::fresh(
         b"\x01\xf0\x00\x00\x0f\xf0\x00\x01\x10\x11\x02\xf0\x00\x02\x14\x04\xf0\x00\x03\x14\xf0\x00\x02\x15\xf0\x00\x01\x23\xf2\x00\x00\x7d\x00\x14\xf0\x00\x03\x15\xf0\x00\x03\x20\xf0\x00\x02\x14\x07\x0f\xf0\x00\x03\x1f\xf2\x00\x00\x00\x01\x10\x11\xf0\x00\x03\x15\xf0\x00\x03\x21\xf2\x00\x00\x00\x01\x14\x12\x06\x0f\xf0\x00\x03\x22\x0f\xf2\x00\x00\x00\x01\x21\xf0\x00\x03\x10\x22\xf1\x3e\x80\x00\x00\x10\x14\x12\xff",
         32767,
         0,
     );
-    Panel::parted(f.panel)
+    Panel::split(f.panel)
 }
 
 // A note without end, at 440 Hz.
@@ -39,7 +39,7 @@ fn played<'a>(c: Core, code: &'a [u64], vals: &'a [f32]) -> u32 {
         let mut block = [0i16; 320];
         let r = Core::cycle(core, code, vals, &mut block);
         core = r.core;
-        sum = ports::checked_sum(sum, &block);
+        sum = program_io::checked_sum(sum, &block);
         left -= 1;
     }
     sum

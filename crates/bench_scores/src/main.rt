@@ -14,11 +14,11 @@ fn answered(bytes: &[u8], text: bool) -> u8 {
     if text {
         let t = text_reader::read_text(bytes);
         let a = t.answer;
-        return answer::number(a);
+        return base_answer::number(a);
     }
-    let b = score::read_score(bytes);
+    let b = score_reader::read_score(bytes);
     let a = b.answer;
-    answer::number(a)
+    base_answer::number(a)
 }
 
 // The answer of the last reading.

@@ -6,7 +6,7 @@ const LAST: u16 = 65534;
 
 fn asked(names: &[u8], n: usize) -> usize {
     if n <= names.len() {
-        let name = name_finder::name_in(&names[..n], LAST);
+        let name = symbol_lookup::name_in(&names[..n], LAST);
         return name.len();
     }
     0
@@ -14,6 +14,6 @@ fn asked(names: &[u8], n: usize) -> usize {
 
 // The length of that name.
 pub fn unpacked(table: &[u8], buffer: &mut [u8; ROOM]) -> u8 {
-    let r = name_unpacker::unpack(table, buffer);
+    let r = symbol_unpacker::unpack(table, buffer);
     (asked(buffer, r.length) % 256) as u8
 }

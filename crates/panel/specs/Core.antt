@@ -6,13 +6,13 @@ use Prim.Native.Nat.{ℕ}
 use lib.Ieee.{Float}
 use Rattle.panel.specs.declared.Panel.{Panel}
 use Rattle.panel.specs.declared.Core.{Core}
-use Rattle.panel.specs.declared.Brought.{Brought}
-use Rattle.panel.specs.declared.Received.{Received}
-use Rattle.panel.specs.declared.Played.{Played}
-use Rattle.panel.specs.declared.Cycled.{Cycled}
-use Rattle.panel.specs.declared.CoreBrought.{CoreBrought}
-use Rattle.panel.specs.declared.CoreReceived.{CoreReceived}
-use Rattle.panel.specs.declared.CoreLeft.{CoreLeft}
+use Rattle.panel.specs.declared.EntranceResult.{EntranceResult}
+use Rattle.panel.specs.declared.BurstResult.{BurstResult}
+use Rattle.panel.specs.declared.KeyboardResult.{KeyboardResult}
+use Rattle.panel.specs.declared.CycleResult.{CycleResult}
+use Rattle.panel.specs.declared.CoreEntranceResult.{CoreEntranceResult}
+use Rattle.panel.specs.declared.CoreBurstResult.{CoreBurstResult}
+use Rattle.panel.specs.declared.CoreResult.{CoreResult}
 
 abbrev pub panelOf : Core → List ℕ → List Float → Panel
 panelOf c code vals =
@@ -25,21 +25,21 @@ panelOf c code vals =
 
 -- ---- what a call leaves, whatever the code is: what the panel's call gives
 
-abbrev pub BroughtAs : Core → CoreBrought → (Panel → Brought) → Type 0
-BroughtAs c r f =
+abbrev pub SubmittedAs : Core → CoreEntranceResult → (Panel → EntranceResult) → Type 0
+SubmittedAs c r f =
     (code : List ℕ) (vals : List Float) → record { panel = panelOf (r .core) code vals; answer = r .answer; line = r .line } ≡ f (panelOf c code vals)
 
-abbrev pub ReceivedAs : Core → CoreReceived → (Panel → Received) → Type 0
+abbrev pub ReceivedAs : Core → CoreBurstResult → (Panel → BurstResult) → Type 0
 ReceivedAs c r f =
     (code : List ℕ) (vals : List Float) → record { panel = panelOf (r .core) code vals; answer = r .answer; units = r .units } ≡ f (panelOf c code vals)
 
 abbrev pub AreaAs : Core → List ℕ → (Panel → List ℕ) → Type 0
 AreaAs c area f = (code : List ℕ) (vals : List Float) → area ≡ f (panelOf c code vals)
 
-abbrev pub PlayedAs : Core → CoreLeft → (Panel → Played) → Type 0
+abbrev pub PlayedAs : Core → CoreResult → (Panel → KeyboardResult) → Type 0
 PlayedAs c r f = (code : List ℕ) (vals : List Float) → record { panel = panelOf (r .core) code vals; answer = r .answer } ≡ f (panelOf c code vals)
 
 -- ---- and with the code that a cycle is lent
 
-abbrev pub cycledWith : List ℕ → List Float → CoreLeft → Cycled
+abbrev pub cycledWith : List ℕ → List Float → CoreResult → CycleResult
 cycledWith code vals r = record { panel = panelOf (r .core) code vals; answer = r .answer }

@@ -2,17 +2,17 @@
 use mathlib.Core.List.{List}
 use Prim.Native.Nat.{ℕ}
 use lib.ListN.{take}
-use Rattle.waiting.specs.declared.Queue.{Queue}
-use Rattle.players.specs.Cycle.{Voices}
-use Rattle.players.specs.Holds.{Settings, settingsOf, Holds}
-use Rattle.keyboard.specs.declared.Messages.{Messages}
-use Rattle.kept_voices.specs.Voices.{Held, voices}
-use Rattle.kept_orchestra.specs.declared.Instrument.{Instrument}
-use Rattle.state.specs.States as states
-use Rattle.state.specs.declared.State.{State}
-use Rattle.calls.specs.OnState as onState
-use Rattle.kept_orchestra.specs.declared.Program.{Program}
-use Rattle.fresh_start.specs.declared.Start.{Start}
+use Rattle.player_queue.specs.declared.Queue.{Queue}
+use Rattle.player_model.specs.Cycle.{Voices}
+use Rattle.player_model.specs.PlayerState.{Settings, settingsOf, PlayerState}
+use Rattle.midi_queue.specs.declared.MessageQueue.{MessageQueue}
+use Rattle.voices_compiled.specs.Voices.{VoiceState, voices}
+use Rattle.code_program.specs.declared.Instrument.{Instrument}
+use Rattle.player_state.specs.States as states
+use Rattle.player_state.specs.declared.State.{State}
+use Rattle.player_calls.specs.OnState as onState
+use Rattle.code_program.specs.declared.Program.{Program}
+use Rattle.player_start.specs.declared.Start.{Start}
 use Rattle.panel.specs.declared.Panel.{Panel}
 
 -- the instruments of the accepted orchestra
@@ -20,12 +20,12 @@ abbrev pub tableOf : Program → List Instrument
 tableOf g = take (g .count) (g .table)
 
 -- what its notes do
-abbrev pub voicesOf : Program → Voices Held
+abbrev pub voicesOf : Program → Voices VoiceState
 voicesOf g = voices (tableOf g) (g .code) (g .vals)
 
 -- what waits and what plays
-abbrev pub holdsOf : Panel → Holds Held
-holdsOf p = states.holdsOf (p .state)
+abbrev pub playerStateOf : Panel → PlayerState VoiceState
+playerStateOf p = states.playerStateOf (p .state)
 
 -- what its fresh start fixed
 abbrev pub settingsIn : Panel → Settings
@@ -40,7 +40,7 @@ unfoldable pub withQueue : Panel → Queue → Panel
 withQueue p q = withState p (onState.withQueue (p .state) q)
 
 -- the panel with other waiting note messages
-unfoldable pub withMessages : Panel → Messages → Panel
+unfoldable pub withMessages : Panel → MessageQueue → Panel
 withMessages p m = withState p (onState.withMessages (p .state) m)
 
 -- the panel marked as ended

@@ -1,18 +1,18 @@
 // The panel: its state by value, the fresh start, the entrances and the cycle (documents 01 and 02).
-use answer::Answer;
-use doors::Handed;
-use kept_orchestra::Instrument;
-use kept_orchestra::Program;
-use operations::CODE;
-use operations::PROGRAM;
-use state::Settings;
-use state::State;
+use base_answer::Answer;
+use code_operations::CODE;
+use code_operations::PROGRAM;
+use code_program::Instrument;
+use code_program::Program;
+use entrance_readers::EntranceRead;
+use player_state::Settings;
+use player_state::State;
 ghost use mathlib.Core.Path.{_≡_};
 ghost use lib.ListN.{length};
-ghost use Rattle.players.specs.Calls.{stick, unit, keypad, text};
-ghost use Rattle.doors.specs.Doors.{scoreIn};
-ghost use Rattle.panel.specs.Core.{panelOf, BroughtAs, ReceivedAs, AreaAs, PlayedAs, cycledWith};
-ghost use Rattle.panel.specs.Calls.{freshOf, broughtOf, bringOf, receiveOf, areaAfter, playKeysOf, cycleOf, blockAfter};
+ghost use Rattle.player_model.specs.Calls.{stick, unit, keypad, text};
+ghost use Rattle.entrance_readers.specs.Entrances.{scoreIn};
+ghost use Rattle.panel.specs.Core.{panelOf, SubmittedAs, ReceivedAs, AreaAs, PlayedAs, cycledWith};
+ghost use Rattle.panel.specs.Calls.{freshOf, submittedOf, submitOf, receiveOf, areaAfter, playKeysOf, cycleOf, blockAfter};
 
 // What the calls change, beside what a fresh start fixes.
 pub struct Panel {
@@ -27,27 +27,27 @@ pub struct Fresh {
     pub answer: Answer,
 }
 
-// What a call at any door leaves; `line` is the number of the line that a refusal is about.
-pub struct Brought {
+// What a call at any entrance leaves; `line` is the number of the line that a refusal is about.
+pub struct EntranceResult {
     pub panel: Panel,
     pub answer: Answer,
     pub line: usize,
 }
 
 // What a burst leaves; `units` is how many of its units were answered.
-pub struct Received {
+pub struct BurstResult {
     pub panel: Panel,
     pub answer: Answer,
     pub units: usize,
 }
 
 // What a call at the keyboard leaves.
-pub struct Played {
+pub struct KeyboardResult {
     pub panel: Panel,
     pub answer: Answer,
 }
 
-pub struct Cycled {
+pub struct CycleResult {
     pub panel: Panel,
     pub answer: Answer,
 }
@@ -61,40 +61,40 @@ pub struct Core {
 }
 
 // A panel in two: its code and the numbers in it are lent to each cycle.
-pub struct Parted {
+pub struct SplitPanel {
     pub core: Core,
     pub code: [u64; CODE],
     pub vals: [f32; PROGRAM],
 }
 
-pub struct CoreBrought {
+pub struct CoreEntranceResult {
     pub core: Core,
     pub answer: Answer,
     pub line: usize,
 }
 
-pub struct CoreReceived {
+pub struct CoreBurstResult {
     pub core: Core,
     pub answer: Answer,
     pub units: usize,
 }
 
-pub struct CoreLeft {
+pub struct CoreResult {
     pub core: Core,
     pub answer: Answer,
 }
 
-// What was handed in at a door, read, into the waiting lines.
-fn bring_core(mut c: Core, h: Handed) -> CoreBrought
-    ensures { λ r. ⌜ BroughtAs c r (λ p. broughtOf p (h .timed) (scoreIn h)) ⌝ }
+// What was handed in at an entrance, read, into the waiting lines.
+fn submit_core(mut c: Core, h: EntranceRead) -> CoreEntranceResult
+    ensures { λ r. ⌜ SubmittedAs c r (λ p. submittedOf p (h .timed) (scoreIn h)) ⌝ }
 {
     let table = c.table;
     let state = c.state;
-    let r = calls::bring(table, c.count, state, h);
+    let r = player_calls::submit(table, c.count, state, h);
     let left = r.state;
     let given = r.answer;
     c.state = left;
-    CoreBrought {
+    CoreEntranceResult {
         core: c,
         answer: given,
         line: r.line,
@@ -103,73 +103,73 @@ fn bring_core(mut c: Core, h: Handed) -> CoreBrought
 
 // A stick, an access unit, a keypad line, a text, a burst, keyboard bytes and a cycle, each as on the panel.
 impl Core {
-    pub fn load_score(self, s: &[u8]) -> CoreBrought
-        ensures { λ r. ⌜ BroughtAs self r (λ p. bringOf p stick (now (s .entry))) ⌝ }
+    pub fn load_score(self, s: &[u8]) -> CoreEntranceResult
+        ensures { λ r. ⌜ SubmittedAs self r (λ p. submitOf p stick (now (s .entry))) ⌝ }
     {
-        bring_core(self, doors::stick(s))
+        submit_core(self, entrance_readers::stick(s))
     }
 
-    pub fn receive_unit(self, s: &[u8]) -> CoreBrought
-        ensures { λ r. ⌜ BroughtAs self r (λ p. bringOf p unit (now (s .entry))) ⌝ }
+    pub fn receive_unit(self, s: &[u8]) -> CoreEntranceResult
+        ensures { λ r. ⌜ SubmittedAs self r (λ p. submitOf p unit (now (s .entry))) ⌝ }
     {
-        bring_core(self, doors::unit(s))
+        submit_core(self, entrance_readers::unit(s))
     }
 
-    pub fn enter_line(self, words: &[u32]) -> CoreBrought
-        ensures { λ r. ⌜ BroughtAs self r (λ p. bringOf p keypad (now (words .entry))) ⌝ }
+    pub fn enter_line(self, words: &[u32]) -> CoreEntranceResult
+        ensures { λ r. ⌜ SubmittedAs self r (λ p. submitOf p keypad (now (words .entry))) ⌝ }
     {
-        bring_core(self, doors::keypad(words))
+        submit_core(self, entrance_readers::keypad(words))
     }
 
-    pub fn load_text(self, s: &[u8]) -> CoreBrought
-        ensures { λ r. ⌜ BroughtAs self r (λ p. bringOf p text (now (s .entry))) ⌝ }
+    pub fn load_text(self, s: &[u8]) -> CoreEntranceResult
+        ensures { λ r. ⌜ SubmittedAs self r (λ p. submitOf p text (now (s .entry))) ⌝ }
     {
-        bring_core(self, doors::text(s))
+        submit_core(self, entrance_readers::text(s))
     }
 
-    pub fn receive_burst(mut self, s: &[u8], answers: &mut [u8]) -> CoreReceived
+    pub fn receive_burst(mut self, s: &[u8], answers: &mut [u8]) -> CoreBurstResult
         ensures panel { λ r. ⌜ ReceivedAs self r (λ p. receiveOf p (now (s .entry)) (length (now (answers .entry)))) ⌝ }
         ensures area { λ r. ⌜ AreaAs self (now (answers .exit)) (λ p. areaAfter p (now (s .entry)) (now (answers .entry))) ⌝ }
     {
         let table = self.table;
         let state = self.state;
-        let r = calls::receive_burst(table, self.count, state, s, answers);
+        let r = player_calls::receive_burst(table, self.count, state, s, answers);
         let left = r.state;
         let given = r.answer;
         self.state = left;
-        CoreReceived {
+        CoreBurstResult {
             core: self,
             answer: given,
             units: r.units,
         }
     }
 
-    pub fn play_keys(mut self, bytes: &[u8]) -> CoreLeft
+    pub fn play_keys(mut self, bytes: &[u8]) -> CoreResult
         ensures { λ r. ⌜ PlayedAs self r (λ p. playKeysOf p (now (bytes .entry))) ⌝ }
     {
         let state = self.state;
-        let r = calls::play_keys(state, bytes);
+        let r = player_calls::play_keys(state, bytes);
         let left = r.state;
         let given = r.answer;
         self.state = left;
-        CoreLeft {
+        CoreResult {
             core: self,
             answer: given,
         }
     }
 
-    pub fn cycle<'a>(mut self, code: &'a [u64], vals: &'a [f32], block: &mut [i16]) -> CoreLeft
+    pub fn cycle<'a>(mut self, code: &'a [u64], vals: &'a [f32], block: &mut [i16]) -> CoreResult
         ensures panel { λ r. ⌜ cycledWith (now (code .entry)) (now (vals .entry)) r ≡ cycleOf (panelOf self (now (code .entry)) (now (vals .entry))) (length (now (block .entry))) ⌝ }
         ensures block { λ r. ⌜ now (block .exit) ≡ blockAfter (panelOf self (now (code .entry)) (now (vals .entry))) (now (block .entry)) ⌝ }
     {
         let table = self.table;
         let state = self.state;
         let settings = self.settings;
-        let r = cycle::into_block(table, self.count, code, vals, state, settings, block);
+        let r = player_cycle::cycle_call(table, self.count, code, vals, state, settings, block);
         let left = r.state;
         let given = r.answer;
         self.state = left;
-        CoreLeft {
+        CoreResult {
             core: self,
             answer: given,
         }
@@ -194,17 +194,17 @@ impl Core {
     }
 }
 
-// What was handed in at a door, read, into the waiting lines.
-fn bring(mut p: Panel, h: Handed) -> Brought
-    ensures { λ r. ⌜ r ≡ broughtOf p (h .timed) (scoreIn h) ⌝ }
+// What was handed in at an entrance, read, into the waiting lines.
+fn submit(mut p: Panel, h: EntranceRead) -> EntranceResult
+    ensures { λ r. ⌜ r ≡ submittedOf p (h .timed) (scoreIn h) ⌝ }
 {
     let table = p.program.table;
     let state = p.state;
-    let r = calls::bring(table, p.program.count, state, h);
+    let r = player_calls::submit(table, p.program.count, state, h);
     let left = r.state;
     let given = r.answer;
     p.state = left;
-    Brought {
+    EntranceResult {
         panel: p,
         answer: given,
         line: r.line,
@@ -219,7 +219,7 @@ impl Panel {
     pub fn fresh(orchestra: &[u8], ceiling: u32, chosen: u16) -> Fresh
         ensures { λ r. ⌜ r ≡ freshOf (now (orchestra .entry)) ceiling chosen ⌝ }
     {
-        let s = fresh_start::starting(Panel::STARTING_TEMPO, orchestra, ceiling, chosen);
+        let s = player_start::fresh_start(Panel::STARTING_TEMPO, orchestra, ceiling, chosen);
         let state = s.state;
         let program = s.program;
         let answer = s.answer;
@@ -235,46 +235,46 @@ impl Panel {
     }
 
     // A stick: the whole score, or nothing of it.
-    pub fn load_score(self, s: &[u8]) -> Brought
-        ensures { λ r. ⌜ r ≡ bringOf self stick (now (s .entry)) ⌝ }
+    pub fn load_score(self, s: &[u8]) -> EntranceResult
+        ensures { λ r. ⌜ r ≡ submitOf self stick (now (s .entry)) ⌝ }
     {
-        bring(self, doors::stick(s))
+        submit(self, entrance_readers::stick(s))
     }
 
     // An access unit.
-    pub fn receive_unit(self, s: &[u8]) -> Brought
-        ensures { λ r. ⌜ r ≡ bringOf self unit (now (s .entry)) ⌝ }
+    pub fn receive_unit(self, s: &[u8]) -> EntranceResult
+        ensures { λ r. ⌜ r ≡ submitOf self unit (now (s .entry)) ⌝ }
     {
-        bring(self, doors::unit(s))
+        submit(self, entrance_readers::unit(s))
     }
 
     // A keypad line.
-    pub fn enter_line(self, words: &[u32]) -> Brought
-        ensures { λ r. ⌜ r ≡ bringOf self keypad (now (words .entry)) ⌝ }
+    pub fn enter_line(self, words: &[u32]) -> EntranceResult
+        ensures { λ r. ⌜ r ≡ submitOf self keypad (now (words .entry)) ⌝ }
     {
-        bring(self, doors::keypad(words))
+        submit(self, entrance_readers::keypad(words))
     }
 
     // A score as text: the whole of it, or nothing, as a stick.
-    pub fn load_text(self, s: &[u8]) -> Brought
-        ensures { λ r. ⌜ r ≡ bringOf self text (now (s .entry)) ⌝ }
+    pub fn load_text(self, s: &[u8]) -> EntranceResult
+        ensures { λ r. ⌜ r ≡ submitOf self text (now (s .entry)) ⌝ }
     {
-        bring(self, doors::text(s))
+        submit(self, entrance_readers::text(s))
     }
 
     // A burst of access units: each as if it came singly, in order, with its answer's number in the lent area; or a refusal, and nothing is
     // taken or written.
-    pub fn receive_burst(mut self, s: &[u8], answers: &mut [u8]) -> Received
+    pub fn receive_burst(mut self, s: &[u8], answers: &mut [u8]) -> BurstResult
         ensures panel { λ r. ⌜ r ≡ receiveOf self (now (s .entry)) (length (now (answers .entry))) ⌝ }
         ensures area { λ r. ⌜ now (answers .exit) ≡ areaAfter self (now (s .entry)) (now (answers .entry)) ⌝ }
     {
         let table = self.program.table;
         let state = self.state;
-        let r = calls::receive_burst(table, self.program.count, state, s, answers);
+        let r = player_calls::receive_burst(table, self.program.count, state, s, answers);
         let left = r.state;
         let given = r.answer;
         self.state = left;
-        Received {
+        BurstResult {
             panel: self,
             answer: given,
             units: r.units,
@@ -282,22 +282,22 @@ impl Panel {
     }
 
     // Bytes at the keyboard: all its note messages, or none of them.
-    pub fn play_keys(mut self, bytes: &[u8]) -> Played
+    pub fn play_keys(mut self, bytes: &[u8]) -> KeyboardResult
         ensures { λ r. ⌜ r ≡ playKeysOf self (now (bytes .entry)) ⌝ }
     {
         let state = self.state;
-        let r = calls::play_keys(state, bytes);
+        let r = player_calls::play_keys(state, bytes);
         let left = r.state;
         let given = r.answer;
         self.state = left;
-        Played {
+        KeyboardResult {
             panel: self,
             answer: given,
         }
     }
 
     // A cycle of sound into a block of 320 samples.
-    pub fn cycle(mut self, block: &mut [i16]) -> Cycled
+    pub fn cycle(mut self, block: &mut [i16]) -> CycleResult
         ensures panel { λ r. ⌜ r ≡ cycleOf self (length (now (block .entry))) ⌝ }
         ensures block { λ r. ⌜ now (block .exit) ≡ blockAfter self (now (block .entry)) ⌝ }
     {
@@ -307,7 +307,7 @@ impl Panel {
             ceiling: self.ceiling,
             chosen: self.chosen,
         };
-        let r = cycle::into_block(
+        let r = player_cycle::cycle_call(
             table,
             self.program.count,
             &self.program.code,
@@ -319,14 +319,14 @@ impl Panel {
         let left = r.state;
         let given = r.answer;
         self.state = left;
-        Cycled {
+        CycleResult {
             panel: self,
             answer: given,
         }
     }
 
     // The panel in two, for a host that lends its code.
-    pub fn parted(self) -> Parted
+    pub fn split(self) -> SplitPanel
         ensures { λ r. ⌜ panelOf (r .core) (r .code) (r .vals) ≡ self ⌝ }
     {
         let state = self.state;
@@ -334,7 +334,7 @@ impl Panel {
         let table = program.table;
         let code = program.code;
         let vals = program.vals;
-        Parted {
+        SplitPanel {
             core: Core {
                 state: state,
                 settings: Settings {

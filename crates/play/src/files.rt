@@ -12,7 +12,7 @@ fn taken_in(fd: i32, path: &[u8], buffer: &mut [u8]) -> usize {
     let n = io::read_full(fd, buffer);
     let mut one = [0u8; 1];
     if libc::read(fd, &mut one) < 0 {
-        crate::words::fault(path);
+        crate::reports::fault(path);
         return usize::MAX;
     }
     n
@@ -22,7 +22,7 @@ fn taken_in(fd: i32, path: &[u8], buffer: &mut [u8]) -> usize {
 pub fn read(path: &[u8], buffer: &mut [u8]) -> usize {
     let fd = os::open_read(path);
     if fd < 0 {
-        crate::words::fault(path);
+        crate::reports::fault(path);
         return usize::MAX;
     }
     let n = taken_in(fd, path, buffer);
@@ -38,7 +38,7 @@ pub fn read_score(path: &[u8], buffer: &mut [u8; SCORE_ROOM]) -> usize {
 
 fn is_link(path: &[u8]) -> bool {
     let mut name = io::buffer();
-    ports::put_bytes(&mut name, 0, path);
+    program_io::put_bytes(&mut name, 0, path);
     name[4095] = 0;
     let mut one = [0u8; 1];
     0 <= libc::readlink(&name, &mut one)
@@ -57,16 +57,16 @@ fn is_sound(fd: i32) -> bool {
     if n == 0 {
         return true;
     }
-    ports::word_at(&first, 0) == 0x5249_4646
+    program_io::word_at(&first, 0) == 0x5249_4646
 }
 
 fn is_ours(fd: i32, path: &[u8]) -> bool {
     if !is_regular(fd) {
-        crate::words::not_regular(path);
+        crate::reports::not_regular(path);
         return false;
     }
     if !is_sound(fd) {
-        crate::words::not_sound(path);
+        crate::reports::not_sound(path);
         return false;
     }
     true
@@ -76,7 +76,7 @@ fn is_ours(fd: i32, path: &[u8]) -> bool {
 // file that may be written.
 pub fn may_be_written(path: &[u8]) -> bool {
     if is_link(path) {
-        crate::words::not_regular(path);
+        crate::reports::not_regular(path);
         return false;
     }
     let fd = os::open_update(path);
@@ -84,7 +84,7 @@ pub fn may_be_written(path: &[u8]) -> bool {
         if os::errno() == libc::ENOENT {
             return true;
         }
-        crate::words::fault(path);
+        crate::reports::fault(path);
         return false;
     }
     let ours = is_ours(fd, path);

@@ -6,22 +6,22 @@ use score_line::Line;
 const TABLE: usize = 5;
 
 fn line_of_bits(score: &[u8], number: usize) -> Line {
-    let mut step = score::next(score, score::first(score));
+    let mut step = score_reader::next(score, score_reader::first(score));
     let mut left = number;
     while left > 0 {
         let rest = step.rest;
-        step = score::next(score, rest);
+        step = score_reader::next(score, rest);
         left -= 1;
     }
     step.line
 }
 
 fn line_of_text(score: &[u8], number: usize) -> Line {
-    let mut line = text_line::line_at(score, 0);
+    let mut line = text_line_reader::line_at(score, 0);
     let mut left = number;
     while left > 0 {
         let at = line.next;
-        line = text_line::line_at(score, at);
+        line = text_line_reader::line_at(score, at);
         left -= 1;
     }
     let read = line.read;
@@ -37,18 +37,18 @@ fn line_of(path: &[u8], score: &[u8], number: usize) -> Line {
 
 fn listed(symbol: u16, list: &[u8], n: usize) {
     if n <= list.len() {
-        crate::words::name(name_finder::name_in(&list[..n], symbol));
+        crate::reports::name(symbol_lookup::name_in(&list[..n], symbol));
     }
 }
 
 fn unpacked(symbol: u16, path: &[u8], table: &[u8], list: &mut [u8]) {
-    let r = name_unpacker::unpack(table, list);
+    let r = symbol_unpacker::unpack(table, list);
     let a = r.answer;
-    if answer::is_taken(a) {
+    if base_answer::is_taken(a) {
         listed(symbol, list, r.length);
         return;
     }
-    crate::words::refused_table(path, a);
+    crate::reports::refused_table(path, a);
 }
 
 // No table is longer than the buffer, and no list of its names either.
@@ -91,7 +91,7 @@ pub fn told(path: &[u8], score: &[u8], number: usize) {
             instrument,
             duration: _,
         } => {
-            crate::words::symbol(instrument);
+            crate::reports::symbol(instrument);
             with_name(instrument);
         }
         Event::Control {

@@ -2,12 +2,12 @@
 mod files;
 mod instrument;
 mod names;
-mod tape;
-mod words;
+mod reports;
+mod wav;
 
-use answer::Answer;
+use base_answer::Answer;
 use panel::Core;
-use panel::CoreBrought;
+use panel::CoreEntranceResult;
 use panel::Panel;
 
 const DEFAULT_CEILING: u32 = 32767;
@@ -16,7 +16,7 @@ const DEFAULT_CEILING: u32 = 32767;
 const NO_INSTRUMENT: u8 = 4;
 
 // The score into a panel's core: typed as text where its name says so.
-fn brought(core: Core, path: &[u8], score: &[u8]) -> CoreBrought {
+fn brought(core: Core, path: &[u8], score: &[u8]) -> CoreEntranceResult {
     if names::is_text(path) {
         return Core::load_text(core, score);
     }
@@ -25,15 +25,15 @@ fn brought(core: Core, path: &[u8], score: &[u8]) -> CoreBrought {
 
 fn refused(path: &[u8], length: usize, line: usize, a: Answer) {
     if names::is_text(path) {
-        words::refused_text(path, line, a);
+        reports::refused_text(path, line, a);
         return;
     }
-    words::refused_score(path, length, line, a);
+    reports::refused_score(path, length, line, a);
 }
 
 // Where a line names no instrument, which one it is for.
 fn explained(path: &[u8], score: &[u8], line: usize, a: Answer) {
-    if answer::number(a) == NO_INSTRUMENT {
+    if base_answer::number(a) == NO_INSTRUMENT {
         instrument::told(path, score, line);
     }
 }
@@ -49,9 +49,9 @@ fn performed<'a>(
 ) {
     let r = brought(core, path, score);
     let a = r.answer;
-    if answer::is_taken(a) {
+    if base_answer::is_taken(a) {
         let ready = r.core;
-        tape::recorded(ready, code, vals, out);
+        wav::recorded(ready, code, vals, out);
         return;
     }
     refused(path, score.len(), r.line, a);
@@ -72,7 +72,7 @@ fn with_bytes<'a>(
         performed(core, code, vals, path, &buffer[..n], out);
         return;
     }
-    words::unread_score(path, n);
+    reports::unread_score(path, n);
 }
 
 fn with_buffer<'a>(
@@ -95,16 +95,16 @@ fn with_score<'a>(core: Core, code: &'a [u64], vals: &'a [f32], path: &[u8], out
 
 // A fresh start refuses a number outside its range only of the ceiling. No keyboard plays here: the first instrument is chosen.
 fn with_orchestra(bytes: &[u8], ceiling: u32, path: &[u8], score: &[u8], out: &[u8]) {
-    let f = Panel::fresh(bytes, ceiling, ports::first_instrument(bytes));
+    let f = Panel::fresh(bytes, ceiling, program_io::first_instrument(bytes));
     let a = f.answer;
-    if answer::is_taken(a) {
+    if base_answer::is_taken(a) {
         let panel = f.panel;
-        let parted = Panel::parted(panel);
+        let parted = Panel::split(panel);
         let core = parted.core;
         with_score(core, &parted.code, &parted.vals, score, out);
         return;
     }
-    words::refused_start(path, a);
+    reports::refused_start(path, a);
 }
 
 // An orchestra that fills the buffer is far longer than the panel takes, and is refused for its length.
@@ -123,7 +123,7 @@ fn ceiling() -> u32 {
     }
     let mut text = [0u8; 16];
     let n = os::arg(4, &mut text);
-    ports::number(&text[..n])
+    program_io::number(&text[..n])
 }
 
 fn with_out(orchestra: &[u8], score: &[u8]) {
@@ -147,11 +147,11 @@ fn with_paths(orchestra: &[u8]) {
 fn main() {
     let given = os::arg_count();
     if given < 4 {
-        words::usage();
+        reports::usage();
         return;
     }
     if 6 < given {
-        words::usage();
+        reports::usage();
         return;
     }
     let mut path = io::buffer();

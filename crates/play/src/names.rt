@@ -11,11 +11,11 @@ const SASL: u32 = 0x7361_736c;
 
 fn told(path: &[u8]) {
     if os::errno() == 0 {
-        crate::words::empty_name();
+        crate::reports::empty_name();
         return;
     }
     if SHOWN <= path.len() {
-        crate::words::long_name(&path[..SHOWN]);
+        crate::reports::long_name(&path[..SHOWN]);
     }
 }
 
@@ -36,7 +36,7 @@ fn last_four(path: &[u8]) -> u32 {
     if n < 4 {
         return 0;
     }
-    ports::word_at(path, n - 4)
+    program_io::word_at(path, n - 4)
 }
 
 // The byte before them.

@@ -1,14 +1,14 @@
 // The panel as a filter: a list of calls on standard input, every answer on standard output.
 // A record is a code and its fields; each kind has a function, and the fields of all kinds are read in one way.
 mod burst;
-mod kinds;
+mod calls;
 mod naming;
 mod record;
 
-use kinds::Session;
+use calls::Session;
 use panel::Fresh;
 use panel::Panel;
-use ports::Port;
+use program_io::Port;
 use record::Fault;
 use record::Record;
 
@@ -24,7 +24,7 @@ fn relieved(p: Port, out: &[u8]) -> Port {
     if p.used < USED {
         return p;
     }
-    ports::flushed(p, out)
+    program_io::flushed(p, out)
 }
 
 fn told(words: &[u8], at: u64) {
@@ -87,7 +87,7 @@ fn piece<'a>(
             return r;
         }
         let mut p = r.port;
-        let done = kinds::carry_out(s, code, vals, r, data, out, p.used);
+        let done = calls::carry_out(s, code, vals, r, data, out, p.used);
         s = done.session;
         p.used = done.used;
         r = behind(p, input, out, data);
@@ -106,11 +106,11 @@ fn with_panel(
 ) -> Record {
     let answer = f.answer;
     let panel = f.panel;
-    let parted = Panel::parted(panel);
+    let parted = Panel::split(panel);
     let core = parted.core;
     let session = Session {
         core: core,
-        present: answer::is_taken(answer),
+        present: base_answer::is_taken(answer),
     };
     piece(session, &parted.code, &parted.vals, port, input, out, data)
 }
@@ -129,13 +129,19 @@ fn started(r: Record, input: &mut [u8], out: &mut [u8], data: &mut [u8; DATA]) -
     let f = fresh(r, data);
     let a = f.answer;
     let mut p = r.port;
-    p.used = kinds::put_answer(out, p.used, a);
+    p.used = calls::put_answer(out, p.used, a);
     with_panel(f, p, input, out, data)
 }
 
 // Before the first fresh start a refused one's panel stands in, and no call reaches it.
 fn run(input: &mut [u8], out: &mut [u8], data: &mut [u8; DATA]) -> Port {
-    let mut r = with_panel(Panel::fresh(b"", 0, 0), ports::opened(), input, out, data);
+    let mut r = with_panel(
+        Panel::fresh(b"", 0, 0),
+        program_io::opened(),
+        input,
+        out,
+        data,
+    );
     let mut left = u64::MAX;
     while left > 0 {
         if r.ended {
@@ -160,7 +166,7 @@ fn main() {
     let mut out = out_buffer();
     let mut data = items_buffer();
     let p = run(&mut input, &mut out, &mut data);
-    let q = ports::flushed(p, &out);
+    let q = program_io::flushed(p, &out);
     if q.lost {
         io::write_all(2, b"replay: the output cannot be written\n");
     }

@@ -1,6 +1,6 @@
 // Names: a symbol table unpacked, and a symbol's name asked for.
 use crate::record::Record;
-use ports::Port;
+use program_io::Port;
 
 // The longest buffer that names are unpacked into.
 const BUFFER: usize = 65536;
@@ -8,7 +8,7 @@ const BUFFER: usize = 65536;
 // The panel's own list of names is read behind the piece's.
 fn own_read(r: Record, input: &mut [u8], out: &[u8], rest: &mut [u8]) -> Record {
     let p = r.port;
-    let q = ports::receive(p, input, out, rest, r.room as usize);
+    let q = program_io::receive(p, input, out, rest, r.room as usize);
     if q.dry {
         return crate::record::stopped(q, crate::record::dry(q), false);
     }
@@ -50,11 +50,11 @@ pub fn items(
 }
 
 fn unpack_into(bytes: &[u8], buffer: &mut [u8], out: &mut [u8], used: usize) -> usize {
-    let r = name_unpacker::unpack(bytes, buffer);
+    let r = symbol_unpacker::unpack(bytes, buffer);
     let a = r.answer;
-    let one = crate::kinds::put_answer(out, used, a);
-    let two = ports::put_word(out, one, crate::kinds::word_of(r.length));
-    ports::put_bytes(out, two, buffer)
+    let one = crate::calls::put_answer(out, used, a);
+    let two = program_io::put_word(out, one, crate::calls::word_of(r.length));
+    program_io::put_bytes(out, two, buffer)
 }
 
 pub fn unpack(bytes: &[u8], room: usize, out: &mut [u8], used: usize) -> usize {
@@ -66,8 +66,8 @@ pub fn unpack(bytes: &[u8], room: usize, out: &mut [u8], used: usize) -> usize {
 }
 
 fn put_name(name: &[u8], out: &mut [u8], used: usize) -> usize {
-    let next = ports::put_word(out, used, crate::kinds::word_of(name.len()));
-    ports::put_bytes(out, next, name)
+    let next = program_io::put_word(out, used, crate::calls::word_of(name.len()));
+    program_io::put_bytes(out, next, name)
 }
 
 fn symbol_of(n: u32) -> u16 {
@@ -84,7 +84,7 @@ fn ask_of<'a>(
 ) -> usize {
     if own <= rest.len() {
         return put_name(
-            name_finder::name_of(symbol_of(symbol), piece, &rest[..own]),
+            symbol_lookup::name_of(symbol_of(symbol), piece, &rest[..own]),
             out,
             used,
         );

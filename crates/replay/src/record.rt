@@ -1,5 +1,5 @@
 // The fields of a record: a code, then, as its kind has them, a first number, a symbol, a count, that many items, and a room.
-use ports::Port;
+use program_io::Port;
 
 // The highest symbol.
 const MOST_SYMBOL: u32 = 65535;
@@ -122,8 +122,8 @@ fn number(p: Port, wanted: bool, most: u32, otherwise: u32, input: &mut [u8], ou
         };
     }
     let mut four = [0u8; 4];
-    let q = ports::receive(p, input, out, &mut four, 4);
-    let v = ports::word_at(&four, 0);
+    let q = program_io::receive(p, input, out, &mut four, 4);
+    let v = program_io::word_at(&four, 0);
     if q.dry {
         return Field {
             port: q,
@@ -161,7 +161,7 @@ fn two_bytes(p: Port, wanted: bool, input: &mut [u8], out: &[u8]) -> Choice {
         };
     }
     let mut two = [0u8; 2];
-    let q = ports::receive(p, input, out, &mut two, 2);
+    let q = program_io::receive(p, input, out, &mut two, 2);
     if q.dry {
         return Choice {
             port: q,
@@ -171,7 +171,7 @@ fn two_bytes(p: Port, wanted: bool, input: &mut [u8], out: &[u8]) -> Choice {
     }
     Choice {
         port: q,
-        value: ports::symbol_at(&two, 0),
+        value: program_io::symbol_at(&two, 0),
         fault: Fault::Whole,
     }
 }
@@ -200,7 +200,7 @@ pub fn items(
     out: &[u8],
     data: &mut [u8],
 ) -> Record {
-    let q = ports::receive(p, input, out, data, size_of(code, count));
+    let q = program_io::receive(p, input, out, data, size_of(code, count));
     if q.dry {
         return stopped(q, dry(q), false);
     }
@@ -276,11 +276,11 @@ fn at_end(p: Port) -> Record {
 // The next record; `ended` where the input ends before one.
 pub fn read(p: Port, input: &mut [u8], out: &[u8], data: &mut [u8]) -> Record {
     let mut one = [0u8; 1];
-    let q = ports::receive(p, input, out, &mut one, 1);
+    let q = program_io::receive(p, input, out, &mut one, 1);
     if q.dry {
         return at_end(q);
     }
-    let code = ports::byte_at(&one, 0);
+    let code = program_io::byte_at(&one, 0);
     if is_known(code) {
         return body(q, code, input, out, data);
     }

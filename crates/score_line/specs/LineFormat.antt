@@ -1,4 +1,4 @@
--- The format of a score line: document 01, "Score lines, bit by bit". Reading, writing, lawful lines and their lengths all follow from it.
+-- The format of a score line: document 01, "Score lines, bit by bit". Reading, writing, valid lines and their lengths all follow from it.
 -- Definitions only.
 use Prim.Native.Nat.{ℕ, _-_}
 use Prim.Native.Nat.{min as lesser}
@@ -8,10 +8,10 @@ use mathlib.Core.Option.{Option, none, some}
 use lib.ListN.{length, take, drop, replicate}
 use lib.Dec.{eqb, leb}
 use lib.Ieee.{Float, binary32, ofBits, toBits, fits}
-use Rattle.timebase.specs.Time.{timeBits, durationBits, tempoBits, finiteBits}
-use Rattle.formats.specs.declared.Fault.the-variants as fault
-use Rattle.formats.specs.Format.{all}
-use Rattle.formats.specs.Description.{Description, field, small, flag, oneOf, nothing, choose, pair, ifSet, setThen, times, as-a, alike, format}
+use Rattle.base_timebase.specs.Time.{timeBits, durationBits, tempoBits, finiteBits}
+use Rattle.base_formats.specs.declared.Fault.the-variants as fault
+use Rattle.base_formats.specs.Format.{all}
+use Rattle.base_formats.specs.Description.{Description, field, small, flag, oneOf, nothing, choose, pair, ifSet, setThen, times, as-a, alike, format}
 use Rattle.score_line.specs.declared.When.{When}
 use Rattle.score_line.specs.declared.When.the-variants.{Timed, Untimed}
 use Rattle.score_line.specs.declared.Label.{Label}
@@ -209,5 +209,5 @@ unfoldable pub line : Description Line
 line = as-a lineWith partsOf filled parts
 
 -- every field in its range, and nothing behind them
-abbrev pub lawful : Line → Bool
-lawful l = format line .lawful l
+abbrev pub valid : Line → Bool
+valid l = format line .valid l

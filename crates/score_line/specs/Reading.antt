@@ -5,13 +5,13 @@ use mathlib.Core.List.{List, []}
 use lib.ListN.{length}
 use lib.Dec.{eqb}
 use lib.Ieee.{Float}
-use Rattle.answer.specs.Numbers.{isTaken}
-use Rattle.answer.specs.declared.Answer.{Answer}
-use Rattle.answer.specs.declared.Answer.the-variants as answer
-use Rattle.formats.specs.Format.{Source, bitSource, keypadSource, Read, got, refused}
-use Rattle.formats.specs.Description.{format}
-use Rattle.formats.specs.declared.Fault.{Fault}
-use Rattle.formats.specs.declared.Fault.the-variants as fault
+use Rattle.base_answer.specs.Numbers.{isTaken}
+use Rattle.base_answer.specs.declared.Answer.{Answer}
+use Rattle.base_answer.specs.declared.Answer.the-variants as answer
+use Rattle.base_formats.specs.Format.{Source, bitSource, keypadSource, Read, got, refused}
+use Rattle.base_formats.specs.Description.{format}
+use Rattle.base_formats.specs.declared.Fault.{Fault}
+use Rattle.base_formats.specs.declared.Fault.the-variants as fault
 use Rattle.score_line.specs.LineFormat.{padded, line}
 use Rattle.score_line.specs.declared.When.{When}
 use Rattle.score_line.specs.declared.When.the-variants.{Untimed}

@@ -1,12 +1,12 @@
 // A score line, and its parts read from bits or from keypad numbers (document 01, "Score lines, bit by bit").
-use answer::Answer;
-use bitstream::Got;
-use formats::Fault;
-use timebase::Checked;
+use base_answer::Answer;
+use base_bitstream::FieldRead;
+use base_formats::Fault;
+use base_timebase::Checked;
 ghost use mathlib.Core.Path.{_≡_};
-ghost use Rattle.timebase.specs.inside.Range.{checked};
-ghost use Rattle.formats.specs.inside.Source.{sourceOf};
-ghost use Rattle.formats.specs.Format.{numberFrom};
+ghost use Rattle.base_timebase.specs.inside.Range.{checked};
+ghost use Rattle.base_formats.specs.inside.Source.{sourceOf};
+ghost use Rattle.base_formats.specs.Format.{numberFrom};
 ghost use Rattle.score_line.specs.LineFormat.{inRange};
 ghost use Rattle.score_line.specs.inside.Reading.{numberIs, realIs, whenIs, labelIs, eventIs, smallFrom, floatFrom, timedFrom, whenFrom, labelFrom, instrFrom, labelledFrom, controlFrom, tempoFrom, eventFrom};
 ghost use Rattle.score_line.specs.Reading.{refusedLine};
@@ -61,12 +61,12 @@ pub enum Range {
 }
 
 // What reading a part of a line gives: the part and the position past it, or the first fault.
-pub enum Number {
+pub enum IntegerRead {
     Of(u32, usize),
     Refused(Fault),
 }
 
-pub enum Real {
+pub enum FloatRead {
     Of(f32, usize),
     Refused(Fault),
 }
@@ -87,18 +87,18 @@ pub enum EventRead {
 }
 
 // The next number of a line: a field of `width` bits, or the next of the keypad's numbers.
-pub fn number_at(bytes: &[u8], words: &[u32], keypad: bool, at: usize, width: usize) -> Number
+pub fn number_at(bytes: &[u8], words: &[u32], keypad: bool, at: usize, width: usize) -> IntegerRead
     ensures { λ r. ⌜ numberIs r ≡ numberFrom (sourceOf (now (bytes .entry)) (now (words .entry)) keypad) width at ⌝ }
 {
     if keypad {
         if at < words.len() {
-            return Number::Of(words[at], at + 1);
+            return IntegerRead::Of(words[at], at + 1);
         }
-        return Number::Refused(Fault::CutShort);
+        return IntegerRead::Refused(Fault::CutShort);
     }
-    match bitstream::read(bytes, at, width) {
-        Got::Value(v, next) => Number::Of(v, next),
-        Got::Short => Number::Refused(Fault::CutShort),
+    match base_bitstream::read(bytes, at, width) {
+        FieldRead::Value(v, next) => IntegerRead::Of(v, next),
+        FieldRead::Short => IntegerRead::Refused(Fault::CutShort),
     }
 }
 
@@ -110,18 +110,18 @@ pub fn small_at(
     at: usize,
     width: usize,
     most: u32,
-) -> Number
+) -> IntegerRead
     ensures { λ r. ⌜ numberIs r ≡ smallFrom (sourceOf (now (bytes .entry)) (now (words .entry)) keypad) width most at ⌝ }
 {
     match number_at(bytes, words, keypad, at, width) {
-        Number::Of(v, next) => {
+        IntegerRead::Of(v, next) => {
             if v <= most {
-                Number::Of(v, next)
+                IntegerRead::Of(v, next)
             } else {
-                Number::Refused(Fault::OutOfRange)
+                IntegerRead::Refused(Fault::OutOfRange)
             }
         }
-        Number::Refused(f) => Number::Refused(f),
+        IntegerRead::Refused(f) => IntegerRead::Refused(f),
     }
 }
 
@@ -129,22 +129,22 @@ fn in_range(range: Range, b: u32) -> Checked
     ensures { λ r. ⌜ r ≡ checked (inRange range b) b ⌝ }
 {
     match range {
-        Range::Time => timebase::time_of(b),
-        Range::Duration => timebase::duration_of(b),
-        Range::Tempo => timebase::tempo_of(b),
-        Range::Value => timebase::value_of(b),
+        Range::Time => base_timebase::time_of(b),
+        Range::Duration => base_timebase::duration_of(b),
+        Range::Tempo => base_timebase::tempo_of(b),
+        Range::Value => base_timebase::value_of(b),
     }
 }
 
-pub fn float_at(bytes: &[u8], words: &[u32], keypad: bool, at: usize, range: Range) -> Real
+pub fn float_at(bytes: &[u8], words: &[u32], keypad: bool, at: usize, range: Range) -> FloatRead
     ensures { λ r. ⌜ realIs r ≡ floatFrom (sourceOf (now (bytes .entry)) (now (words .entry)) keypad) range at ⌝ }
 {
     match number_at(bytes, words, keypad, at, 32) {
-        Number::Of(b, next) => match in_range(range, b) {
-            Checked::Value(x) => Real::Of(x, next),
-            Checked::Outside => Real::Refused(Fault::OutOfRange),
+        IntegerRead::Of(b, next) => match in_range(range, b) {
+            Checked::Value(x) => FloatRead::Of(x, next),
+            Checked::Outside => FloatRead::Refused(Fault::OutOfRange),
         },
-        Number::Refused(f) => Real::Refused(f),
+        IntegerRead::Refused(f) => FloatRead::Refused(f),
     }
 }
 
@@ -152,17 +152,17 @@ fn timed_at(bytes: &[u8], words: &[u32], keypad: bool, at: usize) -> WhenRead
     ensures { λ r. ⌜ whenIs r ≡ timedFrom (sourceOf (now (bytes .entry)) (now (words .entry)) keypad) at ⌝ }
 {
     match small_at(bytes, words, keypad, at, 1, 1) {
-        Number::Of(late, p) => match float_at(bytes, words, keypad, p, Range::Time) {
-            Real::Of(time, q) => WhenRead::Of(
+        IntegerRead::Of(late, p) => match float_at(bytes, words, keypad, p, Range::Time) {
+            FloatRead::Of(time, q) => WhenRead::Of(
                 When::Timed {
                     use_if_late: late == 1,
                     time: time,
                 },
                 q,
             ),
-            Real::Refused(f) => WhenRead::Refused(f),
+            FloatRead::Refused(f) => WhenRead::Refused(f),
         },
-        Number::Refused(f) => WhenRead::Refused(f),
+        IntegerRead::Refused(f) => WhenRead::Refused(f),
     }
 }
 
@@ -170,14 +170,14 @@ pub fn when_at(bytes: &[u8], words: &[u32], keypad: bool, at: usize) -> WhenRead
     ensures { λ r. ⌜ whenIs r ≡ whenFrom (sourceOf (now (bytes .entry)) (now (words .entry)) keypad) at ⌝ }
 {
     match small_at(bytes, words, keypad, at, 1, 1) {
-        Number::Of(has_time, p) => {
+        IntegerRead::Of(has_time, p) => {
             if has_time == 1 {
                 timed_at(bytes, words, keypad, p)
             } else {
                 WhenRead::Of(When::Untimed, p)
             }
         }
-        Number::Refused(f) => WhenRead::Refused(f),
+        IntegerRead::Refused(f) => WhenRead::Refused(f),
     }
 }
 
@@ -185,17 +185,17 @@ fn label_at(bytes: &[u8], words: &[u32], keypad: bool, at: usize) -> LabelRead
     ensures { λ r. ⌜ labelIs r ≡ labelFrom (sourceOf (now (bytes .entry)) (now (words .entry)) keypad) at ⌝ }
 {
     match small_at(bytes, words, keypad, at, 1, 1) {
-        Number::Of(has_label, p) => {
+        IntegerRead::Of(has_label, p) => {
             if has_label == 1 {
                 match small_at(bytes, words, keypad, p, 16, 65535) {
-                    Number::Of(label, q) => LabelRead::Of(Label::Labelled(label as u16), q),
-                    Number::Refused(f) => LabelRead::Refused(f),
+                    IntegerRead::Of(label, q) => LabelRead::Of(Label::Labelled(label as u16), q),
+                    IntegerRead::Refused(f) => LabelRead::Refused(f),
                 }
             } else {
                 LabelRead::Of(Label::Unlabelled, p)
             }
         }
-        Number::Refused(f) => LabelRead::Refused(f),
+        IntegerRead::Refused(f) => LabelRead::Refused(f),
     }
 }
 
@@ -204,8 +204,14 @@ fn instr_at(bytes: &[u8], words: &[u32], keypad: bool, at: usize) -> EventRead
 {
     match label_at(bytes, words, keypad, at) {
         LabelRead::Of(label, p) => match small_at(bytes, words, keypad, p, 16, 65535) {
-            Number::Of(instrument, q) => match float_at(bytes, words, keypad, q, Range::Duration) {
-                Real::Of(duration, r) => EventRead::Of(
+            IntegerRead::Of(instrument, q) => match float_at(
+                bytes,
+                words,
+                keypad,
+                q,
+                Range::Duration,
+            ) {
+                FloatRead::Of(duration, r) => EventRead::Of(
                     Event::Instr {
                         label: label,
                         instrument: instrument as u16,
@@ -213,9 +219,9 @@ fn instr_at(bytes: &[u8], words: &[u32], keypad: bool, at: usize) -> EventRead
                     },
                     r,
                 ),
-                Real::Refused(f) => EventRead::Refused(f),
+                FloatRead::Refused(f) => EventRead::Refused(f),
             },
-            Number::Refused(f) => EventRead::Refused(f),
+            IntegerRead::Refused(f) => EventRead::Refused(f),
         },
         LabelRead::Refused(f) => EventRead::Refused(f),
     }
@@ -226,9 +232,9 @@ fn labelled_at(bytes: &[u8], words: &[u32], keypad: bool, at: usize) -> EventRea
     ensures { λ r. ⌜ eventIs r ≡ labelledFrom (sourceOf (now (bytes .entry)) (now (words .entry)) keypad) at ⌝ }
 {
     match small_at(bytes, words, keypad, at, 16, 65535) {
-        Number::Of(label, p) => match small_at(bytes, words, keypad, p, 16, 65535) {
-            Number::Of(variable, q) => match float_at(bytes, words, keypad, q, Range::Value) {
-                Real::Of(value, r) => EventRead::Of(
+        IntegerRead::Of(label, p) => match small_at(bytes, words, keypad, p, 16, 65535) {
+            IntegerRead::Of(variable, q) => match float_at(bytes, words, keypad, q, Range::Value) {
+                FloatRead::Of(value, r) => EventRead::Of(
                     Event::Control {
                         label: label as u16,
                         variable: variable as u16,
@@ -236,11 +242,11 @@ fn labelled_at(bytes: &[u8], words: &[u32], keypad: bool, at: usize) -> EventRea
                     },
                     r,
                 ),
-                Real::Refused(f) => EventRead::Refused(f),
+                FloatRead::Refused(f) => EventRead::Refused(f),
             },
-            Number::Refused(f) => EventRead::Refused(f),
+            IntegerRead::Refused(f) => EventRead::Refused(f),
         },
-        Number::Refused(f) => EventRead::Refused(f),
+        IntegerRead::Refused(f) => EventRead::Refused(f),
     }
 }
 
@@ -248,14 +254,14 @@ fn control_at(bytes: &[u8], words: &[u32], keypad: bool, at: usize) -> EventRead
     ensures { λ r. ⌜ eventIs r ≡ controlFrom (sourceOf (now (bytes .entry)) (now (words .entry)) keypad) at ⌝ }
 {
     match small_at(bytes, words, keypad, at, 1, 1) {
-        Number::Of(has_label, p) => {
+        IntegerRead::Of(has_label, p) => {
             if has_label == 1 {
                 labelled_at(bytes, words, keypad, p)
             } else {
                 EventRead::Refused(Fault::NotCarried)
             }
         }
-        Number::Refused(f) => EventRead::Refused(f),
+        IntegerRead::Refused(f) => EventRead::Refused(f),
     }
 }
 
@@ -263,8 +269,8 @@ fn tempo_at(bytes: &[u8], words: &[u32], keypad: bool, at: usize) -> EventRead
     ensures { λ r. ⌜ eventIs r ≡ tempoFrom (sourceOf (now (bytes .entry)) (now (words .entry)) keypad) at ⌝ }
 {
     match float_at(bytes, words, keypad, at, Range::Tempo) {
-        Real::Of(tempo, p) => EventRead::Of(Event::Tempo(tempo), p),
-        Real::Refused(f) => EventRead::Refused(f),
+        FloatRead::Of(tempo, p) => EventRead::Of(Event::Tempo(tempo), p),
+        FloatRead::Refused(f) => EventRead::Refused(f),
     }
 }
 

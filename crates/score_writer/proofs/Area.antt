@@ -11,13 +11,13 @@ use borrow.Table.Steps.{cases}
 use lib.Dec.{leb}
 use lib.ListN.{length, getD, take, drop, length-append, drop-of-length-le}
 use lib.Seq.{drop-cons}
-use Rattle.answer.specs.Numbers.{isTaken}
-use Rattle.answer.specs.declared.Answer.the-variants as answer
+use Rattle.base_answer.specs.Numbers.{isTaken}
+use Rattle.base_answer.specs.declared.Answer.the-variants as answer
 use Rattle.score_line.specs.Reading.{lineInWords, refusedLine}
 use Rattle.score_line.specs.declared.Line.{Line}
 use Rattle.score_line.specs.declared.LineRead.{LineRead}
-use Rattle.line_writer.specs.Writing.{lineBits}
-use Rattle.line_writer.proofs.Proved.{line-wide, length-line}
+use Rattle.score_line_writer.specs.Writing.{lineBits}
+use Rattle.score_line_writer.proofs.Proved.{line-wide, length-line}
 use Rattle.score_writer.specs.Writing.{linesBits}
 use Rattle.score_writer.specs.Slots.{allZero, slotLine, slotRead, areaFault, areaLines}
 use Rattle.score_writer.specs.inside.Laid.{Short}

@@ -9,33 +9,33 @@ use lib.ListN.{length, drop, replicate, length-append, length-drop}
 use lib.Dec.{T}
 use lib.Ieee.Fits.{and-l, and-r, and-i}
 use lib.Seq.{drop-at, drop-drop}
-use Rattle.bitstream.specs.Bits.{field}
-use Rattle.bitstream.specs.Fields.{farthest, readAt}
-use Rattle.bitstream.specs.declared.Got.the-variants.{Value}
-use Rattle.bitstream.specs.Filling.{missing, filled, filledUp}
-use Rattle.bitstream.proofs.BitValues.{length-field}
-use Rattle.bitstream.proofs.Fields.{read-here, read-back}
-use Rattle.bitstream.proofs.Filling.{filled-back, filled-here, filled-up, length-filledUp}
-use Rattle.formats.specs.Format.{bitSource, got}
+use Rattle.base_bitstream.specs.Bits.{field}
+use Rattle.base_bitstream.specs.Fields.{farthest, readAt}
+use Rattle.base_bitstream.specs.declared.FieldRead.the-variants.{Value}
+use Rattle.base_bitstream.specs.Filling.{missing, filled, filledUp}
+use Rattle.base_bitstream.proofs.BitValues.{length-field}
+use Rattle.base_bitstream.proofs.Fields.{read-here, read-back}
+use Rattle.base_bitstream.proofs.Filling.{filled-back, filled-here, filled-up, length-filledUp}
+use Rattle.base_formats.specs.Format.{bitSource, got}
 use Rattle.score_line.specs.Reading.{lineFrom, lineAt, lineRead}
 use Rattle.score_line.specs.declared.Line.{Line}
-use Rattle.line_writer.specs.Writing.{lineBits}
-use Rattle.score_line.specs.LineFormat.{lawful}
-use Rattle.line_writer.proofs.Proved.{read-taken, line-long, before-append, line-here as bits-here, line-back-here}
+use Rattle.score_line_writer.specs.Writing.{lineBits}
+use Rattle.score_line.specs.LineFormat.{valid}
+use Rattle.score_line_writer.proofs.Proved.{read-taken, line-long, before-append, line-here as bits-here, line-back-here}
 use Rattle.score_writer.specs.Writing.{linesBits, scoreBits, unitBits, mostLines}
-use Rattle.score_writer.specs.Bytes.{allLawful}
-use Rattle.score.specs.Score.{all, linesFrom, taken, scoreOf, unitOf, opened, wholeLine}
-use Rattle.score.proofs.Walk.{accepted, accepts, lines-back, unit-accepted}
+use Rattle.score_writer.specs.Bytes.{allValid}
+use Rattle.score_reader.specs.Score.{all, linesFrom, taken, scoreOf, unitOf, opened, wholeLine}
+use Rattle.score_reader.proofs.Walk.{accepted, accepts, lines-back, unit-accepted}
 
 pub record Back (l : List Bool) (at : ℕ) (x : Line) (p : ℕ) : Type 0 where
   pub here : drop at l ≡ lineBits x ++ drop p l
   pub next : p ≡ at + length (lineBits x)
-  pub lawful : T (lawful x)
+  pub valid : T (valid x)
   pub room : p ≤ length l
 
 -- ---- one line, as a reading
 
-line-here : (l : List Bool) (at : ℕ) (x : Line) (rest : List Bool) → length l ≤ farthest → T (lawful x) → drop at l ≡ lineBits x ++ rest
+line-here : (l : List Bool) (at : ℕ) (x : Line) (rest : List Bool) → length l ≤ farthest → T (valid x) → drop at l ≡ lineBits x ++ rest
     → lineFrom (bitSource l) at ≡ got x (at + length (lineBits x))
 unfolding lineAt
 line-here l at x rest h w e =
@@ -47,36 +47,36 @@ line-back : (l : List Bool) (at : ℕ) (x : Line) (p : ℕ) → lineFrom (bitSou
 unfolding lineAt lineRead
 line-back l at x p e =
     let k = line-back-here l at x p (ap lineRead e) in
-    record { here = k .here ∙ sym (before-append x (drop p l)); next = k .past; lawful = k .is-lawful; room = k .within }
+    record { here = k .here ∙ sym (before-append x (drop p l)); next = k .past; valid = k .is-valid; room = k .within }
 
 -- ---- lines
 
-lines-here : (l : List Bool) (at i : ℕ) (ls : List Line) (rest : List Bool) → length l ≤ farthest → T (allLawful ls) → drop at l ≡ linesBits ls ++ rest
+lines-here : (l : List Bool) (at i : ℕ) (ls : List Line) (rest : List Bool) → length l ≤ farthest → T (allValid ls) → drop at l ≡ linesBits ls ++ rest
     → linesFrom l (length ls) i at ≡ all ls (at + length (linesBits ls))
-unfolding linesFrom linesBits allLawful
+unfolding linesFrom linesBits allValid
 lines-here l at i [] rest h u e = ap (all []) (sym (add-zero at))
 lines-here l at i (x ∷ ls) rest h u e =
     let b = lineBits x in
     let bs = linesBits ls in
     let f = e ∙ append-assoc b bs rest in
-    let r = line-here l at x (bs ++ rest) h (and-l (lawful x) (allLawful ls) u) f in
+    let r = line-here l at x (bs ++ rest) h (and-l (valid x) (allValid ls) u) f in
     let d : drop (at + length b) l ≡ bs ++ rest = cc (drop-drop (length b) at l, drop-at b (bs ++ rest) (length b) refl) in
-    let t = lines-here l (at + length b) (suc i) ls rest h (and-r (lawful x) (allLawful ls) u) d in
+    let t = lines-here l (at + length b) (suc i) ls rest h (and-r (valid x) (allValid ls) u) d in
     rw r (cc (add-assoc at (length b) (length bs), length-append b bs))
 
 pub record Lines-back (l : List Bool) (n at : ℕ) (ls : List Line) (q : ℕ) : Type 0 where
   pub here : drop at l ≡ linesBits ls ++ drop q l
   pub next : q ≡ at + length (linesBits ls)
-  pub lawful : T (allLawful ls)
+  pub valid : T (allValid ls)
   pub count : length ls ≡ n
   pub room : q ≤ length l
 
 lines-there : (l : List Bool) (n at i : ℕ) (ls : List Line) (q : ℕ) → at ≤ length l → linesFrom l n i at ≡ all ls q → Lines-back l n at ls q
-unfolding linesFrom linesBits allLawful
+unfolding linesFrom linesBits allValid
 lines-there l zero at i ls q h e =
     let k : ls ≡ [] = cc in
     let p : at ≡ q = cc in
-    rw k (record { here = cc; next = cc (add-zero at); lawful = tt; count = refl; room = omega arith })
+    rw k (record { here = cc; next = cc (add-zero at); valid = tt; count = refl; room = omega arith })
 lines-there l (suc n) at i ls q h e =
     let m = lines-back l n i at ls q e in
     let b = line-back l at (m .line) (m .next) (m .line-there) in
@@ -86,16 +86,16 @@ lines-there l (suc n) at i ls q h e =
     rw (m .lines) (record {
       here = cc (b .here, t .here, append-assoc bs cs (drop q l));
       next = omega (arith, t .next, b .next, length-append bs cs);
-      lawful = and-i (lawful (m .line)) (allLawful (m .others)) (b .lawful) (t .lawful);
+      valid = and-i (valid (m .line)) (allValid (m .others)) (b .valid) (t .valid);
       count = ap suc (t .count);
       room = t .room;
     })
 
-lines-short : (ls : List Line) → T (allLawful ls) → length (linesBits ls) ≤ 367 * length ls
-unfolding linesBits allLawful
+lines-short : (ls : List Line) → T (allValid ls) → length (linesBits ls) ≤ 367 * length ls
+unfolding linesBits allValid
 lines-short [] u = omega arith
 lines-short (x ∷ ls) u =
-    omega (arith, length-append (lineBits x) (linesBits ls), line-long x (and-l (lawful x) (allLawful ls) u) .1, lines-short ls (and-r (lawful x) (allLawful ls) u))
+    omega (arith, length-append (lineBits x) (linesBits ls), line-long x (and-l (valid x) (allValid ls) u) .1, lines-short ls (and-r (valid x) (allValid ls) u))
 
 -- ---- a first field, what follows it, and zero bits to a whole byte
 
@@ -138,7 +138,7 @@ module _ (w v : ℕ) (body : List Bool) where
 -- ---- a whole score
 
 -- a written score is read
-pub score-here : (ls : List Line) → T (allLawful ls) → length ls ≤ mostLines → scoreOf (scoreBits ls) ≡ taken ls
+pub score-here : (ls : List Line) → T (allValid ls) → length ls ≤ mostLines → scoreOf (scoreBits ls) ≡ taken ls
 unfolding scoreBits
 score-here ls w h =
     let t = whole-here 20 (length ls) (linesBits ls) (omega arith) (omega arith) (omega arith) (omega (arith, lines-short ls w)) in
@@ -154,7 +154,7 @@ score-here ls w h =
 -- a score that is read is the written one
 pub record Score-back (l : List Bool) (ls : List Line) : Type 0 where
   pub bits : l ≡ scoreBits ls
-  pub lawful : T (allLawful ls)
+  pub valid : T (allValid ls)
   pub count : length ls ≤ mostLines
 
 pub score-back : (l : List Bool) (ls : List Line) → length l % 8 ≡ 0 → scoreOf l ≡ taken ls → Score-back l ls
@@ -165,14 +165,14 @@ score-back l ls h e =
     let t = lines-there l (a .count) (a .start) 0 ls (a .end) (omega (arith, r .next, r .room)) (a .lines-there) in
     record {
       bits = rw (t .count) (whole-back 20 (a .count) (linesBits ls) l (a .start) (a .end) h (a .counted-there) (t .here) (t .next) (a .filled-there));
-      lawful = t .lawful;
+      valid = t .valid;
       count = omega (arith, r .small, t .count);
     }
 
 -- ---- an access unit
 
 -- a written unit is read
-pub unit-here : (x : Line) → T (lawful x) → unitOf (unitBits x) ≡ lineRead (got x (2 + length (lineBits x)))
+pub unit-here : (x : Line) → T (valid x) → unitOf (unitBits x) ≡ lineRead (got x (2 + length (lineBits x)))
 unfolding unitOf opened wholeLine lineAt unitBits lineRead
 unit-here x w =
     let t = whole-here 2 0 (lineBits x) (omega arith) (omega arith) (omega arith) (omega (arith, line-long x w .1)) in
@@ -182,7 +182,7 @@ unit-here x w =
 -- a unit that is read is the written one
 pub record Unit-back (l : List Bool) (x : Line) (p : ℕ) : Type 0 where
   pub bits : l ≡ unitBits x
-  pub lawful : T (lawful x)
+  pub valid : T (valid x)
   pub next : p ≡ 2 + length (lineBits x)
 
 pub unit-back : (l : List Bool) (x : Line) (p : ℕ) → length l % 8 ≡ 0 → unitOf l ≡ lineRead (got x p) → Unit-back l x p
@@ -193,6 +193,6 @@ unit-back l x p h e =
     let t = line-back l (a .start) x p (a .line-there) in
     record {
       bits = whole-back 2 0 (lineBits x) l (a .start) p h (a .opened-there) (t .here) (t .next) (a .filled-there);
-      lawful = t .lawful;
+      valid = t .valid;
       next = omega (arith, t .next, r .next);
     }

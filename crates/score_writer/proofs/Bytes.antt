@@ -7,20 +7,20 @@ use native.Mathlib.Omega.{arith}
 use lib.Dec.{T}
 use lib.Ieee.{ofBits, toBits}
 use lib.ListN.{length}
-use Rattle.answer.specs.declared.Answer.the-variants.{Taken}
-use Rattle.bitstream.specs.Bits.{bitsOf, bit, field, valueOf}
-use Rattle.bitstream.specs.Filling.{filledUp, bytesFrom, bytesOf}
-use Rattle.bitstream.proofs.BitValues.{length-bitsOf}
-use Rattle.bitstream.proofs.Filling.{bitsOf-bytesOf, bytesOf-bitsOf}
-use Rattle.formats.specs.Format.{got, fieldBits, small}
-use Rattle.score_line.specs.LineFormat.{timed, when, kind, body, values, float, padded, afterTime, parts, line, lawful}
+use Rattle.base_answer.specs.declared.Answer.the-variants.{Taken}
+use Rattle.base_bitstream.specs.Bits.{bitsOf, bit, field, valueOf}
+use Rattle.base_bitstream.specs.Filling.{filledUp, bytesFrom, bytesOf}
+use Rattle.base_bitstream.proofs.BitValues.{length-bitsOf}
+use Rattle.base_bitstream.proofs.Filling.{bitsOf-bytesOf, bytesOf-bitsOf}
+use Rattle.base_formats.specs.Format.{got, fieldBits, small}
+use Rattle.score_line.specs.LineFormat.{timed, when, kind, body, values, float, padded, afterTime, parts, line, valid}
 use Rattle.score_line.specs.Reading.{lineRead, lineOf}
 use Rattle.score_line.specs.declared.Line.{Line}
-use Rattle.line_writer.specs.Writing.{lineBefore, lineBits}
-use Rattle.score.specs.Score.{Score, scoreOf, unitOf}
-use Rattle.score.proofs.Walk.{answered}
+use Rattle.score_line_writer.specs.Writing.{lineBefore, lineBits}
+use Rattle.score_reader.specs.Score.{Score, scoreOf, unitOf}
+use Rattle.score_reader.proofs.Walk.{answered}
 use Rattle.score_writer.specs.Writing.{linesBits, scoreBits, scoreBytes, unitBits, unitBytes}
-use Rattle.score_writer.specs.Bytes.{ScoreBytesRead, ScoreBytesWritten, ScoreBytesTell, UnitBytesRead, UnitBytesWritten, UnitBytesTell, Example}
+use Rattle.score_writer.specs.Bytes.{ScoreBytesRead, ScoreBytesWritten, ScoreBytesInjective, UnitBytesRead, UnitBytesWritten, UnitBytesInjective, Example}
 use Rattle.score_writer.proofs.BitsAndBack.{whole-bytes, score-here, score-back, unit-here, unit-back}
 
 pub score-bytes-read : ScoreBytesRead
@@ -35,13 +35,13 @@ unfolding scoreBytes
 score-bytes-written s h e =
     let ls = scoreOf (bitsOf s) .lines in
     let b = score-back (bitsOf s) ls (whole s) (answered (bitsOf s) e) in
-    record { lawful-lines = b .lawful; count = b .count; bytes-are = ap bytesOf (sym (b .bits)) ∙ bytesOf-bitsOf s h }
+    record { valid-lines = b .valid; count = b .count; bytes-are = ap bytesOf (sym (b .bits)) ∙ bytesOf-bitsOf s h }
 
-pub score-bytes-tell : ScoreBytesTell
-score-bytes-tell ls ms a b c d e =
+pub score-bytes-injective : ScoreBytesInjective
+score-bytes-injective ls ms a b c d e =
     ap (λ (x : Score). x .lines) (sym (score-bytes-read ls a c) ∙ ap (λ (x : List ℕ). scoreOf (bitsOf x)) e ∙ score-bytes-read ms b d)
 
-pub unit-whole : (l : Line) → T (lawful l) → unitOf (bitsOf (unitBytes l)) ≡ lineRead (got l (2 + length (lineBits l)))
+pub unit-whole : (l : Line) → T (valid l) → unitOf (bitsOf (unitBytes l)) ≡ lineRead (got l (2 + length (lineBits l)))
 unfolding unitBytes unitBits
 unit-whole l w = ap unitOf (bitsOf-bytesOf (unitBits l) (whole-bytes 2 0 (lineBits l))) ∙ unit-here l w
 
@@ -61,10 +61,10 @@ unfolding unitBytes
 unit-bytes-written s h e =
     let r = unitOf (bitsOf s) in
     let b = unit-back (bitsOf s) (r .line) (r .next) (whole s) (unit-answered (bitsOf s) e) in
-    (b .lawful, ap bytesOf (sym (b .bits)) ∙ bytesOf-bitsOf s h)
+    (b .valid, ap bytesOf (sym (b .bits)) ∙ bytesOf-bitsOf s h)
 
-pub unit-bytes-tell : UnitBytesTell
-unit-bytes-tell l m a b e = cc (unit-bytes-read l a .line, unit-bytes-read m b .line)
+pub unit-bytes-injective : UnitBytesInjective
+unit-bytes-injective l m a b e = cc (unit-bytes-read l a .line, unit-bytes-read m b .line)
 
 -- 00 00 18 FE 00 00 01 00
 pub example : Example

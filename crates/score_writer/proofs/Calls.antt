@@ -11,36 +11,36 @@ use lib.ListN.{length, take, drop, replicate, length-append, take-append-drop}
 use lib.Seq.{take-at}
 use lib.Ieee.Bits.{is-true}
 use lib.Ieee.Fits.{and-l, and-r}
-use Rattle.laws.proofs.Choice.{cond-true, cond-false}
-use Rattle.answer.specs.Numbers.{numberOf, isTaken}
-use Rattle.answer.specs.declared.Answer.{Answer}
-use Rattle.answer.specs.declared.Answer.the-variants as answer
-use Rattle.bitstream.specs.Bits.{bitsOf, field}
-use Rattle.bitstream.specs.Fields.{farthest, over}
-use Rattle.bitstream.specs.Filling.{filledUp, bytesOf}
-use Rattle.bitstream.proofs.Fields.{drop-over, bitsOf-inj}
-use Rattle.score_line.specs.LineFormat.{lawful}
+use Rattle.base_laws.proofs.Choice.{cond-true, cond-false}
+use Rattle.base_answer.specs.Numbers.{numberOf, isTaken}
+use Rattle.base_answer.specs.declared.Answer.{Answer}
+use Rattle.base_answer.specs.declared.Answer.the-variants as answer
+use Rattle.base_bitstream.specs.Bits.{bitsOf, field}
+use Rattle.base_bitstream.specs.Fields.{farthest, over}
+use Rattle.base_bitstream.specs.Filling.{filledUp, bytesOf}
+use Rattle.base_bitstream.proofs.Fields.{drop-over, bitsOf-inj}
+use Rattle.score_line.specs.LineFormat.{valid}
 use Rattle.score_line.specs.Reading.{lineAt, keypadLine, lineRead}
 use Rattle.score_line.specs.declared.Line.{Line}
 use Rattle.score_line.specs.declared.LineRead.{LineRead}
-use Rattle.line_writer.specs.Writing.{lineBefore, lineBits, lineFault, lineSlot, bitsFit}
-use Rattle.line_writer.specs.Claims.{taken, FaultNumber, no-fault, out-of-range, too-many-values}
-use Rattle.line_writer.specs.Stored.{stored, meant}
-use Rattle.line_writer.proofs.Writes.{fit-back}
-use Rattle.line_writer.proofs.Proved.{values-long, before-append, line-here, line-back-here, words-read-back, words-written-back}
-use Rattle.line_writer.proofs.AnyLine.{every-meant, fault-numbers}
-use Rattle.score.specs.Score as score
-use Rattle.score.specs.Score.{Score, scoreOf, unitOf}
-use Rattle.score_area.specs.Area.{areaWords, laid, decodedOf, areaAfter, carried, Left}
-use Rattle.score_area.specs.declared.Decoded.{Decoded}
-use Rattle.score_area.proofs.Slots.{taken-is}
+use Rattle.score_line_writer.specs.Writing.{lineBefore, lineBits, lineFault, lineSlot, bitsFit}
+use Rattle.score_line_writer.specs.Claims.{taken, FaultNumber, no-fault, out-of-range, too-many-values}
+use Rattle.score_line_writer.specs.Stored.{stored, normalized}
+use Rattle.score_line_writer.proofs.Writes.{fit-back}
+use Rattle.score_line_writer.proofs.Proved.{values-long, before-append, line-here, line-back-here, words-read-back, words-written-back}
+use Rattle.score_line_writer.proofs.AnyLine.{every-normalized, fault-numbers}
+use Rattle.score_reader.specs.Score as score
+use Rattle.score_reader.specs.Score.{Score, scoreOf, unitOf}
+use Rattle.score_decoder.specs.Area.{areaWords, laid, decodedOf, areaAfter, carried, DecodesTo}
+use Rattle.score_decoder.specs.declared.Decoded.{Decoded}
+use Rattle.score_decoder.proofs.Slots.{taken-is}
 use Rattle.score_writer.specs.Writing.{linesBits, scoreBits, scoreBytes, unitBits, unitBytes, mostLines}
-use Rattle.score_writer.specs.Bytes.{allLawful}
+use Rattle.score_writer.specs.Bytes.{allValid}
 use Rattle.score_writer.specs.Slots.{slotRead, areaFault, areaLines}
 use Rattle.score_writer.specs.Written.{refusal, told, left, scoreWritten, scoreLeft, unitWritten, unitLeft, slotWritten, slotLeft, ScoreDone, UnitDone, SlotDone}
 use Rattle.score_writer.specs.Claims.{Took, LineReadBack, LineWrittenBack, KeypadReadBack, KeypadWrittenBack, SlotsBack, ScoreReadBack, BytesBack, ScoreWrittenBack, UnitReadBack, UnitWrittenBack, SlotReadBack, SlotWrittenBack, allStored, linesFault, linesWritten, linesLeft, WriterNumber, LinesWritten}
 use Rattle.score_writer.specs.Claims as claims
-use Rattle.score_writer.specs.declared.Written.{Written}
+use Rattle.score_writer.specs.declared.WriteResult.{WriteResult}
 use Rattle.score_writer.proofs.Area.{lines-count}
 use Rattle.score_writer.proofs.Lays.{line-laid}
 use Rattle.score_writer.proofs.Bytes.{score-bytes-read, score-bytes-written, unit-bytes-read, unit-bytes-written, unit-whole}
@@ -82,7 +82,7 @@ keypad-written-back ws h e =
 
 -- ---- bytes that were told
 
-pub bytes-back : (b out new : List ℕ) (w : Written) → length b ≤ length out → w ≡ told b (length out) → new ≡ left b out → BytesBack b out new w
+pub bytes-back : (b out new : List ℕ) (w : WriteResult) → length b ≤ length out → w ≡ told b (length out) → new ≡ left b out → BytesBack b out new w
 bytes-back b out new w h e f = let t = le-leb (length b) (length out) h in let k = e ∙ cond-true _ _ t in record { number = cc; line = cc; bytes = cc; are = cc }
 
 -- no answer of the number 0 refuses
@@ -90,18 +90,18 @@ never : {X : Type 0} (a : Answer) → numberOf a ≡ 0 → isTaken a ≡ false �
 never a e f = absurd (true≢false (cc))
 
 -- what was told as written stands at the start
-pub told-zero : (b out new : List ℕ) (w : Written) → w ≡ told b (length out) → new ≡ left b out → numberOf (w .answer) ≡ 0 → take (w .bytes) new ≡ b
+pub told-zero : (b out new : List ℕ) (w : WriteResult) → w ≡ told b (length out) → new ≡ left b out → numberOf (w .answer) ≡ 0 → take (w .bytes) new ≡ b
 told-zero b out new w e f z = cases (leb (length b) (length out)) (λ k. cc (e ∙ cond-true _ _ k, take-at b (drop (length b) out) (length b) refl))
     (λ k. never (w .answer) z (cc (e ∙ cond-false _ _ k)))
 
 -- ---- a score that was written
 
-record WroteScore (area : List ℕ) (n : ℕ) (out new : List ℕ) (w : Written) : Type 0 where
+record WroteScore (area : List ℕ) (n : ℕ) (out new : List ℕ) (w : WriteResult) : Type 0 where
   fault : areaFault area n 0 .answer ≡ answer.Taken
   few : n ≤ mostLines
   bytes : take (w .bytes) new ≡ scoreBytes (areaLines area n 0)
 
-wrote-score : (area : List ℕ) (n : ℕ) (out new : List ℕ) (w : Written) → ScoreDone area n out new w → numberOf (w .answer) ≡ 0 → WroteScore area n out new w
+wrote-score : (area : List ℕ) (n : ℕ) (out new : List ℕ) (w : WriteResult) → ScoreDone area n out new w → numberOf (w .answer) ≡ 0 → WroteScore area n out new w
 unfolding scoreWritten scoreLeft
 wrote-score area n out new w d z =
     let f = areaFault area n 0 .answer in
@@ -113,7 +113,7 @@ wrote-score area n out new w d z =
     (λ k. never (w .answer) z (cc (d .answers ∙ cond-true _ _ e ∙ cond-false _ _ k)))) (λ e. never (w .answer) z (cc (d .answers ∙ cond-false _ _ e)))
 
 -- and one that can be
-can-write : (area : List ℕ) (n : ℕ) (out new : List ℕ) (w : Written) (s : List ℕ) → ScoreDone area n out new w → areaFault area n 0 .answer ≡ answer.Taken → n ≤ mostLines
+can-write : (area : List ℕ) (n : ℕ) (out new : List ℕ) (w : WriteResult) (s : List ℕ) → ScoreDone area n out new w → areaFault area n 0 .answer ≡ answer.Taken → n ≤ mostLines
     → scoreBytes (areaLines area n 0) ≡ s → length s ≤ length out → BytesBack s out new w
 unfolding scoreWritten scoreLeft
 can-write area n out new w s d f few e h = let b = le-leb n mostLines few in bytes-back s out new w h (cc (d .answers)) (cc (d .leaves))
@@ -124,12 +124,12 @@ pub record Decodes (ls : List Line) (old new : List ℕ) (r : Decoded) : Type 0 
   pub is : r ≡ record { answer = answer.Taken; line = 0; count = length ls }
   pub words : new ≡ areaWords ls ++ drop (length (areaWords ls)) old
 
-pub decodes : (s : Score) (ls : List Line) (old new : List ℕ) (r : Decoded) → s .answer ≡ answer.Taken → s .lines ≡ ls → 18 * length ls ≤ length old → Left s old new r → Decodes ls old new r
+pub decodes : (s : Score) (ls : List Line) (old new : List ℕ) (r : Decoded) → s .answer ≡ answer.Taken → s .lines ≡ ls → 18 * length ls ≤ length old → DecodesTo s old new r → Decodes ls old new r
 unfolding decodedOf areaAfter laid
 decodes s ls old new r a e h d = let k = le-leb (18 * length ls) (length old) h in record { is = cc (d .told); words = cc (d .area) }
 
 -- what was decoded was read, and had room
-pub decoded-zero : (s : Score) (old new : List ℕ) (r : Decoded) → Left s old new r → numberOf (r .answer) ≡ 0 → (s .answer ≡ answer.Taken) × (18 * length (s .lines) ≤ length old)
+pub decoded-zero : (s : Score) (old new : List ℕ) (r : Decoded) → DecodesTo s old new r → numberOf (r .answer) ≡ 0 → (s .answer ≡ answer.Taken) × (18 * length (s .lines) ≤ length old)
 unfolding decodedOf
 decoded-zero s old new r d z =
     cases (isTaken (s .answer))
@@ -142,12 +142,12 @@ pub slots-decoded : (area : List ℕ) (n : ℕ) (ls : List Line) (into new : Lis
     → Decodes ls into new d → SlotsBack area n into new d
 slots-decoded area n ls into new d c e m k = record { number = cc (k .is); line = cc (k .is); count = cc (k .is); words = cc (k .words) }
 
-pub words-long : (ls : List Line) → T (allLawful ls) → length (areaWords ls) ≡ 18 * length ls
-unfolding areaWords allLawful
+pub words-long : (ls : List Line) → T (allValid ls) → length (areaWords ls) ≡ 18 * length ls
+unfolding areaWords allValid
 words-long [] h = refl
 words-long (l ∷ ls) h =
-    let s = slot-long l (values-long l (and-l (lawful l) (allLawful ls) h)) in
-    omega (arith, length-append (lineSlot l) (areaWords ls), words-long ls (and-r (lawful l) (allLawful ls) h))
+    let s = slot-long l (values-long l (and-l (valid l) (allValid ls) h)) in
+    omega (arith, length-append (lineSlot l) (areaWords ls), words-long ls (and-r (valid l) (allValid ls) h))
 
 -- ---- scores
 
@@ -168,23 +168,23 @@ score-written-back s area words out new d w hs dec z done room =
     let b = score-bytes-written s hs (a .0) in
     let k = decodes (scoreOf (bitsOf s)) ls area words d (a .0) refl (a .1) dec in
     let c : d .count ≡ length ls = cc (k .is) in
-    let f = held-from ls words (drop (length (areaWords ls)) area) 0 (b .lawful-lines) (k .words) in
+    let f = held-from ls words (drop (length (areaWords ls)) area) 0 (b .valid-lines) (k .words) in
     can-write words (length ls) out new w s (subst (λ (j : ℕ). ScoreDone words j out new w) c done) (f .0) (b .count) (ap scoreBytes (f .1) ∙ b .bytes-are) room
 
 -- ---- units
 
-record WroteUnit (l : Line) (out new : List ℕ) (w : Written) : Type 0 where
+record WroteUnit (l : Line) (out new : List ℕ) (w : WriteResult) : Type 0 where
   fault : numberOf (lineFault l) ≡ 0
   bytes : take (w .bytes) new ≡ unitBytes l
 
-wrote-unit : (l : Line) (out new : List ℕ) (w : Written) → UnitDone l out new w → numberOf (w .answer) ≡ 0 → WroteUnit l out new w
+wrote-unit : (l : Line) (out new : List ℕ) (w : WriteResult) → UnitDone l out new w → numberOf (w .answer) ≡ 0 → WroteUnit l out new w
 unfolding unitWritten unitLeft
 wrote-unit l out new w d z =
     cases (isTaken (lineFault l))
     (λ e. record { fault = eqb-true (numberOf (lineFault l)) 0 e; bytes = told-zero (unitBytes l) out new w (cc (d .answers)) (cc (d .leaves)) z })
     (λ e. never (w .answer) z (cc (d .answers ∙ cond-false _ _ e)))
 
-meant-unit : (l : Line) → lineBits (meant l) ≡ lineBits l → unitBytes (meant l) ≡ unitBytes l
+meant-unit : (l : Line) → lineBits (normalized l) ≡ lineBits l → unitBytes (normalized l) ≡ unitBytes l
 unfolding unitBytes unitBits
 meant-unit l e = ap (λ (b : List Bool). bytesOf (filledUp (field 2 0 ++ b))) e
 
@@ -192,17 +192,17 @@ pub unit-read-back : UnitReadBack
 unfolding lineRead
 unit-read-back l out bytes w h done z =
     let k = wrote-unit l out bytes w done z in
-    let m = every-meant l h (k .fault) in
-    took (ap (λ (x : List ℕ). unitOf (bitsOf x)) (k .bytes ∙ sym (meant-unit l (m .same-bits))) ∙ unit-whole (meant l) (m .is-lawful) ∙ ap (λ (b : List Bool). taken (meant l) (2 + length b)) (m .same-bits))
+    let m = every-normalized l h (k .fault) in
+    took (ap (λ (x : List ℕ). unitOf (bitsOf x)) (k .bytes ∙ sym (meant-unit l (m .same-bits))) ∙ unit-whole (normalized l) (m .is-valid) ∙ ap (λ (b : List Bool). taken (normalized l) (2 + length b)) (m .same-bits))
 
--- a lawful line has no fault
-lawful-fault : (l : Line) → T (lawful l) → lineFault l ≡ answer.Taken
+-- a valid line has no fault
+valid-fault : (l : Line) → T (valid l) → lineFault l ≡ answer.Taken
 unfolding lineFault
-lawful-fault l h = ap (λ (x : LineRead). x .answer) (words-read-back l h)
+valid-fault l h = ap (λ (x : LineRead). x .answer) (words-read-back l h)
 
-can-unit : (l : Line) (out new : List ℕ) (w : Written) (s : List ℕ) → T (lawful l) → UnitDone l out new w → unitBytes l ≡ s → length s ≤ length out → BytesBack s out new w
+can-unit : (l : Line) (out new : List ℕ) (w : WriteResult) (s : List ℕ) → T (valid l) → UnitDone l out new w → unitBytes l ≡ s → length s ≤ length out → BytesBack s out new w
 unfolding unitWritten unitLeft
-can-unit l out new w s h d e room = let a = lawful-fault l h in bytes-back s out new w room (cc (d .answers)) (cc (d .leaves))
+can-unit l out new w s h d e room = let a = valid-fault l h in bytes-back s out new w room (cc (d .answers)) (cc (d .leaves))
 
 pub unit-written-back : UnitWrittenBack
 unit-written-back s out new w hs z done room =
@@ -210,7 +210,7 @@ unit-written-back s out new w hs z done room =
     can-unit (unitOf (bitsOf s) .line) out new w s (b .0) done (b .1) room
 
 -- a slot that was written
-slot-unit : (area out new : List ℕ) (w : Written) → SlotDone area out new w → numberOf (w .answer) ≡ 0 → (isTaken (slotRead area 0 .answer) ≡ true) × UnitDone (slotRead area 0 .line) out new w
+slot-unit : (area out new : List ℕ) (w : WriteResult) → SlotDone area out new w → numberOf (w .answer) ≡ 0 → (isTaken (slotRead area 0 .answer) ≡ true) × UnitDone (slotRead area 0 .line) out new w
 unfolding slotWritten slotLeft
 slot-unit area out new w d z =
     cases (isTaken (slotRead area 0 .answer)) (λ e. (e, record { answers = cc (d .answers); leaves = cc (d .leaves) }))
@@ -243,21 +243,21 @@ slot-written-back s area words out new d w hs dec z done room =
 
 -- ---- the answers for any lines
 
-map-count : (ls : List Line) → length (map meant ls) ≡ length ls
+map-count : (ls : List Line) → length (map normalized ls) ≡ length ls
 map-count [] = refl
 map-count (l ∷ ls) = ap suc (map-count ls)
 
-meant-bits : (ls : List Line) (i : ℕ) → T (allStored ls) → isTaken (linesFault ls i .answer) ≡ true → linesBits (map meant ls) ≡ linesBits ls
+meant-bits : (ls : List Line) (i : ℕ) → T (allStored ls) → isTaken (linesFault ls i .answer) ≡ true → linesBits (map normalized ls) ≡ linesBits ls
 unfolding linesBits linesFault
 meant-bits [] i h e = refl
 meant-bits (l ∷ ls) i h e =
     cases (isTaken (lineFault l))
     (λ f.
-    let m = every-meant l (and-l (stored l) (allStored ls) h) (eqb-true (numberOf (lineFault l)) 0 f) in
+    let m = every-normalized l (and-l (stored l) (allStored ls) h) (eqb-true (numberOf (lineFault l)) 0 f) in
     cc (m .same-bits, meant-bits ls (suc i) (and-r (stored l) (allStored ls) h) (cc)))
     (λ f. absurd (true≢false (cc)))
 
-meant-bytes : (ls : List Line) → T (allStored ls) → isTaken (linesFault ls 0 .answer) ≡ true → scoreBytes (map meant ls) ≡ scoreBytes ls
+meant-bytes : (ls : List Line) → T (allStored ls) → isTaken (linesFault ls 0 .answer) ≡ true → scoreBytes (map normalized ls) ≡ scoreBytes ls
 unfolding scoreBytes scoreBits
 meant-bytes ls h e = ap₂ (λ (n : ℕ) (b : List Bool). bytesOf (filledUp (field 20 n ++ b))) (map-count ls) (meant-bits ls 0 h e)
 
@@ -295,5 +295,5 @@ lines-written ls rest out new w h done =
     record {
       answers = a;
       leaves = cases (isTaken (linesFault ls 0 .answer)) (λ e. cc (done .leaves, k .0, k .1 e, meant-bytes ls h e)) (λ e. cc (done .leaves, k .0));
-      number = subst (λ (x : Written). WriterNumber (numberOf (x .answer))) (sym a) (writer-number ls (length out) h);
+      number = subst (λ (x : WriteResult). WriterNumber (numberOf (x .answer))) (sym a) (writer-number ls (length out) h);
     }

@@ -9,23 +9,23 @@ use lib.Dec.{leb}
 use lib.ListN.{length, getD, drop, replicate, length-append}
 use mir.Val.{Fits}
 use mir.Syntax.{w8}
-use Rattle.answer.specs.Numbers.{isTaken}
-use Rattle.answer.specs.declared.Answer.{Answer}
-use Rattle.answer.specs.declared.Answer.the-variants.{Taken, OutOfRange, NoRoom}
-use Rattle.bitstream.specs.Bits.{bitsOf, field}
-use Rattle.bitstream.specs.Fields.{over}
-use Rattle.bitstream.specs.inside.Fields.{written}
-use Rattle.bitstream.specs.Filling.{missing, filledUp, bytesOf}
-use Rattle.bitstream.proofs.BitValues.{length-field, length-bitsOf}
+use Rattle.base_answer.specs.Numbers.{isTaken}
+use Rattle.base_answer.specs.declared.Answer.{Answer}
+use Rattle.base_answer.specs.declared.Answer.the-variants.{Taken, OutOfRange, NoRoom}
+use Rattle.base_bitstream.specs.Bits.{bitsOf, field}
+use Rattle.base_bitstream.specs.Fields.{over}
+use Rattle.base_bitstream.specs.inside.Fields.{written}
+use Rattle.base_bitstream.specs.Filling.{missing, filledUp, bytesOf}
+use Rattle.base_bitstream.proofs.BitValues.{length-field, length-bitsOf}
 use Rattle.score_line.specs.declared.Line.{Line}
 use Rattle.score_line.specs.declared.LineRead.{LineRead}
-use Rattle.line_writer.specs.Writing.{lineBits, lineFault, LineWritten}
-use Rattle.score.specs.declared.ScoreRead.{ScoreRead}
+use Rattle.score_line_writer.specs.Writing.{lineBits, lineFault, LineWritten}
+use Rattle.score_reader.specs.declared.ScoreRead.{ScoreRead}
 use Rattle.score_writer.specs.Writing.{linesBits, scoreBits, scoreBytes, unitBits, unitBytes, mostLines}
 use Rattle.score_writer.specs.Slots.{slotRead, areaFault, areaLines}
 use Rattle.score_writer.specs.Written.{refusal, scoreWritten, scoreLeft, unitWritten, unitLeft, slotWritten, slotLeft, ScoreDone, UnitDone, SlotDone}
 use Rattle.score_writer.specs.inside.Laid.{Laid, RoomAt, Short}
-use Rattle.score_writer.specs.declared.Written.{Written}
+use Rattle.score_writer.specs.declared.WriteResult.{WriteResult}
 use Rattle.score_writer.proofs.Area.{lines-count}
 use Rattle.score_writer.proofs.Lays.{line-laid, end-room, whole-laid, length-bytes, laid-bytes}
 
@@ -76,7 +76,7 @@ module _ (s : List ℕ) (w v : ℕ) (body : List Bool) (m : ℕ) (short : m ≡ 
 -- ---- a unit
 
 module _ (l : Line) (s : List ℕ) {a : Answer} {b : Bool} (e : a ≡ lineFault l) (f : b ≡ isTaken a) where
-  pub unit-refused : {x : Written} → b ≡ false → x ≡ refusal a 0 → UnitDone l s s x
+  pub unit-refused : {x : WriteResult} → b ≡ false → x ≡ refusal a 0 → UnitDone l s s x
   unfolding unitWritten unitLeft
   unit-refused g y = record { answers = cc; leaves = cc }
 
@@ -84,7 +84,7 @@ module _ (l : Line) (s : List ℕ) {a : Answer} {b : Bool} (e : a ≡ lineFault 
     size : (m + 9) / 8 ≡ (2 + length (lineBits l) + 7) / 8
     size = ap (λ (k : ℕ). k / 8) (omega (arith, short .is))
 
-    pub unit-short : {x : Written} → length s < (m + 9) / 8 → x ≡ refusal NoRoom 0 → UnitDone l s s x
+    pub unit-short : {x : WriteResult} → length s < (m + 9) / 8 → x ≡ refusal NoRoom 0 → UnitDone l s s x
     unfolding unitWritten unitLeft unitBytes unitBits
     unit-short h y = let k = no-room s 2 0 (lineBits l) ((m + 9) / 8) size h in record { answers = cc; leaves = cc }
 
@@ -97,23 +97,23 @@ module _ (l : Line) (s : List ℕ) {a : Answer} {b : Bool} (e : a ≡ lineFault 
 -- ---- a slot
 
 module _ (area s : List ℕ) {r : LineRead} {b : Bool} (e : r ≡ slotRead area 0) (f : b ≡ isTaken (r .answer)) where
-  pub slot-refused : {x : Written} → b ≡ false → x ≡ refusal (r .answer) 0 → SlotDone area s s x
+  pub slot-refused : {x : WriteResult} → b ≡ false → x ≡ refusal (r .answer) 0 → SlotDone area s s x
   unfolding slotWritten slotLeft
   slot-refused g y = record { answers = cc; leaves = cc }
 
-  pub slot-unit : (t : List ℕ) {x : Written} → b ≡ true → UnitDone (r .line) s t x → SlotDone area s t x
+  pub slot-unit : (t : List ℕ) {x : WriteResult} → b ≡ true → UnitDone (r .line) s t x → SlotDone area s t x
   unfolding slotWritten slotLeft
   slot-unit t g u = record { answers = cc (u .answers); leaves = cc (u .leaves) }
 
 -- ---- a score
 
 module _ (area : List ℕ) (n : ℕ) (s : List ℕ) {r : ScoreRead} {b : Bool} (e : r ≡ areaFault area n 0) (f : b ≡ isTaken (r .answer)) where
-  pub score-refused : {x : Written} → b ≡ false → x ≡ refusal (r .answer) (r .line) → ScoreDone area n s s x
+  pub score-refused : {x : WriteResult} → b ≡ false → x ≡ refusal (r .answer) (r .line) → ScoreDone area n s s x
   unfolding scoreWritten scoreLeft
   score-refused g y = record { answers = cc; leaves = cc }
 
   module _ (g : b ≡ true) where
-    pub score-many : {x : Written} → 1048575 < n → x ≡ refusal OutOfRange 0 → ScoreDone area n s s x
+    pub score-many : {x : WriteResult} → 1048575 < n → x ≡ refusal OutOfRange 0 → ScoreDone area n s s x
     unfolding scoreWritten scoreLeft
     score-many h y = let k = lt-leb n mostLines h in record { answers = cc; leaves = cc }
 
@@ -127,7 +127,7 @@ module _ (area : List ℕ) (n : ℕ) (s : List ℕ) {r : ScoreRead} {b : Bool} (
       score-size : (m + 27) / 8 ≡ (20 + length body + 7) / 8
       score-size = ap (λ (k : ℕ). k / 8) (omega (arith, short .is))
 
-      pub score-short : {x : Written} → length s < (m + 27) / 8 → x ≡ refusal NoRoom 0 → ScoreDone area n s s x
+      pub score-short : {x : WriteResult} → length s < (m + 27) / 8 → x ≡ refusal NoRoom 0 → ScoreDone area n s s x
       unfolding scoreWritten scoreLeft scoreBytes scoreBits
       score-short h y =
           let k = le-leb n mostLines few in

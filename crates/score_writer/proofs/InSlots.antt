@@ -12,25 +12,25 @@ use lib.ListN.{length, getD, take, drop, replicate, length-append, length-replic
 use lib.Seq.{take-at, drop-at, drop-drop, getD-drop, length-take-le, take-add}
 use lib.Ieee.{binary32, fits}
 use lib.Ieee.Fits.{and-l, and-r, and-i}
-use Rattle.laws.proofs.Choice.{cond-true, cond-false, both-true}
-use Rattle.answer.specs.Numbers.{numberOf, isTaken}
-use Rattle.answer.specs.declared.Answer.{Answer}
-use Rattle.answer.specs.declared.Answer.the-variants as answer
-use Rattle.bitstream.proofs.Window.{below-take}
-use Rattle.formats.specs.Format.{all}
-use Rattle.score_line.specs.LineFormat.{lawful}
+use Rattle.base_laws.proofs.Choice.{cond-true, cond-false, both-true}
+use Rattle.base_answer.specs.Numbers.{numberOf, isTaken}
+use Rattle.base_answer.specs.declared.Answer.{Answer}
+use Rattle.base_answer.specs.declared.Answer.the-variants as answer
+use Rattle.base_bitstream.proofs.Window.{below-take}
+use Rattle.base_formats.specs.Format.{all}
+use Rattle.score_line.specs.LineFormat.{valid}
 use Rattle.score_line.specs.Reading.{lineInWords, refusedLine, wholeRun, keypadLine}
 use Rattle.score_line.specs.declared.Line.{Line}
 use Rattle.score_line.specs.declared.LineRead.{LineRead}
-use Rattle.line_writer.specs.Writing.{lineFields, lineWords, toEighteen, lineFault, lineSlot}
-use Rattle.line_writer.specs.Claims.{taken, asRead}
-use Rattle.line_writer.specs.Stored.{storedWhen, storedEvent, stored, meant}
-use Rattle.formats.proofs.InWords.{length-words}
-use Rattle.line_writer.proofs.Proved.{values-long, line-few, words-here, words-back-here, words-read-back, words-written-back}
-use Rattle.line_writer.proofs.AnyLine.{every-line-read}
-use Rattle.score_area.specs.Area.{areaWords}
-use Rattle.score_area.proofs.Slots.{taken-is}
-use Rattle.score_writer.specs.Bytes.{allLawful}
+use Rattle.score_line_writer.specs.Writing.{lineFields, lineWords, toEighteen, lineFault, lineSlot}
+use Rattle.score_line_writer.specs.Claims.{taken, asRead}
+use Rattle.score_line_writer.specs.Stored.{storedWhen, storedEvent, stored, normalized}
+use Rattle.base_formats.proofs.InWords.{length-words}
+use Rattle.score_line_writer.proofs.Proved.{values-long, line-few, words-here, words-back-here, words-read-back, words-written-back}
+use Rattle.score_line_writer.proofs.AnyLine.{every-line-read}
+use Rattle.score_decoder.specs.Area.{areaWords}
+use Rattle.score_decoder.proofs.Slots.{taken-is}
+use Rattle.score_writer.specs.Bytes.{allValid}
 use Rattle.score_writer.specs.Slots.{allZero, slotLine, slotRead, areaFault, areaLines}
 use Rattle.score_writer.specs.Claims.{SlotsAsKeypad, KeypadAsSlot, allStored, linesFault}
 
@@ -80,11 +80,11 @@ zeros-behind : (ws : List ℕ) (n : ℕ) (l : Line) → lineInWords (ws ++ repli
 unfolding slotLine
 zeros-behind ws n l r = cc (drop-at ws (replicate n 0) (length ws) refl, zeros-all n)
 
-slot-here : (l : Line) (n : ℕ) → T (lawful l) → slotLine (lineWords l ++ replicate n 0) ≡ taken l (length (lineWords l))
+slot-here : (l : Line) (n : ℕ) → T (valid l) → slotLine (lineWords l ++ replicate n 0) ≡ taken l (length (lineWords l))
 slot-here l n h = zeros-behind (lineWords l) n l (words-here (lineWords l ++ replicate n 0) 0 l (replicate n 0) h refl ∙ ap (taken l) (zero-add (length (lineWords l))))
 
--- a lawful line's slot is read as that line
-slot-read : (l : Line) → T (lawful l) → slotLine (lineSlot l) ≡ taken l (length (lineWords l))
+-- a valid line's slot is read as that line
+slot-read : (l : Line) → T (valid l) → slotLine (lineSlot l) ≡ taken l (length (lineWords l))
 slot-read l h = ap slotLine (slot-split l) ∙ slot-here l (18 - length (lineWords l)) h
 
 -- any line's slot as the line is meant, or with its fault
@@ -94,7 +94,7 @@ slot-any l h =
     let n = 18 - length (lineWords l) in
     let r = every-line-read l h .in-words (replicate n 0) in
     ap slotLine (slot-split l)
-    ∙ cases (isTaken (lineFault l)) (λ e. zeros-behind (lineWords l) n (meant l) (r ∙ cond-true _ _ e) ∙ sym (cond-true _ _ e)) (λ e. let s = r ∙ cond-false _ _ e in cc)
+    ∙ cases (isTaken (lineFault l)) (λ e. zeros-behind (lineWords l) n (normalized l) (r ∙ cond-true _ _ e) ∙ sym (cond-true _ _ e)) (λ e. let s = r ∙ cond-false _ _ e in cc)
 
 -- a slot that was taken: a line, then zeros
 pub record SlotBack (slot : List ℕ) : Type 0 where
@@ -109,9 +109,9 @@ slot-back slot e =
     (λ f. cases (allZero (drop (lineInWords slot 0 .next) slot)) (λ g. record { first = f; zeros = g; is = cc }) (λ g. absurd (true≢false (cc))))
     (λ f. absurd (true≢false (cc)))
 
--- its line, which is lawful, and the numbers before the zeros
+-- its line, which is valid, and the numbers before the zeros
 record Numbers (slot : List ℕ) : Type 0 where
-  is-lawful : T (lawful (slotLine slot .line))
+  is-valid : T (valid (slotLine slot .line))
   past : slotLine slot .next ≡ length (lineWords (slotLine slot .line))
   words : slot ≡ lineWords (slotLine slot .line) ++ drop (slotLine slot .next) slot
   zeros : allZero (drop (slotLine slot .next) slot) ≡ true
@@ -122,7 +122,7 @@ slot-numbers slot h e =
     let r = lineInWords slot 0 in
     let k = words-back-here slot 0 (r .line) (r .next) h (as-taken r (taken-is (r .answer) (b .first))) in
     record {
-      is-lawful = subst (λ (x : LineRead). T (lawful (x .line))) (sym (b .is)) (k .0);
+      is-valid = subst (λ (x : LineRead). T (valid (x .line))) (sym (b .is)) (k .0);
       past = cc (zero-add (length (lineWords (r .line))));
       words = cc;
       zeros = cc;
@@ -130,12 +130,12 @@ slot-numbers slot h e =
 
 -- a slot of 18 words that was taken is the slot of its line
 slot-whole : (slot : List ℕ) → length slot ≡ 18 → ((i : ℕ) → getD slot i 0 < 2 ^ 32) → isTaken (slotLine slot .answer) ≡ true
-    → T (lawful (slotLine slot .line)) × (lineSlot (slotLine slot .line) ≡ slot)
+    → T (valid (slotLine slot .line)) × (lineSlot (slotLine slot .line) ≡ slot)
 slot-whole slot n h e =
     let k = slot-numbers slot h e in
     let w = lineWords (slotLine slot .line) in
     let d = drop (slotLine slot .next) slot in
-    (k .is-lawful, cc (slot-split (slotLine slot .line), k .words, all-zeros d (k .zeros), length-drop (slotLine slot .next) slot, k .past))
+    (k .is-valid, cc (slot-split (slotLine slot .line), k .words, all-zeros d (k .zeros), length-drop (slotLine slot .next) slot, k .past))
 
 -- ---- as the keypad reads
 
@@ -147,7 +147,7 @@ slots-as-keypad slot h = record { taken = yes; refused = no }
         let k = slot-numbers slot h (zero-taken (slotLine slot .answer) e) in
         let w = lineWords (slotLine slot .line) in
         let t = take-at w (drop (slotLine slot .next) slot) (slotLine slot .next) (sym (k .past)) in
-        (cc (k .words, k .past, words-read-back (slotLine slot .line) (k .is-lawful), as-taken (slotLine slot) (zero-is (slotLine slot .answer) e)), k .zeros)
+        (cc (k .words, k .past, words-read-back (slotLine slot .line) (k .is-valid), as-taken (slotLine slot) (zero-is (slotLine slot .answer) e)), k .zeros)
 
     past : allZero (drop (lineInWords slot 0 .next) slot) ≡ false → lineInWords slot 0 .next ≡ length slot → ⊥
     past z e = let n : length slot ≤ lineInWords slot 0 .next = omega arith in true≢false (cc (drop-of-length-le slot n))
@@ -178,26 +178,26 @@ drop-slot area slot more i n e =
     let k : 18 * i + 18 ≡ 18 * suc i = omega arith in
     cc (drop-drop 18 (18 * i) area, drop-at slot more 18 n)
 
--- lawful lines in an area, whatever lies behind them, are read from it
-pub held-from : (ls : List Line) (area rest : List ℕ) (i : ℕ) → T (allLawful ls) → drop (18 * i) area ≡ areaWords ls ++ rest
+-- valid lines in an area, whatever lies behind them, are read from it
+pub held-from : (ls : List Line) (area rest : List ℕ) (i : ℕ) → T (allValid ls) → drop (18 * i) area ≡ areaWords ls ++ rest
     → (areaFault area (length ls) i .answer ≡ answer.Taken) × (areaLines area (length ls) i ≡ ls)
-unfolding allLawful areaWords areaFault areaLines
+unfolding allValid areaWords areaFault areaLines
 held-from [] area rest i h d = (refl, refl)
 held-from (l ∷ ls) area rest i h d =
-    let hl = and-l (lawful l) (allLawful ls) h in
+    let hl = and-l (valid l) (allValid ls) h in
     let e = d ∙ append-assoc (lineSlot l) (areaWords ls) rest in
     let n = slot-long l (values-long l hl) in
     let r = slot-there area (lineSlot l) (areaWords ls ++ rest) i n e ∙ slot-read l hl in
-    let k = held-from ls area rest (suc i) (and-r (lawful l) (allLawful ls) h) (drop-slot area (lineSlot l) (areaWords ls ++ rest) i n e) in
+    let k = held-from ls area rest (suc i) (and-r (valid l) (allValid ls) h) (drop-slot area (lineSlot l) (areaWords ls ++ rest) i n e) in
     (cc (k .0), cc (k .1))
 
--- the first slot of an area that begins with a lawful line's
-pub first-slot : (l : Line) (area rest : List ℕ) → T (lawful l) → area ≡ lineSlot l ++ rest → slotRead area 0 ≡ taken l (length (lineWords l))
+-- the first slot of an area that begins with a valid line's
+pub first-slot : (l : Line) (area rest : List ℕ) → T (valid l) → area ≡ lineSlot l ++ rest → slotRead area 0 ≡ taken l (length (lineWords l))
 first-slot l area rest h e = slot-there area (lineSlot l) rest 0 (slot-long l (values-long l h)) e ∙ slot-read l h
 
 -- any lines: the first fault of the area is that of the lines, and where there is none they are read as they are meant
 pub stored-from : (ls : List Line) (area rest : List ℕ) (i : ℕ) → T (allStored ls) → drop (18 * i) area ≡ areaWords ls ++ rest
-    → (areaFault area (length ls) i ≡ linesFault ls i) × (isTaken (linesFault ls i .answer) ≡ true → areaLines area (length ls) i ≡ map meant ls)
+    → (areaFault area (length ls) i ≡ linesFault ls i) × (isTaken (linesFault ls i .answer) ≡ true → areaLines area (length ls) i ≡ map normalized ls)
 unfolding areaWords areaFault areaLines linesFault refusedLine
 stored-from [] area rest i h d = (refl, λ e. refl)
 stored-from (l ∷ ls) area rest i h d =
@@ -207,7 +207,7 @@ stored-from (l ∷ ls) area rest i h d =
     let r = slot-there area (lineSlot l) (areaWords ls ++ rest) i n e ∙ slot-any l hl in
     let k = stored-from ls area rest (suc i) (and-r (stored l) (allStored ls) h) (drop-slot area (lineSlot l) (areaWords ls ++ rest) i n e) in
     cases (isTaken (lineFault l))
-    (λ f. let s : slotRead area i ≡ taken (meant l)
+    (λ f. let s : slotRead area i ≡ taken (normalized l)
     (length (lineWords l)) = r ∙ cond-true _ _ f in (cc (k .0), λ t. let g : isTaken (linesFault ls (suc i) .answer) ≡ true = cc in cc (k .1 g)))
     (λ f. let s : slotRead area i .answer ≡ lineFault l = ap (λ (x : LineRead). x .answer) (r ∙ cond-false _ _ f) in (cc, λ t. absurd (true≢false (cc))))
 
@@ -223,20 +223,20 @@ pub fault-back : (area : List ℕ) (n i : ℕ) → areaFault area (suc n) i .ans
 unfolding areaFault
 fault-back area n i e = cases (isTaken (slotRead area i .answer)) (λ f. (f, cc)) (λ f. absurd (true≢false (cc)))
 
--- the lines of such slots are lawful, and the slots are theirs
+-- the lines of such slots are valid, and the slots are theirs
 pub slot-of : (area : List ℕ) (i : ℕ) → ((j : ℕ) → getD area j 0 < 2 ^ 32) → isTaken (slotRead area i .answer) ≡ true
-    → T (lawful (slotRead area i .line)) × (lineSlot (slotRead area i .line) ≡ take 18 (drop (18 * i) area))
+    → T (valid (slotRead area i .line)) × (lineSlot (slotRead area i .line) ≡ take 18 (drop (18 * i) area))
 slot-of area i h e =
     let w = slot-inside area i e in
     let slot = take 18 (drop (18 * i) area) in
     let m : length slot ≡ 18 = length-take-le 18 (drop (18 * i) area) (omega (arith, length-drop (18 * i) area, w .0)) in
     let s = slot-whole slot m (below-take (2 ^ 32) 18 (drop (18 * i) area) (omega arith) (λ j. rw (getD-drop (18 * i) area j 0) (h (18 * i + j))))
     (sym (ap (λ (x : LineRead). isTaken (x .answer)) (w .1)) ∙ e) in
-    subst (λ (x : LineRead). T (lawful (x .line)) × (lineSlot (x .line) ≡ slot)) (sym (w .1)) s
+    subst (λ (x : LineRead). T (valid (x .line)) × (lineSlot (x .line) ≡ slot)) (sym (w .1)) s
 
 pub slots-back : (area : List ℕ) (n i : ℕ) → ((j : ℕ) → getD area j 0 < 2 ^ 32) → areaFault area n i .answer ≡ answer.Taken
-    → T (allLawful (areaLines area n i)) × (areaWords (areaLines area n i) ≡ take (18 * n) (drop (18 * i) area))
-unfolding areaLines allLawful areaWords
+    → T (allValid (areaLines area n i)) × (areaWords (areaLines area n i) ≡ take (18 * n) (drop (18 * i) area))
+unfolding areaLines allValid areaWords
 slots-back area zero i h e = (tt, refl)
 slots-back area (suc n) i h e =
     let f = fault-back area n i e in
@@ -245,4 +245,4 @@ slots-back area (suc n) i h e =
     let a : 18 * suc n ≡ 18 + 18 * n = omega arith in
     let c : 18 * i + 18 ≡ 18 * suc i = omega arith in
     let d = drop (18 * i) area in
-    (and-i (lawful (slotRead area i .line)) (allLawful (areaLines area n (suc i))) (s .0) (k .0), cc (s .1, k .1, take-add 18 (18 * n) d, drop-drop 18 (18 * i) area))
+    (and-i (valid (slotRead area i .line)) (allValid (areaLines area n (suc i))) (s .0) (k .0), cc (s .1, k .1, take-add 18 (18 * n) d, drop-drop 18 (18 * i) area))

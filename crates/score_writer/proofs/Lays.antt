@@ -8,17 +8,17 @@ use native.Mathlib.Omega.{arith}
 use borrow.Author.Tests.{le-leb}
 use lib.ListN.{length, getD, take, drop, replicate, length-append, length-replicate, take-append-drop}
 use lib.Seq.{take-at}
-use Rattle.bitstream.specs.Bits.{bitsOf, field, bit}
-use Rattle.bitstream.specs.Fields.{over, farthest}
-use Rattle.bitstream.specs.inside.Fields.{written}
-use Rattle.bitstream.specs.Filling.{missing, filledUp, bytesFrom, bytesOf}
-use Rattle.bitstream.proofs.BitValues.{length-bitsOf, length-field}
-use Rattle.bitstream.proofs.Fields.{over-over, written-over}
-use Rattle.bitstream.proofs.Filling.{length-filledUp, bytesOf-bitsOf}
-use Rattle.bitstream.proofs.Window.{bitsOf-take, bytes-after, below-take}
+use Rattle.base_bitstream.specs.Bits.{bitsOf, field, bit}
+use Rattle.base_bitstream.specs.Fields.{over, farthest}
+use Rattle.base_bitstream.specs.inside.Fields.{written}
+use Rattle.base_bitstream.specs.Filling.{missing, filledUp, bytesFrom, bytesOf}
+use Rattle.base_bitstream.proofs.BitValues.{length-bitsOf, length-field}
+use Rattle.base_bitstream.proofs.Fields.{over-over, written-over}
+use Rattle.base_bitstream.proofs.Filling.{length-filledUp, bytesOf-bitsOf}
+use Rattle.base_bitstream.proofs.Window.{bitsOf-take, bytes-after, below-take}
 use Rattle.score_line.specs.declared.Line.{Line}
 use Rattle.score_line.specs.declared.LineRead.{LineRead}
-use Rattle.line_writer.specs.Writing.{lineBits, bitsFit, lineOver, pastLine, LineWritten}
+use Rattle.score_line_writer.specs.Writing.{lineBits, bitsFit, lineOver, pastLine, LineWritten}
 use Rattle.score_writer.specs.Writing.{linesBits}
 use Rattle.score_writer.specs.Slots.{slotRead, areaLines}
 use Rattle.score_writer.specs.inside.Laid.{Laid, RoomAt}

@@ -6,39 +6,39 @@ use mathlib.Core.List.{List, [], _∷_}
 use lib.Dec.{T}
 use lib.Ieee.{binary32, ofBits}
 use lib.ListN.{length}
-use Rattle.answer.specs.declared.Answer.the-variants.{Taken}
-use Rattle.bitstream.specs.Bits.{bitsOf}
+use Rattle.base_answer.specs.declared.Answer.the-variants.{Taken}
+use Rattle.base_bitstream.specs.Bits.{bitsOf}
 use Rattle.score_line.specs.Reading.{lineOf}
 use Rattle.score_line.specs.declared.Line.{Line}
 use Rattle.score_line.specs.declared.When.the-variants.{Timed}
 use Rattle.score_line.specs.declared.Event.the-variants.{End}
-use Rattle.score_line.specs.LineFormat.{lawful}
-use Rattle.score.specs.Score.{taken, scoreOf, unitOf}
+use Rattle.score_line.specs.LineFormat.{valid}
+use Rattle.score_reader.specs.Score.{taken, scoreOf, unitOf}
 use Rattle.score_writer.specs.Writing.{scoreBytes, unitBytes, mostLines}
 use Rattle.score_writer.specs.Claims.{Bytes}
 
--- every line lawful
-unfoldable pub allLawful : List Line → Bool
-allLawful [] = true
-allLawful (l ∷ ls) = lawful l && allLawful ls
+-- every line valid
+unfoldable pub allValid : List Line → Bool
+allValid [] = true
+allValid (l ∷ ls) = valid l && allValid ls
 
--- every list of at most 1,048,575 lawful lines, written and read, is itself
+-- every list of at most 1,048,575 valid lines, written and read, is itself
 abbrev pub ScoreBytesRead : Type 0
-ScoreBytesRead = (ls : List Line) → T (allLawful ls) → length ls ≤ mostLines → scoreOf (bitsOf (scoreBytes ls)) ≡ taken ls
+ScoreBytesRead = (ls : List Line) → T (allValid ls) → length ls ≤ mostLines → scoreOf (bitsOf (scoreBytes ls)) ≡ taken ls
 
 -- an accepted score has such lines, and read and written again it is the same bytes
 pub record ScoreOfBytes (s : List ℕ) : Type 0 where
-  pub lawful-lines : T (allLawful (scoreOf (bitsOf s) .lines))
+  pub valid-lines : T (allValid (scoreOf (bitsOf s) .lines))
   pub count : length (scoreOf (bitsOf s) .lines) ≤ mostLines
   pub bytes-are : scoreBytes (scoreOf (bitsOf s) .lines) ≡ s
 
 abbrev pub ScoreBytesWritten : Type 0
 ScoreBytesWritten = (s : List ℕ) → Bytes s → scoreOf (bitsOf s) .answer ≡ Taken → ScoreOfBytes s
 
--- different lawful scores have different bytes
-abbrev pub ScoreBytesTell : Type 0
-ScoreBytesTell =
-    (ls ms : List Line) → T (allLawful ls) → T (allLawful ms) → length ls ≤ mostLines → length ms ≤ mostLines → scoreBytes ls ≡ scoreBytes ms → ls ≡ ms
+-- different valid scores have different bytes
+abbrev pub ScoreBytesInjective : Type 0
+ScoreBytesInjective =
+    (ls ms : List Line) → T (allValid ls) → T (allValid ms) → length ls ≤ mostLines → length ms ≤ mostLines → scoreBytes ls ≡ scoreBytes ms → ls ≡ ms
 
 -- ---- access units
 
@@ -47,13 +47,13 @@ pub record UnitRead (l : Line) : Type 0 where
   pub line : unitOf (bitsOf (unitBytes l)) .line ≡ l
 
 abbrev pub UnitBytesRead : Type 0
-UnitBytesRead = (l : Line) → T (lawful l) → UnitRead l
+UnitBytesRead = (l : Line) → T (valid l) → UnitRead l
 
 abbrev pub UnitBytesWritten : Type 0
-UnitBytesWritten = (s : List ℕ) → Bytes s → unitOf (bitsOf s) .answer ≡ Taken → T (lawful (unitOf (bitsOf s) .line)) × (unitBytes (unitOf (bitsOf s) .line) ≡ s)
+UnitBytesWritten = (s : List ℕ) → Bytes s → unitOf (bitsOf s) .answer ≡ Taken → T (valid (unitOf (bitsOf s) .line)) × (unitBytes (unitOf (bitsOf s) .line) ≡ s)
 
-abbrev pub UnitBytesTell : Type 0
-UnitBytesTell = (l m : Line) → T (lawful l) → T (lawful m) → unitBytes l ≡ unitBytes m → l ≡ m
+abbrev pub UnitBytesInjective : Type 0
+UnitBytesInjective = (l m : Line) → T (valid l) → T (valid m) → unitBytes l ≡ unitBytes m → l ≡ m
 
 -- ---- document 01's worked score: one line, end at beat 1, neither flag set
 

@@ -4,12 +4,12 @@ use mathlib.Core.Bool.{Bool, true, _&&_, cond}
 use mathlib.Core.List.{List, [], _∷_}
 use lib.Dec.{eqb, ltb}
 use lib.ListN.{length, take, drop}
-use Rattle.answer.specs.Numbers.{isTaken}
-use Rattle.answer.specs.declared.Answer.the-variants.{Taken, CutShort, LeftOver}
+use Rattle.base_answer.specs.Numbers.{isTaken}
+use Rattle.base_answer.specs.declared.Answer.the-variants.{Taken, CutShort, LeftOver}
 use Rattle.score_line.specs.Reading.{lineInWords, refusedLine}
 use Rattle.score_line.specs.declared.Line.{Line}
 use Rattle.score_line.specs.declared.LineRead.{LineRead}
-use Rattle.score.specs.declared.ScoreRead.{ScoreRead}
+use Rattle.score_reader.specs.declared.ScoreRead.{ScoreRead}
 
 abbrev pub allZero : List ℕ → Bool
 allZero [] = true

@@ -3,10 +3,10 @@ use Prim.Native.Nat.{ℕ}
 use mathlib.Core.Bool.{Bool}
 use mathlib.Core.List.{List, [], _∷_, _++_}
 use lib.ListN.{length}
-use Rattle.bitstream.specs.Bits.{field}
-use Rattle.bitstream.specs.Filling.{filledUp, bytesOf}
+use Rattle.base_bitstream.specs.Bits.{field}
+use Rattle.base_bitstream.specs.Filling.{filledUp, bytesOf}
 use Rattle.score_line.specs.declared.Line.{Line}
-use Rattle.line_writer.specs.Writing.{lineBits}
+use Rattle.score_line_writer.specs.Writing.{lineBits}
 
 -- lines without gap
 unfoldable pub linesBits : List Line → List Bool

@@ -1,16 +1,16 @@
 // Scores and access units written as bytes: from an area of words, a slot of 18 words to a line, and a unit from a line.
-use answer::Answer;
-use score::ScoreRead;
+use base_answer::Answer;
 use score_line::Line;
 use score_line::LineRead;
+use score_reader::ScoreRead;
 ghost use mathlib.Core.Path.{_≡_};
 ghost use Prim.Native.Nat.{_*_, _≤_};
 ghost use mathlib.Core.Bool.{false};
 ghost use lib.ListN.{length, drop, replicate};
-ghost use Rattle.bitstream.specs.Bits.{bitsOf};
-ghost use Rattle.bitstream.specs.Fields.{over};
-ghost use Rattle.bitstream.specs.Filling.{missing};
-ghost use Rattle.line_writer.specs.Writing.{lineBits};
+ghost use Rattle.base_bitstream.specs.Bits.{bitsOf};
+ghost use Rattle.base_bitstream.specs.Fields.{over};
+ghost use Rattle.base_bitstream.specs.Filling.{missing};
+ghost use Rattle.score_line_writer.specs.Writing.{lineBits};
 ghost use Rattle.score_writer.specs.Writing.{linesBits, scoreBits, unitBits, mostLines};
 ghost use Rattle.score_writer.specs.Slots.{allZero, slotLine, slotRead, areaFault, areaLines};
 ghost use Rattle.score_writer.specs.inside.Laid.{Laid, RoomAt, Short};
@@ -23,17 +23,17 @@ const SLOT: usize = 18;
 const MOST_LINES: usize = 1_048_575;
 
 // What writing gives: the answer, the number of the line that it is about, and how many bytes were written.
-pub struct Written {
+pub struct WriteResult {
     pub answer: Answer,
     pub line: usize,
     pub bytes: usize,
 }
 
 // A refusal: no byte was written.
-pub fn refused(answer: Answer, line: usize) -> Written
+pub fn refused(answer: Answer, line: usize) -> WriteResult
     ensures { λ r. ⌜ r ≡ record { answer = answer; line = line; bytes = 0 } ⌝ }
 {
-    Written {
+    WriteResult {
         answer: answer,
         line: line,
         bytes: 0,
@@ -59,9 +59,9 @@ fn zero_from(words: &[u32], at: usize) -> bool
 fn read_slot(slot: &[u32]) -> LineRead
     ensures { λ r. ⌜ r ≡ slotLine (now (slot .entry)) ⌝ }
 {
-    let read = line_reader::line_in_words(slot, 0);
+    let read = score_line_reader::line_in_words(slot, 0);
     let answer = read.answer;
-    if answer::is_taken(answer) {
+    if base_answer::is_taken(answer) {
         if zero_from(slot, read.next) {
             return read;
         }
@@ -90,7 +90,7 @@ pub fn first_fault(area: &[u32], n: usize) -> ScoreRead
     while i < n {
         let read = slot_at(area, i);
         let answer = read.answer;
-        if answer::is_taken(answer) {
+        if base_answer::is_taken(answer) {
             i += 1;
         } else {
             return ScoreRead {
@@ -108,7 +108,7 @@ pub fn first_fault(area: &[u32], n: usize) -> ScoreRead
 fn line_length(line: Line) -> usize
     ensures { λ r. ⌜ Short (length (lineBits line)) 367 r ⌝ }
 {
-    line_writer::bit_length(line)
+    score_line_writer::bit_length(line)
 }
 
 // The bits of the lines of the first n slots.
@@ -137,7 +137,7 @@ fn write_lines(area: &[u32], n: usize, out: &mut [u8], start: usize) -> usize
     while i < n {
         let read = slot_at(area, i);
         let line = read.line;
-        p = line_writer::write_line(out, p, line);
+        p = score_line_writer::write_line(out, p, line);
         i += 1;
     }
     p
@@ -148,14 +148,14 @@ fn fill_byte(out: &mut [u8], p: usize)
     requires { ⌜ RoomAt (8 * length (now out)) p 0 ⌝ }
     ensures { λ _. ⌜ bitsOf (now (out .exit)) ≡ over (bitsOf (now (out .entry))) p (replicate (missing p) false) ⌝ }
 {
-    bitstream::write(out, p, (8 - p % 8) % 8, 0);
+    base_bitstream::write(out, p, (8 - p % 8) % 8, 0);
 }
 
 fn put_score(area: &[u32], n: usize, out: &mut [u8])
     requires { ⌜ (n ≤ mostLines) × (RoomAt (8 * length (now out)) 20 (length (linesBits (areaLines (now area) n 0)))) ⌝ }
     ensures { λ _. ⌜ bitsOf (now (out .exit)) ≡ over (bitsOf (now (out .entry))) 0 (scoreBits (areaLines (now (area .entry)) n 0)) ⌝ }
 {
-    bitstream::write(out, 0, 20, n as u32);
+    base_bitstream::write(out, 0, 20, n as u32);
     let p = write_lines(area, n, out, 20);
     fill_byte(out, p);
 }
@@ -164,24 +164,24 @@ fn put_unit(line: Line, out: &mut [u8])
     requires { ⌜ RoomAt (8 * length (now out)) 2 (length (lineBits line)) ⌝ }
     ensures { λ _. ⌜ bitsOf (now (out .exit)) ≡ over (bitsOf (now (out .entry))) 0 (unitBits line) ⌝ }
 {
-    bitstream::write(out, 0, 2, 0);
-    let p = line_writer::write_line(out, 2, line);
+    base_bitstream::write(out, 0, 2, 0);
+    let p = score_line_writer::write_line(out, 2, line);
     fill_byte(out, p);
 }
 
 // Writes the score of the first n slots: the first faulty line, then 3 for too many lines, then 8.
 // On refusal no byte changes; bytes past what is written stay.
-pub fn write_score(area: &[u32], n: usize, out: &mut [u8]) -> Written
+pub fn write_score(area: &[u32], n: usize, out: &mut [u8]) -> WriteResult
     ensures { λ r. ⌜ ScoreDone (now (area .entry)) n (now (out .entry)) (now (out .exit)) r ⌝ }
 {
     let fault = first_fault(area, n);
     let answer = fault.answer;
-    if answer::is_taken(answer) {
+    if base_answer::is_taken(answer) {
         if n <= MOST_LINES {
             let bytes = (lines_length(area, n) + 27) / 8;
             if bytes <= out.len() {
                 put_score(area, n, out);
-                return Written {
+                return WriteResult {
                     answer: Answer::Taken,
                     line: 0,
                     bytes: bytes,
@@ -195,15 +195,15 @@ pub fn write_score(area: &[u32], n: usize, out: &mut [u8]) -> Written
 }
 
 // Writes the access unit of a line, by the same rules.
-pub fn write_unit(line: Line, out: &mut [u8]) -> Written
+pub fn write_unit(line: Line, out: &mut [u8]) -> WriteResult
     ensures { λ r. ⌜ UnitDone line (now (out .entry)) (now (out .exit)) r ⌝ }
 {
-    let answer = line_writer::line_fault(line);
-    if answer::is_taken(answer) {
+    let answer = score_line_writer::line_fault(line);
+    if base_answer::is_taken(answer) {
         let bytes = (line_length(line) + 9) / 8;
         if bytes <= out.len() {
             put_unit(line, out);
-            return Written {
+            return WriteResult {
                 answer: Answer::Taken,
                 line: 0,
                 bytes: bytes,
@@ -215,12 +215,12 @@ pub fn write_unit(line: Line, out: &mut [u8]) -> Written
 }
 
 // Writes the access unit of an area's first slot.
-pub fn write_slot(area: &[u32], out: &mut [u8]) -> Written
+pub fn write_slot(area: &[u32], out: &mut [u8]) -> WriteResult
     ensures { λ r. ⌜ SlotDone (now (area .entry)) (now (out .entry)) (now (out .exit)) r ⌝ }
 {
     let read = slot_at(area, 0);
     let answer = read.answer;
-    if answer::is_taken(answer) {
+    if base_answer::is_taken(answer) {
         let line = read.line;
         return write_unit(line, out);
     }

@@ -7,11 +7,11 @@ use native.Mathlib.Omega.{arith}
 use borrow.Author.Tests.{eq-eqb, ne-eqb}
 use lib.ListN.{length, getD, drop}
 use lib.Ieee.{Float}
-use Rattle.laws.proofs.Choice.{cond-true, cond-false}
-use Rattle.numerals.specs.inside.Reading.{Read, got, refused, startsWith, rest, numberFrom, nameFrom}
-use Rattle.number_reader.specs.Results.{Starts}
-use Rattle.number_reader.proofs.Bytes.{here, past, rest-drop}
-use Rattle.score_text.specs.inside.Reading.{pastSpaces, gapFrom, colonFrom, wordFrom, nextName, nextNumber}
+use Rattle.base_laws.proofs.Choice.{cond-true, cond-false}
+use Rattle.text_numerals.specs.inside.Reading.{Read, got, refused, startsWith, rest, numberFrom, nameFrom}
+use Rattle.text_number_reader.specs.Results.{Starts}
+use Rattle.text_number_reader.proofs.Bytes.{here, past, rest-drop}
+use Rattle.text_format.specs.inside.Reading.{pastSpaces, gapFrom, colonFrom, wordFrom, nextName, nextNumber}
 use Rattle.text_elements.specs.Passing.{passedIs}
 use Rattle.text_elements.specs.declared.Passed.{Passed}
 use Rattle.text_elements.specs.declared.Passed.the-variants as passed

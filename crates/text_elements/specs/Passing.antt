@@ -2,7 +2,7 @@
 use Prim.Native.Nat.{ℕ}
 use mathlib.Core.List.{List}
 use lib.ListN.{drop}
-use Rattle.numerals.specs.inside.Reading.{Read, got, refused}
+use Rattle.text_numerals.specs.inside.Reading.{Read, got, refused}
 use Rattle.text_elements.specs.declared.Passed.{Passed}
 use Rattle.text_elements.specs.declared.Passed.the-variants as passed
 

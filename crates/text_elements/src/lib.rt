@@ -1,10 +1,10 @@
 // The elements of a line of text, read at any position among bytes: spaces, the colon, words, names and numbers behind a gap.
-use number_reader::NameRead;
-use number_reader::NumberRead;
+use text_number_reader::NameRead;
+use text_number_reader::NumberRead;
 ghost use mathlib.Core.Path.{_≡_};
 ghost use lib.ListN.{drop};
-ghost use Rattle.score_text.specs.inside.Reading.{pastSpaces, gapFrom, colonFrom, wordFrom, nextName, nextNumber};
-ghost use Rattle.number_reader.specs.Results.{numberIs, nameIs};
+ghost use Rattle.text_format.specs.inside.Reading.{pastSpaces, gapFrom, colonFrom, wordFrom, nextName, nextNumber};
+ghost use Rattle.text_number_reader.specs.Results.{numberIs, nameIs};
 ghost use Rattle.text_elements.specs.Passing.{passedIs};
 
 const SPACE: u8 = 32;
@@ -34,7 +34,7 @@ fn past_spaces(s: &[u8], at: usize) -> usize
 pub fn gap_at(s: &[u8], at: usize) -> Passed
     ensures { λ r. ⌜ passedIs (now (s .entry)) r ≡ gapFrom (drop at (now (s .entry))) ⌝ }
 {
-    if number_reader::starts_with(s, at, SPACE) {
+    if text_number_reader::starts_with(s, at, SPACE) {
         return Passed::At(past_spaces(s, at));
     }
     Passed::Refused
@@ -45,7 +45,7 @@ pub fn colon_at(s: &[u8], at: usize) -> Passed
     ensures { λ r. ⌜ passedIs (now (s .entry)) r ≡ colonFrom (drop at (now (s .entry))) ⌝ }
 {
     let p = past_spaces(s, at);
-    if number_reader::starts_with(s, p, COLON) {
+    if text_number_reader::starts_with(s, p, COLON) {
         return Passed::At(past_spaces(s, p + 1));
     }
     Passed::Refused
@@ -57,7 +57,7 @@ pub fn word_at(s: &[u8], at: usize, word: &[u8]) -> Passed
     let mut p = at;
     let mut i: usize = 0;
     while i < word.len() {
-        if number_reader::starts_with(s, p, word[i]) {
+        if text_number_reader::starts_with(s, p, word[i]) {
             p += 1;
         } else {
             return Passed::Refused;
@@ -71,7 +71,7 @@ pub fn next_name(s: &[u8], at: usize) -> NameRead
     ensures { λ r. ⌜ nameIs (now (s .entry)) r ≡ nextName (drop at (now (s .entry))) ⌝ }
 {
     match gap_at(s, at) {
-        Passed::At(p) => number_reader::name_at(s, p),
+        Passed::At(p) => text_number_reader::name_at(s, p),
         Passed::Refused => NameRead::Refused,
     }
 }
@@ -80,7 +80,7 @@ pub fn next_number(s: &[u8], at: usize) -> NumberRead
     ensures { λ r. ⌜ numberIs (now (s .entry)) r ≡ nextNumber (drop at (now (s .entry))) ⌝ }
 {
     match gap_at(s, at) {
-        Passed::At(p) => number_reader::number_at(s, p),
+        Passed::At(p) => text_number_reader::number_at(s, p),
         Passed::Refused => NumberRead::Refused,
     }
 }

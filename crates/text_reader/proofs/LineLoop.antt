@@ -8,62 +8,62 @@ use native.Mathlib.Omega.{arith}
 use borrow.Author.Tests.{le-leb, lt-leb}
 use lib.ListN.{length, drop, length-drop}
 use lib.Seq.{drop-drop}
-use Rattle.laws.proofs.Choice.{cond-true, cond-false}
-use Rattle.answer.specs.Numbers.{isTaken}
-use Rattle.answer.specs.declared.Answer.{Answer}
-use Rattle.answer.specs.declared.Answer.the-variants.{Taken}
-use Rattle.numerals.specs.inside.Reading.{Read, got, refused}
-use Rattle.number_reader.proofs.Bytes.{here, past}
+use Rattle.base_laws.proofs.Choice.{cond-true, cond-false}
+use Rattle.base_answer.specs.Numbers.{isTaken}
+use Rattle.base_answer.specs.declared.Answer.{Answer}
+use Rattle.base_answer.specs.declared.Answer.the-variants.{Taken}
+use Rattle.text_numerals.specs.inside.Reading.{Read, got, refused}
+use Rattle.text_number_reader.proofs.Bytes.{here, past}
 use Rattle.score_line.specs.Reading.{answerOf, lineRead, refusedLine}
 use Rattle.score_line.specs.declared.Line.{Line}
 use Rattle.score_line.specs.declared.LineRead.{LineRead}
-use Rattle.score.specs.Score.{Lines, all, faulty, before, lineThen}
-use Rattle.score.specs.declared.ScoreRead.{ScoreRead}
-use Rattle.score.proofs.Readers.{fault-not-taken}
-use Rattle.score_text.specs.Said.{Said, lineSaid, mostLines, judgedFrom, judgement}
-use Rattle.score_text.specs.inside.Reading.{lineFrom, Text, lines, bad, thenLines, unlessNone, linesFrom, judged, textOf}
-use Rattle.score_text.specs.inside.Reading as text
-use Rattle.text_event.specs.Results.{noLine, lineTold}
-use Rattle.text_event.specs.declared.TextLine.{TextLine}
-use Rattle.text_event.proofs.Leaves.{Leaves, line-leaves}
+use Rattle.score_reader.specs.Score.{Lines, all, faulty, before, lineThen}
+use Rattle.score_reader.specs.declared.ScoreRead.{ScoreRead}
+use Rattle.score_reader.proofs.Readers.{fault-not-taken}
+use Rattle.text_format.specs.Content.{Content, lineContent, mostLines, judgedFrom, judgement}
+use Rattle.text_format.specs.inside.Reading.{lineFrom, Text, lines, bad, thenLines, unlessNone, linesFrom, judged, textOf}
+use Rattle.text_format.specs.inside.Reading as text
+use Rattle.text_event_reader.specs.Results.{noLine, lineTold}
+use Rattle.text_event_reader.specs.declared.TextLineRead.{TextLineRead}
+use Rattle.text_event_reader.proofs.Leaves.{Leaves, line-leaves}
 use Rattle.text_reader.specs.Texts.{textTold, badAt, firstOf, countedTo, lineAt}
 use Rattle.text_reader.specs.declared.TextRead.{TextRead}
-use Rattle.formats.specs.Format as fields
+use Rattle.base_formats.specs.Format as fields
 
 -- ---- one line
 
 -- a line that stands at a position
-pub record Standing (s : List ℕ) (at : ℕ) (l : TextLine) : Type 0 where
-  pub said : Said
-  pub there : lineFrom (drop at s) ≡ got said (drop (l .next) s)
-  pub read : l .read ≡ lineRead (lineSaid said)
+pub record Standing (s : List ℕ) (at : ℕ) (l : TextLineRead) : Type 0 where
+  pub content : Content
+  pub there : lineFrom (drop at s) ≡ got content (drop (l .next) s)
+  pub read : l .read ≡ lineRead (lineContent content)
   pub fewer : length (drop (l .next) s) < length (drop at s)
 
-pub standing : (s : List ℕ) (at : ℕ) {l : TextLine} → l ≡ lineAt s at → l .stands ≡ true → Standing s at l
+pub standing : (s : List ℕ) (at : ℕ) {l : TextLineRead} → l ≡ lineAt s at → l .stands ≡ true → Standing s at l
 unfolding lineTold noLine
 standing s at {l} e y = go (lineFrom (drop at s)) refl (line-leaves (drop at s)) e
   where
-    go : (x : Read Said) → lineFrom (drop at s) ≡ x → Leaves 1 (drop at s) x → l ≡ lineTold s x → Standing s at l
+    go : (x : Read Content) → lineFrom (drop at s) ≡ x → Leaves 1 (drop at s) x → l ≡ lineTold s x → Standing s at l
     go (got sd r) f b e =
         let n = length-drop at s in
         let k : r ≡ drop (at + b .passed) s = b .is ∙ drop-drop (b .passed) at s in
         let m : length r ≡ length s - (at + b .passed) = ap length k ∙ length-drop (at + b .passed) s in
-        let p : l .next ≡ at + b .passed = ap (λ (w : TextLine). w .next) e ∙ omega (arith, b .within, b .some-of) in
+        let p : l .next ≡ at + b .passed = ap (λ (w : TextLineRead). w .next) e ∙ omega (arith, b .within, b .some-of) in
         let q : r ≡ drop (l .next) s = k ∙ ap (λ (j : ℕ). drop j s) (sym p) in
         record {
-          said = sd;
+          content = sd;
           there = f ∙ ap (got sd) q;
-          read = ap (λ (w : TextLine). w .read) e;
+          read = ap (λ (w : TextLineRead). w .read) e;
           fewer = omega (arith, b .within, b .some-of, ap length q);
         }
-    go refused f b e = absurd (true≢false (sym y ∙ ap (λ (w : TextLine). w .stands) e))
+    go refused f b e = absurd (true≢false (sym y ∙ ap (λ (w : TextLineRead). w .stands) e))
 
-pub no-standing : (s : List ℕ) (at : ℕ) {l : TextLine} → l ≡ lineAt s at → l .stands ≡ false → lineFrom (drop at s) ≡ refused
+pub no-standing : (s : List ℕ) (at : ℕ) {l : TextLineRead} → l ≡ lineAt s at → l .stands ≡ false → lineFrom (drop at s) ≡ refused
 unfolding lineTold noLine
 no-standing s at {l} e y = go (lineFrom (drop at s)) e
   where
-    go : (x : Read Said) → l ≡ lineTold s x → x ≡ refused
-    go (got sd r) e = absurd (true≢false (sym (ap (λ (w : TextLine). w .stands) e) ∙ y))
+    go : (x : Read Content) → l ≡ lineTold s x → x ≡ refused
+    go (got sd r) e = absurd (true≢false (sym (ap (λ (w : TextLineRead). w .stands) e) ∙ y))
     go refused e = refl
 
 -- ---- the lines from a position on
@@ -79,11 +79,11 @@ module _ (s : List ℕ) (n i at : ℕ) (h : at < length s) where
   module _ (k : i < mostLines) where
     pub lines-none : lineFrom (drop at s) ≡ refused → linesFrom (suc n) i (drop at s) ≡ bad i
     unfolding linesFrom
-    lines-none e = unless ∙ cond-false _ _ (lt-leb mostLines i k) ∙ ap (λ (x : Read Said). thenLines x i (λ r. linesFrom n (suc i) r)) e
+    lines-none e = unless ∙ cond-false _ _ (lt-leb mostLines i k) ∙ ap (λ (x : Read Content). thenLines x i (λ r. linesFrom n (suc i) r)) e
 
-    pub lines-more : (sd : Said) (r : List ℕ) → lineFrom (drop at s) ≡ got sd r → linesFrom (suc n) i (drop at s) ≡ text.before sd (linesFrom n (suc i) r)
+    pub lines-more : (sd : Content) (r : List ℕ) → lineFrom (drop at s) ≡ got sd r → linesFrom (suc n) i (drop at s) ≡ text.before sd (linesFrom n (suc i) r)
     unfolding linesFrom
-    lines-more sd r e = unless ∙ cond-false _ _ (lt-leb mostLines i k) ∙ ap (λ (x : Read Said). thenLines x i (λ r. linesFrom n (suc i) r)) e
+    lines-more sd r e = unless ∙ cond-false _ _ (lt-leb mostLines i k) ∙ ap (λ (x : Read Content). thenLines x i (λ r. linesFrom n (suc i) r)) e
 
 pub lines-end : (s : List ℕ) (n i at : ℕ) → length s ≤ at → linesFrom n i (drop at s) ≡ lines []
 unfolding linesFrom
@@ -117,7 +117,7 @@ after-before : (i : ℕ) (l : Line) (x : Lines) → after i (before l x) ≡ aft
 after-before i l (all ls p) = let n : i + suc (length ls) ≡ suc i + length ls = omega arith in ap (λ (j : ℕ). record { answer = Taken; line = 0; count = j }) n
 after-before i l (faulty f k) = refl
 
-final-more : (fault : ScoreRead) (i : ℕ) (sd : Said) (t : Text) → final fault i (text.before sd t) ≡ final (firstOf fault (lineRead (lineSaid sd) .answer) i) (suc i) t
+final-more : (fault : ScoreRead) (i : ℕ) (sd : Content) (t : Text) → final fault i (text.before sd t) ≡ final (firstOf fault (lineRead (lineContent sd) .answer) i) (suc i) t
 unfolding firstOf judgedFrom lineRead refusedLine
 final-more fault i sd (bad k) = refl
 final-more fault i sd (lines ss) = by-fault (isTaken (fault .answer)) refl
@@ -131,9 +131,9 @@ final-more fault i sd (lines ss) = by-fault (isTaken (fault .answer)) refl
     judged-so e (fields.refused f) = sym (ap (λ (b : Bool). final (cond b fault (record { answer = answerOf f; line = i })) (suc i) (lines ss)) (fault-not-taken f) ∙ cond-false _ _ (fault-not-taken f))
 
     by-fault : (b : Bool) → isTaken (fault .answer) ≡ b
-        → cond b (after i (lineThen (lineSaid sd) i (λ p. judgedFrom (suc i) ss))) kept
-        ≡ final (cond b (cond (isTaken (lineRead (lineSaid sd) .answer)) fault (record { answer = lineRead (lineSaid sd) .answer; line = i })) fault) (suc i) (lines ss)
-    by-fault true e = judged-so e (lineSaid sd)
+        → cond b (after i (lineThen (lineContent sd) i (λ p. judgedFrom (suc i) ss))) kept
+        ≡ final (cond b (cond (isTaken (lineRead (lineContent sd) .answer)) fault (record { answer = lineRead (lineContent sd) .answer; line = i })) fault) (suc i) (lines ss)
+    by-fault true e = judged-so e (lineContent sd)
     by-fault false e = sym (cond-false _ _ e)
 
 -- ---- the loop
@@ -159,7 +159,7 @@ module _ (s : List ℕ) where
       pub too-many : mostLines ≤ i → {r : TextRead} → r ≡ badAt i → r ≡ textTold (textOf s)
       too-many k e = e ∙ sym (ap (final fault i) (lines-many s (length s - (i + 1)) i at h k)) ∙ from-here
 
-      module _ (k : i < mostLines) {l : TextLine} (e : l ≡ lineAt s at) where
+      module _ (k : i < mostLines) {l : TextLineRead} (e : l ≡ lineAt s at) where
         pub stops : l .stands ≡ false → {r : TextRead} → r ≡ badAt i → r ≡ textTold (textOf s)
         stops y f = f ∙ sym (ap (final fault i) (lines-none s (length s - (i + 1)) i at h k (no-standing s at e y))) ∙ from-here
 
@@ -167,14 +167,14 @@ module _ (s : List ℕ) where
         again y {f} w =
             let t = standing s at e y in
             let n = length s - (i + 1) in
-            let f-is : f ≡ firstOf fault (lineRead (lineSaid (t .said)) .answer) i = w ∙ ap (λ (z : LineRead). firstOf fault (z .answer) i) (t .read) in
+            let f-is : f ≡ firstOf fault (lineRead (lineContent (t .content)) .answer) i = w ∙ ap (λ (z : LineRead). firstOf fault (z .answer) i) (t .read) in
             record {
               upto = omega arith;
               room = omega (arith, g .room, t .fewer);
               same =
                   ap₂ (λ (x : ScoreRead) (j : ℕ). final x j (linesFrom n j (drop (l .next) s))) f-is (add-one i)
-                  ∙ sym (final-more fault i (t .said) (linesFrom n (suc i) (drop (l .next) s)))
-                  ∙ sym (ap (final fault i) (lines-more s n i at h k (t .said) (drop (l .next) s) (t .there))) ∙ from-here;
+                  ∙ sym (final-more fault i (t .content) (linesFrom n (suc i) (drop (l .next) s)))
+                  ∙ sym (ap (final fault i) (lines-more s n i at h k (t .content) (drop (l .next) s) (t .there))) ∙ from-here;
             }
 
     pub ends : length s ≤ at → {r : TextRead} → r ≡ countedTo fault i → r ≡ textTold (textOf s)

@@ -4,16 +4,16 @@ use mathlib.Core.Path.{_≡_}
 use mathlib.Core.Bool.{cond}
 use mathlib.Core.List.{List, [], _∷_}
 use lib.ListN.{length, drop}
-use Rattle.answer.specs.Numbers.{isTaken}
-use Rattle.answer.specs.declared.Answer.{Answer}
-use Rattle.answer.specs.declared.Answer.the-variants.{Taken, BadText}
+use Rattle.base_answer.specs.Numbers.{isTaken}
+use Rattle.base_answer.specs.declared.Answer.{Answer}
+use Rattle.base_answer.specs.declared.Answer.the-variants.{Taken, BadText}
 use Rattle.score_line.specs.declared.Line.{Line}
-use Rattle.score.specs.Score.{Score, all}
-use Rattle.score.specs.declared.ScoreRead.{ScoreRead}
-use Rattle.score_text.specs.Said.{Said, judgedFrom}
-use Rattle.score_text.specs.inside.Reading.{lineFrom, lines, linesFrom}
-use Rattle.text_event.specs.Results.{lineTold}
-use Rattle.text_event.specs.declared.TextLine.{TextLine}
+use Rattle.score_reader.specs.Score.{Score, all}
+use Rattle.score_reader.specs.declared.ScoreRead.{ScoreRead}
+use Rattle.text_format.specs.Content.{Content, judgedFrom}
+use Rattle.text_format.specs.inside.Reading.{lineFrom, lines, linesFrom}
+use Rattle.text_event_reader.specs.Results.{lineTold}
+use Rattle.text_event_reader.specs.declared.TextLineRead.{TextLineRead}
 use Rattle.text_reader.specs.declared.TextRead.{TextRead}
 
 -- all but the lines, and their number
@@ -36,7 +36,7 @@ countedTo fault i = cond (isTaken (fault .answer)) (record { answer = Taken; lin
 -- ---- the second pass: line by line, each from the position past the line before
 
 -- the line at a position, and the position past it
-abbrev pub lineAt : List ℕ → ℕ → TextLine
+abbrev pub lineAt : List ℕ → ℕ → TextLineRead
 lineAt s at = lineTold s (lineFrom (drop at s))
 
 -- the lines that n steps pass
@@ -48,7 +48,7 @@ walked s (suc n) at = lineAt s at .read .line ∷ walked s n (lineAt s at .next)
 pub record Ahead (s : List ℕ) (at : ℕ) (ls : List Line) : Type 0 where
   pub bound : ℕ
   pub number : ℕ
-  pub said : List Said
+  pub content : List Content
   pub end : ℕ
-  pub there : linesFrom bound number (drop at s) ≡ lines said
-  pub are : judgedFrom number said ≡ all ls end
+  pub there : linesFrom bound number (drop at s) ≡ lines content
+  pub are : judgedFrom number content ≡ all ls end

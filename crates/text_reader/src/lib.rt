@@ -1,8 +1,8 @@
 // Whole texts: 18 for the first line that is none, or else the first fault of a line, in one pass that stores no line.
-use answer::Answer;
-use score::ScoreRead;
+use base_answer::Answer;
+use score_reader::ScoreRead;
 ghost use mathlib.Core.Path.{_≡_};
-ghost use Rattle.score_text.specs.inside.Reading.{textOf};
+ghost use Rattle.text_format.specs.inside.Reading.{textOf};
 ghost use Rattle.text_reader.specs.Texts.{textTold, badAt, firstOf, countedTo};
 
 // The most lines of a score.
@@ -30,8 +30,8 @@ fn first_of(fault: ScoreRead, answer: Answer, i: usize) -> ScoreRead
     ensures { λ r. ⌜ r ≡ firstOf fault answer i ⌝ }
 {
     let so_far = fault.answer;
-    if answer::is_taken(so_far) {
-        if answer::is_taken(answer) {
+    if base_answer::is_taken(so_far) {
+        if base_answer::is_taken(answer) {
             return fault;
         }
         return ScoreRead {
@@ -47,7 +47,7 @@ fn counted_to(fault: ScoreRead, i: usize) -> TextRead
     ensures { λ r. ⌜ r ≡ countedTo fault i ⌝ }
 {
     let answer = fault.answer;
-    if answer::is_taken(answer) {
+    if base_answer::is_taken(answer) {
         return TextRead {
             answer: Answer::Taken,
             line: 0,
@@ -61,7 +61,7 @@ fn counted_to(fault: ScoreRead, i: usize) -> TextRead
     }
 }
 
-// A whole text. Where it is taken, as many calls of `text_line::line_at` from position 0 on, each from the position past the
+// A whole text. Where it is taken, as many calls of `text_line_reader::line_at` from position 0 on, each from the position past the
 // line before, give its lines.
 pub fn read_text(s: &[u8]) -> TextRead
     ensures { λ r. ⌜ r ≡ textTold (textOf (now (s .entry))) ⌝ }
@@ -76,7 +76,7 @@ pub fn read_text(s: &[u8]) -> TextRead
         if MOST_LINES <= i {
             return bad_at(i);
         }
-        let l = text_line::line_at(s, at);
+        let l = text_line_reader::line_at(s, at);
         if l.stands {
             let read = l.read;
             let answer = read.answer;

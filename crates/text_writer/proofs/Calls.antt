@@ -10,62 +10,62 @@ use lib.Dec.{T, leb}
 use lib.ListN.{length, take, drop}
 use lib.Ieee.{binary32, fits}
 use lib.Ieee.Fits.{and-l, and-r, and-i}
-use Rattle.laws.proofs.Choice.{cond-true}
-use Rattle.answer.specs.Numbers.{numberOf, isTaken}
-use Rattle.answer.specs.declared.Answer.the-variants as answer
-use Rattle.numerals.specs.Numeral.{Numeral, wholeOf, meaning}
-use Rattle.formats.specs.Format.{all as allOf, Read, got, refused}
-use Rattle.formats.specs.declared.Fault.{Fault}
-use Rattle.formats.specs.declared.Fault.the-variants as fault
-use Rattle.score_line.specs.LineFormat.{lawful}
+use Rattle.base_laws.proofs.Choice.{cond-true}
+use Rattle.base_answer.specs.Numbers.{numberOf, isTaken}
+use Rattle.base_answer.specs.declared.Answer.the-variants as answer
+use Rattle.text_numerals.specs.Numeral.{Numeral, wholeOf, meaning}
+use Rattle.base_formats.specs.Format.{all as allOf, Read, got, refused}
+use Rattle.base_formats.specs.declared.Fault.{Fault}
+use Rattle.base_formats.specs.declared.Fault.the-variants as fault
+use Rattle.score_line.specs.LineFormat.{valid}
 use Rattle.score_line.specs.Reading.{answerOf}
 use Rattle.score_line.specs.declared.Line.{Line}
-use Rattle.line_writer.specs.Stored.{stored}
-use Rattle.score.specs.Score as score
-use Rattle.score.specs.Score.{Score, Lines, lineThen, taken}
-use Rattle.score_text.specs.Said.{Said, lineSaid, judgedFrom, judgement}
-use Rattle.score_text.specs.Form.{Behind, Form, instr, control, tempo, end, Written, textBytes, LawfulForm, LawfulLines, saidBy}
-use Rattle.score_text.specs.Form as form
-use Rattle.score_text.specs.inside.Reading.{textOf}
-use Rattle.score_text.specs.Claims.{Spells, Either, spells, breaks}
-use Rattle.score_text.proofs.Texts.{text-read, text-broken, every-text}
-use Rattle.score_area.specs.Area.{areaWords}
-use Rattle.score_area.specs.declared.Decoded.{Decoded}
+use Rattle.score_line_writer.specs.Stored.{stored}
+use Rattle.score_reader.specs.Score as score
+use Rattle.score_reader.specs.Score.{Score, Lines, lineThen, taken}
+use Rattle.text_format.specs.Content.{Content, lineContent, judgedFrom, judgement}
+use Rattle.text_format.specs.Form.{Behind, Form, instr, control, tempo, end, TextLine, textBytes, ValidForm, ValidLines, contentBy}
+use Rattle.text_format.specs.Form as form
+use Rattle.text_format.specs.inside.Reading.{textOf}
+use Rattle.text_format.specs.Claims.{Encodes, Either, encodes, breaks}
+use Rattle.text_format.proofs.Texts.{text-read, text-broken, every-text}
+use Rattle.score_decoder.specs.Area.{areaWords}
+use Rattle.score_decoder.specs.declared.Decoded.{Decoded}
 use Rattle.score_writer.specs.Writing.{scoreBytes, mostLines}
-use Rattle.score_writer.specs.Bytes.{allLawful}
+use Rattle.score_writer.specs.Bytes.{allValid}
 use Rattle.score_writer.specs.Slots.{areaFault, areaLines}
 use Rattle.score_writer.specs.Written.{refusal, told, left, scoreWritten}
 use Rattle.score_writer.specs.Claims.{allStored}
-use Rattle.score_writer.specs.declared.Written as call
+use Rattle.score_writer.specs.declared.WriteResult as call
 use Rattle.score_writer.proofs.Area.{lines-count}
 use Rattle.score_writer.proofs.InSlots.{zero-taken, zero-is, held-from, slots-back}
 use Rattle.score_writer.proofs.Calls.{told-zero, words-long, decodes, decoded-zero, slots-decoded}
-use Rattle.written_line.specs.LineText.{saidOf, eventNumbers, numbersOf, Says}
+use Rattle.text_line_writer.specs.LineText.{contentOf, eventNumbers, numbersOf, IsTextOf}
 use Rattle.text_writer.specs.Writing.{Text, all, lacking, before, textFrom, toldText, leftText, textWritten, textLeft, TextDone}
-use Rattle.text_writer.specs.Claims.{Told, AllSay, no-lines, one-more, TextIs, EveryTextTold, RoomNumber, written, too-short, TextNumber, room, no-text, LikeScore, TextLikeScore, TextReadBack, TextSlotsBack, NeverRefused18, ReadSaid, WrittenAgain, TextReadAgain}
+use Rattle.text_writer.specs.Claims.{Told, AllHaveText, no-lines, one-more, TextIs, EveryTextTold, RoomNumber, written, too-short, TextNumber, room, no-text, LikeScore, TextLikeScore, TextReadBack, TextSlotsBack, NeverRefused18, ReadHasText, WrittenAgain, TextReadAgain}
 use Rattle.text_writer.specs.Claims as claims
-use Rattle.written_line.proofs.Numbers.{float-fits}
-use Rattle.text_writer.proofs.Stored.{and-map, lawful-stored}
-use Rattle.text_writer.proofs.Back.{said-line, SmallNames, text-lawful}
-use Rattle.text_writer.proofs.Lines.{line-found, said-not, every-line-told}
-use Rattle.text_writer.proofs.Again.{said-back}
+use Rattle.text_line_writer.proofs.Numbers.{float-fits}
+use Rattle.text_writer.proofs.Stored.{and-map, valid-stored}
+use Rattle.text_writer.proofs.Back.{content-line, SmallNames, text-valid}
+use Rattle.text_writer.proofs.Lines.{line-found, content-not, every-line-told}
+use Rattle.text_writer.proofs.Again.{content-back}
 use Rattle.text_writer.proofs.Passing.{all-same}
 
 -- ---- lines and their texts
 
 -- lines behind i others: they all have a text, or the first that has none
 data ToldFrom (i : ℕ) (ls : List Line) : Text → Type 0 where
-  whole : (ws : List Written) → AllSay ls ws → ToldFrom i ls (all ws)
-  broken : (j k : ℕ) → i + j ≡ k → claims.FirstUnsaid ls j → ToldFrom i ls (lacking k)
+  whole : (ws : List TextLine) → AllHaveText ls ws → ToldFrom i ls (all ws)
+  broken : (j k : ℕ) → i + j ≡ k → claims.FirstWithoutText ls j → ToldFrom i ls (lacking k)
 
 told-from : (i : ℕ) (ls : List Line) → T (allStored ls) → ToldFrom i ls (textFrom i ls)
 unfolding textFrom
 told-from i [] h = whole [] no-lines
 told-from i (l ∷ ls) h = go (every-line-told l (and-l (stored l) (allStored ls) h)) (told-from (suc i) ls (and-r (stored l) (allStored ls) h))
   where
-    go : {o : Option Written} {t : Text} → Told l o → ToldFrom (suc i) ls t → ToldFrom i (l ∷ ls) (before o i t)
-    go (claims.said w s u n) (whole ws k) = whole (w ∷ ws) (one-more s k)
-    go (claims.said w s u n) (broken j k e f) =
+    go : {o : Option TextLine} {t : Text} → Told l o → ToldFrom (suc i) ls t → ToldFrom i (l ∷ ls) (before o i t)
+    go (claims.content w s u n) (whole ws k) = whole (w ∷ ws) (one-more s k)
+    go (claims.content w s u n) (broken j k e f) =
         broken (suc j) k (omega arith) (record {
           before = l ∷ f .before;
           texts = w ∷ f .texts;
@@ -73,10 +73,10 @@ told-from i (l ∷ ls) h = go (every-line-told l (and-l (stored l) (allStored ls
           after = f .after;
           are = ap (λ (x : List Line). l ∷ x) (f .are);
           number = ap suc (f .number);
-          said = one-more s (f .said);
+          content = one-more s (f .content);
           unsaid = f .unsaid;
         })
-    go (claims.unsaid u n) k = broken 0 i (omega arith) (record { before = []; texts = []; line = l; after = ls; are = refl; number = refl; said = no-lines; unsaid = u })
+    go (claims.unsaid u n) k = broken 0 i (omega arith) (record { before = []; texts = []; line = l; after = ls; are = refl; number = refl; content = no-lines; unsaid = u })
 
 pub every-text-told : EveryTextTold
 every-text-told ls h = go (told-from 0 ls h)
@@ -85,61 +85,61 @@ every-text-told ls h = go (told-from 0 ls h)
     go (whole ws k) = claims.whole ws k
     go (broken j k e f) = let g : j ≡ k = omega arith in rw g at (claims.broken j f)
 
-all-stored : (ls : List Line) → T (allLawful ls) → T (allStored ls)
-unfolding allLawful
+all-stored : (ls : List Line) → T (allValid ls) → T (allStored ls)
+unfolding allValid
 all-stored [] h = tt
-all-stored (l ∷ ls) h = and-map (lawful l) (allLawful ls) (stored l) (allStored ls) (lawful-stored l) (all-stored ls) h
+all-stored (l ∷ ls) h = and-map (valid l) (allValid ls) (stored l) (allStored ls) (valid-stored l) (all-stored ls) h
 
-text-says : (ls : List Line) (ws : List Written) → T (allLawful ls) → textFrom 0 ls ≡ all ws → AllSay ls ws
+text-says : (ls : List Line) (ws : List TextLine) → T (allValid ls) → textFrom 0 ls ≡ all ws → AllHaveText ls ws
 text-says ls ws h e = go (told-from 0 ls (all-stored ls h)) e
   where
-    go : {t : Text} → ToldFrom 0 ls t → t ≡ all ws → AllSay ls ws
-    go (whole vs k) f = subst (AllSay ls) (all-same f) k
+    go : {t : Text} → ToldFrom 0 ls t → t ≡ all ws → AllHaveText ls ws
+    go (whole vs k) f = subst (AllHaveText ls) (all-same f) k
     go (broken j i g k) f = absurd (let z : _≡_ {A = ℕ} 0 1 = cc in omega arith)
 
-says-text : (i : ℕ) {ls : List Line} {ws : List Written} → AllSay ls ws → textFrom i ls ≡ all ws
+says-text : (i : ℕ) {ls : List Line} {ws : List TextLine} → AllHaveText ls ws → textFrom i ls ≡ all ws
 unfolding textFrom
 says-text i no-lines = refl
 says-text i (one-more {l} {ls} {w} {ws} s k) = cc (line-found l w s, says-text (suc i) k)
 
--- lawful lines are read from their texts
-record Reads (i : ℕ) (ls : List Line) (ws : List Written) : Type 0 where
-  lawful-lines : LawfulLines ws
-  judged : judgedFrom i (map saidBy ws) ≡ score.all ls 0
+-- valid lines are read from their texts
+record Reads (i : ℕ) (ls : List Line) (ws : List TextLine) : Type 0 where
+  valid-lines : ValidLines ws
+  judged : judgedFrom i (map contentBy ws) ≡ score.all ls 0
   count : length ws ≡ length ls
 
-lines-read : (i : ℕ) {ls : List Line} {ws : List Written} → T (allLawful ls) → AllSay ls ws → Reads i ls ws
-unfolding allLawful LawfulLines judgedFrom
-lines-read i h no-lines = record { lawful-lines = tt; judged = refl; count = refl }
+lines-read : (i : ℕ) {ls : List Line} {ws : List TextLine} → T (allValid ls) → AllHaveText ls ws → Reads i ls ws
+unfolding allValid ValidLines judgedFrom
+lines-read i h no-lines = record { valid-lines = tt; judged = refl; count = refl }
 lines-read i h (one-more {l} {ls} {w} {ws} s k) =
-    let g = and-l (lawful l) (allLawful ls) h in
-    let r = lines-read (suc i) (and-r (lawful l) (allLawful ls) h) k in
+    let g = and-l (valid l) (allValid ls) h in
+    let r = lines-read (suc i) (and-r (valid l) (allValid ls) h) k in
     record {
-      lawful-lines = (text-lawful l w (lawful-stored l g) s, r .lawful-lines);
-      judged = ap (λ (x : Read Line). lineThen x i (λ p. judgedFrom (suc i) (map saidBy ws))) (said-line l (saidBy w) g (s .is-said)) ∙ ap (score.before l) (r .judged);
+      valid-lines = (text-valid l w (valid-stored l g) s, r .valid-lines);
+      judged = ap (λ (x : Read Line). lineThen x i (λ p. judgedFrom (suc i) (map contentBy ws))) (content-line l (contentBy w) g (s .is-content)) ∙ ap (score.before l) (r .judged);
       count = ap suc (r .count);
     }
 
-text-reads : (ls : List Line) (ws : List Written) → T (allLawful ls) → length ls ≤ mostLines → AllSay ls ws → textOf (textBytes ws) ≡ taken ls
+text-reads : (ls : List Line) (ws : List TextLine) → T (allValid ls) → length ls ≤ mostLines → AllHaveText ls ws → textOf (textBytes ws) ≡ taken ls
 text-reads ls ws h few k =
     let r = lines-read 0 h k in
-    text-read (textBytes ws) ws (record { spelled = refl; lawful = r .lawful-lines; few = omega (arith, r .count) }) ∙ ap judgement (r .judged)
+    text-read (textBytes ws) ws (record { encoded = refl; valid = r .valid-lines; few = omega (arith, r .count) }) ∙ ap judgement (r .judged)
 
 -- ---- a text that was written
 
-record WroteText (area : List ℕ) (n : ℕ) (new : List ℕ) (w : call.Written) : Type 0 where
+record WroteText (area : List ℕ) (n : ℕ) (new : List ℕ) (w : call.WriteResult) : Type 0 where
   fault : areaFault area n 0 .answer ≡ answer.Taken
   few : n ≤ mostLines
-  lines : List Written
+  lines : List TextLine
   are : textFrom 0 (areaLines area n 0) ≡ all lines
   bytes : take (w .bytes) new ≡ textBytes lines
 
-wrote-text : (area : List ℕ) (n : ℕ) (out new : List ℕ) (w : call.Written) → TextDone area n out new w → numberOf (w .answer) ≡ 0 → WroteText area n new w
+wrote-text : (area : List ℕ) (n : ℕ) (out new : List ℕ) (w : call.WriteResult) → TextDone area n out new w → numberOf (w .answer) ≡ 0 → WroteText area n new w
 unfolding textWritten textLeft
 wrote-text area n out new w d z = go (isTaken (areaFault area n 0 .answer)) (leb n mostLines) (textFrom 0 (areaLines area n 0)) refl refl refl (d .answers) (d .leaves)
   where
-    not-zero : {x : call.Written} → w ≡ x → (numberOf (x .answer) ≡ 0 → ⊥) → ⊥
-    not-zero e f = f (sym (ap (λ (r : call.Written). numberOf (r .answer)) e) ∙ z)
+    not-zero : {x : call.WriteResult} → w ≡ x → (numberOf (x .answer) ≡ 0 → ⊥) → ⊥
+    not-zero e f = f (sym (ap (λ (r : call.WriteResult). numberOf (r .answer)) e) ∙ z)
 
     go : (a b : Bool) (t : Text) → isTaken (areaFault area n 0 .answer) ≡ a → leb n mostLines ≡ b → textFrom 0 (areaLines area n 0) ≡ t
         → w ≡ cond a (cond b (toldText t (length out)) (refusal answer.OutOfRange 0)) (refusal (areaFault area n 0 .answer) (areaFault area n 0 .line))
@@ -162,8 +162,8 @@ pub text-like-score : TextLikeScore
 unfolding scoreWritten textWritten
 text-like-score area to bytes out new n v w s t = go (isTaken (areaFault area n 0 .answer)) (leb n mostLines) (textFrom 0 (areaLines area n 0)) (s .answers) (t .answers)
   where
-    same : {x : call.Written} → v ≡ x → w ≡ x → LikeScore v w
-    same e f = record { refuses = λ k. f ∙ sym e; otherwise = λ k. subst (λ (y : call.Written). TextNumber (numberOf (y .answer))) (e ∙ sym f) (room k) }
+    same : {x : call.WriteResult} → v ≡ x → w ≡ x → LikeScore v w
+    same e f = record { refuses = λ k. f ∙ sym e; otherwise = λ k. subst (λ (y : call.WriteResult). TextNumber (numberOf (y .answer))) (e ∙ sym f) (room k) }
 
     fits : (b : List ℕ) (r : ℕ) → RoomNumber (numberOf (told b r .answer))
     fits b r = by (leb (length b) r)
@@ -172,11 +172,11 @@ text-like-score area to bytes out new n v w s t = go (isTaken (areaFault area n 
         by true = written
         by false = too-short
 
-    later : (b : List ℕ) {x : call.Written} → v ≡ told b (length to) → w ≡ x → TextNumber (numberOf (x .answer)) → LikeScore v w
+    later : (b : List ℕ) {x : call.WriteResult} → v ≡ told b (length to) → w ≡ x → TextNumber (numberOf (x .answer)) → LikeScore v w
     later b e f k =
         record {
-          refuses = λ never. absurd (never (subst (λ (y : call.Written). RoomNumber (numberOf (y .answer))) (sym e) (fits b (length to))));
-          otherwise = λ z. subst (λ (y : call.Written). TextNumber (numberOf (y .answer))) (sym f) k;
+          refuses = λ never. absurd (never (subst (λ (y : call.WriteResult). RoomNumber (numberOf (y .answer))) (sym e) (fits b (length to))));
+          otherwise = λ z. subst (λ (y : call.WriteResult). TextNumber (numberOf (y .answer))) (sym f) k;
         }
 
     go : (a b : Bool) (x : Text)
@@ -224,7 +224,7 @@ values-fit (x ∷ xs) =
     and-i (fits binary32 (meaning (x .element))) (allOf (fits binary32) (map (λ (y : Behind Numeral). meaning (y .element)) xs)) (meaning-fits (x .element))
     (values-fit xs)
 
-event-fit : (f : Form) → T (allOf (fits binary32) (eventNumbers (form.eventSaid f)))
+event-fit : (f : Form) → T (allOf (fits binary32) (eventNumbers (form.eventContent f)))
 event-fit (instr l t n d vs) =
     and-i (fits binary32 (meaning (d .element))) (allOf (fits binary32) (map (λ (x : Behind Numeral). meaning (x .element)) vs)) (meaning-fits (d .element))
     (values-fit vs)
@@ -232,14 +232,14 @@ event-fit (control t l more n x) = and-i (fits binary32 (meaning (x .element))) 
 event-fit (tempo t more x) = and-i (fits binary32 (meaning (x .element))) true (meaning-fits (x .element)) tt
 event-fit (end t more) = tt
 
-said-fit : (w : Written) → T (allOf (fits binary32) (numbersOf (saidBy w)))
-unfolding saidBy
-said-fit w =
-    and-i (fits binary32 (meaning (form.timeSaid (w .form)))) (allOf (fits binary32) (eventNumbers (form.eventSaid (w .form)))) (meaning-fits (form.timeSaid (w .form)))
+content-fit : (w : TextLine) → T (allOf (fits binary32) (numbersOf (contentBy w)))
+unfolding contentBy
+content-fit w =
+    and-i (fits binary32 (meaning (form.timeContent (w .form)))) (allOf (fits binary32) (eventNumbers (form.eventContent (w .form)))) (meaning-fits (form.timeContent (w .form)))
     (event-fit (w .form))
 
-form-names : (f : Form) → LawfulForm f → SmallNames (form.eventSaid f)
-unfolding LawfulForm SmallNames
+form-names : (f : Form) → ValidForm f → SmallNames (form.eventContent f)
+unfolding ValidForm SmallNames
 form-names (instr none t n d vs) h = h .1 .1 .0
 form-names (instr (some l) t n d vs) h = (h .0, h .1 .1 .0)
 form-names (control t none more n x) h = h .1 .1 .0
@@ -247,47 +247,47 @@ form-names (control t (some l) more n x) h = (h .1 .0, h .1 .1 .0)
 form-names (tempo t more x) h = tt
 form-names (end t more) h = tt
 
--- a line that was read from text is lawful and has a text
+-- a line that was read from text is valid and has a text
 abbrev HasText : Line → Type 0
-HasText l = T (lawful l) × ((w : Written) × Says l w)
+HasText l = T (valid l) × ((w : TextLine) × IsTextOf l w)
 
-line-has : (w : Written) (l : Line) (q : ℕ) → LawfulForm (w .form) → lineSaid (saidBy w) ≡ got l q → HasText l
-unfolding saidBy
+line-has : (w : TextLine) (l : Line) (q : ℕ) → ValidForm (w .form) → lineContent (contentBy w) ≡ got l q → HasText l
+unfolding contentBy
 line-has w l q h e =
-    let b = said-back (saidBy w) l q (said-fit w) (form-names (w .form) h) e in
-    go (b .0) (b .1) (every-line-told l (lawful-stored l (b .0)))
+    let b = content-back (contentBy w) l q (content-fit w) (form-names (w .form) h) e in
+    go (b .0) (b .1) (every-line-told l (valid-stored l (b .0)))
   where
-    go : T (lawful l) → saidOf l ≡ some (saidBy w) → {o : Option Written} → Told l o → HasText l
-    go a s (claims.said v k u n) = (a, (v, k))
-    go a s (claims.unsaid u n) = absurd (said-not l w h s u)
+    go : T (valid l) → contentOf l ≡ some (contentBy w) → {o : Option TextLine} → Told l o → HasText l
+    go a s (claims.content v k u n) = (a, (v, k))
+    go a s (claims.unsaid u n) = absurd (content-not l w h s u)
 
-judged-back : {P : Type 0} (i : ℕ) (s : Said) (ss : List Said) (ls : List Line) (p : ℕ) → judgedFrom i (s ∷ ss) ≡ score.all ls p
-    → ((l : Line) (q : ℕ) (ms : List Line) (r : ℕ) → lineSaid s ≡ got l q → judgedFrom (suc i) ss ≡ score.all ms r → ls ≡ l ∷ ms → P) → P
+judged-back : {P : Type 0} (i : ℕ) (s : Content) (ss : List Content) (ls : List Line) (p : ℕ) → judgedFrom i (s ∷ ss) ≡ score.all ls p
+    → ((l : Line) (q : ℕ) (ms : List Line) (r : ℕ) → lineContent s ≡ got l q → judgedFrom (suc i) ss ≡ score.all ms r → ls ≡ l ∷ ms → P) → P
 unfolding judgedFrom
-judged-back {P} i s ss ls p e then = go (lineSaid s) refl (judgedFrom (suc i) ss) refl e
+judged-back {P} i s ss ls p e then = go (lineContent s) refl (judgedFrom (suc i) ss) refl e
   where
-    go : (x : Read Line) → lineSaid s ≡ x → (y : Lines) → judgedFrom (suc i) ss ≡ y → lineThen x i (λ q. y) ≡ score.all ls p → P
+    go : (x : Read Line) → lineContent s ≡ x → (y : Lines) → judgedFrom (suc i) ss ≡ y → lineThen x i (λ q. y) ≡ score.all ls p → P
     go (got l q) f (score.all ms r) g k = then l q ms r f g (cc)
     go (got l q) f (score.faulty z j) g k = absurd (let n : _≡_ {A = ℕ} 0 1 = cc in omega arith)
     go (refused z) f y g k = absurd (let n : _≡_ {A = ℕ} 0 1 = cc in omega arith)
 
 record AllHave (ls : List Line) (n : ℕ) : Type 0 where
-  are-lawful : T (allLawful ls)
-  texts : List Written
-  said : AllSay ls texts
+  are-valid : T (allValid ls)
+  texts : List TextLine
+  content : AllHaveText ls texts
   count : length ls ≡ n
 
-lines-have : (i : ℕ) (ws : List Written) (ls : List Line) (p : ℕ) → LawfulLines ws → judgedFrom i (map saidBy ws) ≡ score.all ls p → AllHave ls (length ws)
-unfolding LawfulLines allLawful
-lines-have i [] ls p h e = let z : ls ≡ [] = unfold judgedFrom in cc in rw z (record { are-lawful = tt; texts = []; said = no-lines; count = refl })
+lines-have : (i : ℕ) (ws : List TextLine) (ls : List Line) (p : ℕ) → ValidLines ws → judgedFrom i (map contentBy ws) ≡ score.all ls p → AllHave ls (length ws)
+unfolding ValidLines allValid
+lines-have i [] ls p h e = let z : ls ≡ [] = unfold judgedFrom in cc in rw z (record { are-valid = tt; texts = []; content = no-lines; count = refl })
 lines-have i (w ∷ ws) ls p h e =
-    judged-back i (saidBy w) (map saidBy ws) ls p e (λ l q ms r f g k.
+    judged-back i (contentBy w) (map contentBy ws) ls p e (λ l q ms r f g k.
     let a = line-has w l q (h .0) f in
     let b = lines-have (suc i) ws ms r (h .1) g in
     rw k (record {
-      are-lawful = and-i (lawful l) (allLawful ms) (a .0) (b .are-lawful);
+      are-valid = and-i (valid l) (allValid ms) (a .0) (b .are-valid);
       texts = a .1 .0 ∷ b .texts;
-      said = one-more (a .1 .1) (b .said);
+      content = one-more (a .1 .1) (b .content);
       count = ap suc (b .count);
     }))
 
@@ -308,27 +308,27 @@ record TextTaken (s : List ℕ) : Type 0 where
 text-taken : (s : List ℕ) → textOf s .answer ≡ answer.Taken → TextTaken s
 text-taken s e = go (every-text s)
   where
-    by-lines : (ws : List Written) (x : Lines) → judgedFrom 0 (map saidBy ws) ≡ x → Spells s ws → textOf s ≡ judgement x → TextTaken s
+    by-lines : (ws : List TextLine) (x : Lines) → judgedFrom 0 (map contentBy ws) ≡ x → Encodes s ws → textOf s ≡ judgement x → TextTaken s
     by-lines ws (score.all ls p) f k g =
-        let h = lines-have 0 ws ls p (k .lawful) f in
-        record { lines = ls; is = g; few = omega (arith, h .count, k .few); have = record { are-lawful = h .are-lawful; texts = h .texts; said = h .said; count = refl } }
+        let h = lines-have 0 ws ls p (k .valid) f in
+        record { lines = ls; is = g; few = omega (arith, h .count, k .few); have = record { are-valid = h .are-valid; texts = h .texts; content = h .content; count = refl } }
     by-lines ws (score.faulty z i) f k g = absurd (no-fault z (sym (ap (λ (x : Score). x .answer) g) ∙ e))
 
     go : Either s → TextTaken s
-    go (spells ws k) = by-lines ws (judgedFrom 0 (map saidBy ws)) refl k (text-read s ws k)
+    go (encodes ws k) = by-lines ws (judgedFrom 0 (map contentBy ws)) refl k (text-read s ws k)
     go (breaks i b) =
         absurd (let z : answer.Taken ≡ answer.BadText = sym e ∙ ap (λ (x : Score). x .answer) (text-broken s i b) in let n : _≡_ {A = ℕ} 0 1 = cc in omega arith)
 
-pub read-said : ReadSaid
-read-said s z =
+pub read-has-text : ReadHasText
+read-has-text s z =
     let t = text-taken s (zero-is (textOf s .answer) z) in
-    (t .have .texts, subst (λ (ls : List Line). AllSay ls (t .have .texts)) (sym (ap (λ (x : Score). x .lines) (t .is))) (t .have .said))
+    (t .have .texts, subst (λ (ls : List Line). AllHaveText ls (t .have .texts)) (sym (ap (λ (x : Score). x .lines) (t .is))) (t .have .content))
 
 -- where every line has a text, only the room can lack
-abbrev Tells : List ℕ → List ℕ → call.Written → List ℕ → Type 0
+abbrev Tells : List ℕ → List ℕ → call.WriteResult → List ℕ → Type 0
 Tells out new w bytes = (w ≡ told bytes (length out)) × (new ≡ left bytes out)
 
-told-text : (area : List ℕ) (n : ℕ) (out new : List ℕ) (w : call.Written) (ws : List Written) → areaFault area n 0 .answer ≡ answer.Taken → n ≤ mostLines
+told-text : (area : List ℕ) (n : ℕ) (out new : List ℕ) (w : call.WriteResult) (ws : List TextLine) → areaFault area n 0 .answer ≡ answer.Taken → n ≤ mostLines
     → textFrom 0 (areaLines area n 0) ≡ all ws → TextDone area n out new w → Tells out new w (textBytes ws)
 unfolding textWritten textLeft
 told-text area n out new w ws f few e d =
@@ -339,7 +339,7 @@ told-text area n out new w ws f few e d =
           (λ (t : Text). leftText t out) e,
     )
 
-written-again : (s out new : List ℕ) (w : call.Written) (ws : List Written) → textOf (textBytes ws) ≡ textOf s → Tells out new w (textBytes ws) → WrittenAgain s new w
+written-again : (s out new : List ℕ) (w : call.WriteResult) (ws : List TextLine) → textOf (textBytes ws) ≡ textOf s → Tells out new w (textBytes ws) → WrittenAgain s new w
 written-again s out new w ws e t =
     record { number = go (leb (length (textBytes ws)) (length out)) refl; again = λ z. ap textOf (told-zero (textBytes ws) out new w (t .0) (t .1) z) ∙ e }
   where
@@ -354,8 +354,8 @@ text-read-again s area words out new d w dec z done =
     let ls = t .lines in
     let fit : 18 * length ls ≤ length area = subst (λ (x : List Line). 18 * length x ≤ length area) (ap (λ (x : Score). x .lines) (t .is)) (a .1) in
     let k = decodes (textOf s) ls area words d (a .0) (ap (λ (x : Score). x .lines) (t .is)) fit dec in
-    let f = held-from ls words (drop (length (areaWords ls)) area) 0 (t .have .are-lawful) (k .words) in
+    let f = held-from ls words (drop (length (areaWords ls)) area) 0 (t .have .are-valid) (k .words) in
     let ws = t .have .texts in
-    written-again s out new w ws (text-reads ls ws (t .have .are-lawful) (t .few) (t .have .said) ∙ sym (t .is))
-    (told-text words (length ls) out new w ws (f .0) (t .few) (ap (textFrom 0) (f .1) ∙ says-text 0 (t .have .said))
+    written-again s out new w ws (text-reads ls ws (t .have .are-valid) (t .few) (t .have .content) ∙ sym (t .is))
+    (told-text words (length ls) out new w ws (f .0) (t .few) (ap (textFrom 0) (f .1) ∙ says-text 0 (t .have .content))
     (subst (λ (n : ℕ). TextDone words n out new w) (ap (λ (x : Decoded). x .count) (k .is)) done))

@@ -10,19 +10,19 @@ use native.Mathlib.Omega.{arith}
 use borrow.Author.Tests.{le-leb}
 use lib.ListN.{length, getD, set, take, drop, length-append, length-drop}
 use lib.Seq.{paste, paste-zero, paste-suc, length-paste, take-at, drop-at, drop-drop}
-use Rattle.number_writer.specs.Push.{lineRoom, emptyText, pushAll, contentOf}
-use Rattle.number_writer.specs.declared.LineText.{LineText}
-use Rattle.number_writer.proofs.Pushing.{push-appends}
+use Rattle.text_number_writer.specs.Push.{lineRoom, emptyText, pushAll, contentOf}
+use Rattle.text_number_writer.specs.declared.LineText.{LineText}
+use Rattle.text_number_writer.proofs.Pushing.{push-appends}
 use Rattle.score_line.specs.declared.Line.{Line}
 use Rattle.score_line.specs.declared.LineRead.{LineRead}
-use Rattle.score_text.specs.Form as form
-use Rattle.score_text.specs.Form.{lineBytes, textBytes}
+use Rattle.text_format.specs.Form as form
+use Rattle.text_format.specs.Form.{lineBytes, textBytes}
 use Rattle.score_writer.specs.Slots.{slotRead, areaLines}
-use Rattle.written_line.specs.inside.LineText.{lineText}
-use Rattle.written_line.specs.inside.Drafts.{Holds}
+use Rattle.text_line_writer.specs.inside.LineText.{lineText}
+use Rattle.text_line_writer.specs.inside.Drafts.{Holds}
 use Rattle.text_writer.specs.Writing.{Text, all, lacking, before, textFrom, leftText}
 use Rattle.text_writer.specs.inside.Passes.{measuredPast, Measurable, Layable, Fits, Put}
-use Rattle.written_line.specs.declared.Draft.{Draft}
+use Rattle.text_line_writer.specs.declared.Draft.{Draft}
 
 -- ---- a draft and its line
 
@@ -38,21 +38,21 @@ whole t bytes e h =
     record { content = cc; len = cc (zero-add (length bytes)); room = cc }
 
 record There (l : Line) (d : Draft) : Type 0 where
-  written : form.Written
+  written : form.TextLine
   found : lineText l ≡ some written
   text : d .text ≡ pushAll emptyText (lineBytes written)
 
 there : (l : Line) (d : Draft) → Holds d (Option·map lineBytes (lineText l)) → d .there ≡ true → There l d
 there l d h e = go (lineText l) refl h
   where
-    go : (o : Option form.Written) → lineText l ≡ o → Holds d (Option·map lineBytes o) → There l d
+    go : (o : Option form.TextLine) → lineText l ≡ o → Holds d (Option·map lineBytes o) → There l d
     go none f k = absurd (true≢false (sym e ∙ k))
     go (some w) f k = record { written = w; found = f; text = k .1 }
 
 lacks : (l : Line) (d : Draft) → Holds d (Option·map lineBytes (lineText l)) → d .there ≡ false → lineText l ≡ none
 lacks l d h e = go (lineText l) refl h
   where
-    go : (o : Option form.Written) → lineText l ≡ o → Holds d (Option·map lineBytes o) → lineText l ≡ none
+    go : (o : Option form.TextLine) → lineText l ≡ o → Holds d (Option·map lineBytes o) → lineText l ≡ none
     go none f k = f
     go (some w) f k = absurd (true≢false (sym (k .0) ∙ e))
 
@@ -79,7 +79,7 @@ text-start area n = let k : n - 0 ≡ n = omega arith in ap (λ (j : ℕ). textF
 
 -- ---- measuring
 
-one-more : (total i : ℕ) (w : form.Written) (t : Text) → measuredPast (total + length (lineBytes w)) t ≡ measuredPast total (before (some w) i t)
+one-more : (total i : ℕ) (w : form.TextLine) (t : Text) → measuredPast (total + length (lineBytes w)) t ≡ measuredPast total (before (some w) i t)
 unfolding textBytes
 one-more total i w (all ws) = cc (add-assoc total (length (lineBytes w)) (length (textBytes ws)), length-append (lineBytes w) (textBytes ws))
 one-more total i w (lacking j) = refl
@@ -155,27 +155,27 @@ module _ (old : List ℕ) (at : ℕ) (t : LineText) where
 
 -- ---- the lines put one behind the other
 
-bytes-append : (us vs : List form.Written) → textBytes (us ++ vs) ≡ textBytes us ++ textBytes vs
+bytes-append : (us vs : List form.TextLine) → textBytes (us ++ vs) ≡ textBytes us ++ textBytes vs
 unfolding textBytes
 bytes-append [] vs = refl
 bytes-append (u ∷ us) vs = ap (λ (b : List ℕ). lineBytes u ++ b) (bytes-append us vs) ∙ sym (append-assoc (lineBytes u) (textBytes us) (textBytes vs))
 
-bytes-snoc : (us : List form.Written) (w : form.Written) → textBytes (us ++ (w ∷ [])) ≡ textBytes us ++ lineBytes w
+bytes-snoc : (us : List form.TextLine) (w : form.TextLine) → textBytes (us ++ (w ∷ [])) ≡ textBytes us ++ lineBytes w
 unfolding textBytes
 bytes-snoc us w = bytes-append us (w ∷ []) ∙ ap (λ (b : List ℕ). textBytes us ++ b) (append-nil (lineBytes w))
 
-pub all-same : {us vs : List form.Written} → all us ≡ all vs → us ≡ vs
+pub all-same : {us vs : List form.TextLine} → all us ≡ all vs → us ≡ vs
 all-same e = cc
 
 -- a text is whole only where its first line has one
-record First (o : Option form.Written) (t : Text) (ws : List form.Written) : Type 0 where
-  one : form.Written
-  others : List form.Written
+record First (o : Option form.TextLine) (t : Text) (ws : List form.TextLine) : Type 0 where
+  one : form.TextLine
+  others : List form.TextLine
   found : o ≡ some one
   rest : t ≡ all others
   are : ws ≡ one ∷ others
 
-first-of : (o : Option form.Written) (i : ℕ) (t : Text) (ws : List form.Written) → before o i t ≡ all ws → First o t ws
+first-of : (o : Option form.TextLine) (i : ℕ) (t : Text) (ws : List form.TextLine) → before o i t ≡ all ws → First o t ws
 first-of none i t ws e = absurd (let z : _≡_ {A = ℕ} 0 1 = cc in omega arith)
 first-of (some w) i (all vs) ws e = record { one = w; others = vs; found = refl; rest = refl; are = sym (all-same e) }
 first-of (some w) i (lacking j) ws e = absurd (let z : _≡_ {A = ℕ} 0 1 = cc in omega arith)
@@ -183,8 +183,8 @@ first-of (some w) i (lacking j) ws e = absurd (let z : _≡_ {A = ℕ} 0 1 = cc 
 module _ (area : List ℕ) (n : ℕ) (first : List ℕ) where
   pub record Laying (s : List ℕ) (p i : ℕ) : Type 0 where
     pub upto : i ≤ n
-    pub done : List form.Written
-    pub rest : List form.Written
+    pub done : List form.TextLine
+    pub rest : List form.TextLine
     pub are : textFrom 0 (areaLines area n 0) ≡ all (done ++ rest)
     pub left : textFrom i (areaLines area (n - i) i) ≡ all rest
     pub past : p ≡ length (textBytes done)
@@ -200,7 +200,7 @@ module _ (area : List ℕ) (n : ℕ) (first : List ℕ) where
         let e : h .lines ≡ c .done ++ c .rest = all-same (sym (h .are) ∙ c .are) in
         omega (
           arith,
-          ap (λ (ws : List form.Written). length (textBytes ws)) e,
+          ap (λ (ws : List form.TextLine). length (textBytes ws)) e,
           ap length (bytes-append (c .done) (c .rest)),
           length-append (textBytes (c .done))
               (textBytes (c .rest)),
@@ -223,7 +223,7 @@ module _ (area : List ℕ) (n : ℕ) (first : List ℕ) where
 
       bytes-left : length (textBytes (c .rest)) ≡ length (lineBytes (next .one)) + length (textBytes (next .others))
       unfolding textBytes
-      bytes-left = ap (λ (ws : List form.Written). length (textBytes ws)) (next .are) ∙ length-append (lineBytes (next .one)) (textBytes (next .others))
+      bytes-left = ap (λ (ws : List form.TextLine). length (textBytes ws)) (next .are) ∙ length-append (lineBytes (next .one)) (textBytes (next .others))
 
       pub lay-fits : Fits (length s) p (d .text)
       lay-fits =

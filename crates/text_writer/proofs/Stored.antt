@@ -1,4 +1,4 @@
--- A lawful line is one that the code can hold. Assumes nothing.
+-- A valid line is one that the code can hold. Assumes nothing.
 use Prim.Native.Nat.{ℕ, zero, suc}
 use mathlib.Core.Bool.{Bool, _&&_}
 use mathlib.Core.List.{List, [], _∷_}
@@ -6,10 +6,10 @@ use lib.Dec.{T, eqb}
 use lib.ListN.{length, take, drop}
 use lib.Ieee.{Float, binary32, fits, toBits}
 use lib.Ieee.Fits.{and-l, and-r, and-i}
-use Rattle.formats.specs.Format.{all}
-use Rattle.formats.specs.Format as F
-use Rattle.formats.specs.Description.{format, flag}
-use Rattle.score_line.specs.LineFormat.{eventParts, kindOf, valuesOf, countOf, used, filled, inRange, float, number, timed, when, label, kind, labelled, body, counted, values, afterTime, parts, isZero, line, lawful}
+use Rattle.base_formats.specs.Format.{all}
+use Rattle.base_formats.specs.Format as F
+use Rattle.base_formats.specs.Description.{format, flag}
+use Rattle.score_line.specs.LineFormat.{eventParts, kindOf, valuesOf, countOf, used, filled, inRange, float, number, timed, when, label, kind, labelled, body, counted, values, afterTime, parts, isZero, line, valid}
 use Rattle.score_line.specs.declared.When.{When}
 use Rattle.score_line.specs.declared.When.the-variants.{Timed, Untimed}
 use Rattle.score_line.specs.declared.Label.{Label}
@@ -19,7 +19,7 @@ use Rattle.score_line.specs.declared.Range.the-variants as range
 use Rattle.score_line.specs.declared.Event.{Event}
 use Rattle.score_line.specs.declared.Event.the-variants.{Instr, Control, End, Tempo}
 use Rattle.score_line.specs.declared.Line.{Line}
-use Rattle.line_writer.specs.Stored.{isSymbol, storedWhen, storedLabel, storedEvent, stored}
+use Rattle.score_line_writer.specs.Stored.{isSymbol, storedWhen, storedLabel, storedEvent, stored}
 
 -- ---- tests, each weaker than another
 
@@ -33,28 +33,28 @@ all-map f g h (x ∷ xs) t = and-map (f x) (all f xs) (g x) (all g xs) (h x) (al
 -- ---- the parts of a line
 
 -- a float in its range
-float-stored : (r : Range) (x : Float) → T (format (float r) .lawful x) → T (fits binary32 x)
+float-stored : (r : Range) (x : Float) → T (format (float r) .valid x) → T (fits binary32 x)
 unfolding float
 float-stored r x h = and-l (fits binary32 x) (inRange r (toBits binary32 x)) h
 
-when-stored : (w : When) → T (format when .lawful w) → T (storedWhen w)
+when-stored : (w : When) → T (format when .valid w) → T (storedWhen w)
 unfolding when timed
 when-stored Untimed h = tt
-when-stored (Timed late t) h = float-stored range.Time t (and-r (format flag .lawful late) (format (float range.Time) .lawful t) h)
+when-stored (Timed late t) h = float-stored range.Time t (and-r (format flag .valid late) (format (float range.Time) .valid t) h)
 
-label-stored : (l : Label) → T (format label .lawful l) → T (storedLabel l)
+label-stored : (l : Label) → T (format label .valid l) → T (storedLabel l)
 unfolding label F.small
 label-stored Unlabelled h = tt
 label-stored (Labelled n) h = h
 
-event-stored : (e : Event) → T (format (body (kindOf e)) .lawful (eventParts e .1)) → T (storedEvent e)
+event-stored : (e : Event) → T (format (body (kindOf e)) .valid (eventParts e .1)) → T (storedEvent e)
 unfolding body labelled F.small
 event-stored (Instr l i d) h =
-    let f = format (float range.Duration) .lawful d in
-    and-map (format label .lawful l) (isSymbol i && f) (storedLabel l) (isSymbol i && fits binary32 d) (label-stored l)
+    let f = format (float range.Duration) .valid d in
+    and-map (format label .valid l) (isSymbol i && f) (storedLabel l) (isSymbol i && fits binary32 d) (label-stored l)
     (and-map (isSymbol i) f (isSymbol i) (fits binary32 d) (λ k. k) (float-stored range.Duration d)) h
 event-stored (Control l v x) h =
-    let f = format (float range.Value) .lawful x in
+    let f = format (float range.Value) .valid x in
     and-map (isSymbol l) (isSymbol v && f) (isSymbol l) (isSymbol v && fits binary32 x) (λ k. k)
     (and-map (isSymbol v) f (isSymbol v) (fits binary32 x) (λ k. k) (float-stored range.Value x)) h
 event-stored End h = tt
@@ -71,26 +71,26 @@ both-parts (suc n) [] h k = tt
 both-parts (suc n) (x ∷ xs) h k =
     and-map (fits binary32 x) (all (fits binary32) (take n xs)) (fits binary32 x) (all (fits binary32) xs) (λ j. j) (λ j. both-parts n xs j k) h
 
-values-stored : (e : Event) (n : ℕ) (xs : List Float) → T (format (values (kindOf e)) .lawful (valuesOf (kindOf e) n xs))
+values-stored : (e : Event) (n : ℕ) (xs : List Float) → T (format (values (kindOf e)) .valid (valuesOf (kindOf e) n xs))
     → T (all isZero (drop (countOf (kindOf e) (valuesOf (kindOf e) n xs)) xs)) → T (all (fits binary32) xs)
 unfolding values counted
 values-stored (Instr l i d) n xs h k =
-    let f = format (float range.Value) .lawful in
-    let m = and-r (format number .lawful n) (eqb (length (take n xs)) n && all f (take n xs)) h in
+    let f = format (float range.Value) .valid in
+    let m = and-r (format number .valid n) (eqb (length (take n xs)) n && all f (take n xs)) h in
     both-parts n xs (all-map f (fits binary32) (float-stored range.Value) (take n xs) (and-r (eqb (length (take n xs)) n) (all f (take n xs)) m))
     (zeros-stored (drop n xs) k)
 values-stored (Control l v x) n xs h k = zeros-stored xs k
 values-stored End n xs h k = zeros-stored xs k
 values-stored (Tempo x) n xs h k = zeros-stored xs k
 
-pub lawful-stored : (l : Line) → T (lawful l) → T (stored l)
+pub valid-stored : (l : Line) → T (valid l) → T (stored l)
 unfolding line parts afterTime kind
-lawful-stored l h =
+valid-stored l h =
     let k = kindOf (l .event) in
-    let b = format (body k) .lawful (eventParts (l .event) .1) in
-    let v = format (values k) .lawful (valuesOf k (l .count) (l .values)) in
-    let w = format when .lawful (l .when) in
-    let p = format flag .lawful (l .priority) in
+    let b = format (body k) .valid (eventParts (l .event) .1) in
+    let v = format (values k) .valid (valuesOf k (l .count) (l .values)) in
+    let w = format when .valid (l .when) in
+    let p = format flag .valid (l .priority) in
     let z = all isZero (drop (used l) (l .values)) in
     let long = eqb (length (l .values)) 8 in
     let f = and-l (filled l) (w && (p && (b && v))) h in

@@ -6,23 +6,23 @@ use mathlib.Core.List.{List, [], _∷_}
 use mathlib.Core.Option.{Option, none, some}
 use lib.Dec.{leb}
 use lib.ListN.{length}
-use Rattle.answer.specs.Numbers.{isTaken}
-use Rattle.answer.specs.declared.Answer.the-variants.{OutOfRange, NoText}
+use Rattle.base_answer.specs.Numbers.{isTaken}
+use Rattle.base_answer.specs.declared.Answer.the-variants.{OutOfRange, NoText}
 use Rattle.score_line.specs.declared.Line.{Line}
-use Rattle.score_text.specs.Form as form
-use Rattle.score_text.specs.Form.{textBytes}
+use Rattle.text_format.specs.Form as form
+use Rattle.text_format.specs.Form.{textBytes}
 use Rattle.score_writer.specs.Slots.{areaFault, areaLines}
 use Rattle.score_writer.specs.Writing.{mostLines}
 use Rattle.score_writer.specs.Written.{refusal, told, left}
-use Rattle.score_writer.specs.declared.Written.{Written}
-use Rattle.written_line.specs.inside.LineText.{lineText}
+use Rattle.score_writer.specs.declared.WriteResult.{WriteResult}
+use Rattle.text_line_writer.specs.inside.LineText.{lineText}
 
 -- the lines of a text, or the number of the first line that has none
 pub data Text : Type 0 where
-  all : List form.Written → Text
+  all : List form.TextLine → Text
   lacking : ℕ → Text
 
-abbrev pub before : Option form.Written → ℕ → Text → Text
+abbrev pub before : Option form.TextLine → ℕ → Text → Text
 before none i t = lacking i
 before (some w) i (all ws) = all (w ∷ ws)
 before (some w) i (lacking j) = lacking j
@@ -34,7 +34,7 @@ textFrom i [] = all []
 textFrom i (l ∷ ls) = before (lineText l) i (textFrom (suc i) ls)
 
 -- 19 with the first line that has no text, then 8
-abbrev pub toldText : Text → ℕ → Written
+abbrev pub toldText : Text → ℕ → WriteResult
 toldText (all ws) room = told (textBytes ws) room
 toldText (lacking i) room = refusal NoText i
 
@@ -43,7 +43,7 @@ leftText (all ws) out = left (textBytes ws) out
 leftText (lacking i) out = out
 
 -- the first n slots: the first faulty line, then 3 for too many lines, then 19, then 8
-unfoldable pub textWritten : List ℕ → ℕ → ℕ → Written
+unfoldable pub textWritten : List ℕ → ℕ → ℕ → WriteResult
 unfolding textFrom
 textWritten area n room =
     cond (isTaken (areaFault area n 0 .answer))
@@ -55,6 +55,6 @@ unfoldable pub textLeft : List ℕ → ℕ → List ℕ → List ℕ
 unfolding textFrom
 textLeft area n out = cond (isTaken (areaFault area n 0 .answer)) (cond (leb n mostLines) (leftText (textFrom 0 (areaLines area n 0)) out) out) out
 
-pub record TextDone (area : List ℕ) (n : ℕ) (old new : List ℕ) (r : Written) : Type 0 where
+pub record TextDone (area : List ℕ) (n : ℕ) (old new : List ℕ) (r : WriteResult) : Type 0 where
   pub answers : r ≡ textWritten area n (length old)
   pub leaves : new ≡ textLeft area n old

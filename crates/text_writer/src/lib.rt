@@ -1,7 +1,7 @@
 // Scores written as text, from an area of words, a slot of 18 words to a line.
-use answer::Answer;
-use number_writer::LineText;
-use score_writer::Written;
+use base_answer::Answer;
+use score_writer::WriteResult;
+use text_number_writer::LineText;
 ghost use mathlib.Core.Path.{_≡_};
 ghost use lib.ListN.{length};
 ghost use Rattle.score_writer.specs.Slots.{areaLines};
@@ -28,7 +28,7 @@ fn measured_lines(area: &[u32], n: usize) -> Measure
     while i < n {
         let read = score_writer::slot_at(area, i);
         let line = read.line;
-        let d = written_line::line_text(line);
+        let d = text_line_writer::line_text(line);
         if d.there {
             let text = d.text;
             total += text.len;
@@ -73,7 +73,7 @@ fn put_lines(area: &[u32], n: usize, out: &mut [u8])
     while i < n {
         let read = score_writer::slot_at(area, i);
         let line = read.line;
-        let d = written_line::line_text(line);
+        let d = text_line_writer::line_text(line);
         let text = d.text;
         p = put_text(out, p, text);
         i += 1;
@@ -82,19 +82,19 @@ fn put_lines(area: &[u32], n: usize, out: &mut [u8])
 
 // Writes the score of the first n slots as text: the first faulty line, then 3 for too many lines, then 19 for the first line
 // that has no text, then 8. On refusal no byte changes; bytes past what is written stay.
-pub fn write_text(area: &[u32], n: usize, out: &mut [u8]) -> Written
+pub fn write_text(area: &[u32], n: usize, out: &mut [u8]) -> WriteResult
     ensures { λ r. ⌜ TextDone (now (area .entry)) n (now (out .entry)) (now (out .exit)) r ⌝ }
 {
     let fault = score_writer::first_fault(area, n);
     let answer = fault.answer;
-    if answer::is_taken(answer) {
+    if base_answer::is_taken(answer) {
         if n <= MOST_LINES {
             let text = measured_lines(area, n);
             if text.there {
                 let bytes = text.bytes;
                 if bytes <= out.len() {
                     put_lines(area, n, out);
-                    return Written {
+                    return WriteResult {
                         answer: Answer::Taken,
                         line: 0,
                         bytes: bytes,

@@ -1,5 +1,5 @@
 // Scores and units decoded on their own and written, and a line by value.
-use answer::Answer;
+use base_answer::Answer;
 use score_line::Event;
 use score_line::Label;
 use score_line::Line;
@@ -8,14 +8,14 @@ use score_line::When;
 const NO_ROOM: u64 = 255;
 
 fn number(a: Answer) -> u64 {
-    answer::number(a) as u64
+    base_answer::number(a) as u64
 }
 
 // Into an area of so many words.
 pub fn decode(bytes: &[u8], words: usize) -> u64 {
     let mut area = [0u32; 512];
     if words <= 512 {
-        let r = score_area::decode_score(bytes, &mut area[..words]);
+        let r = score_decoder::decode_score(bytes, &mut area[..words]);
         let a = r.answer;
         return number(a);
     }
@@ -25,7 +25,7 @@ pub fn decode(bytes: &[u8], words: usize) -> u64 {
 pub fn decode_unit(bytes: &[u8], words: usize) -> u64 {
     let mut area = [0u32; 512];
     if words <= 512 {
-        let r = score_area::decode_unit(bytes, &mut area[..words]);
+        let r = score_decoder::decode_unit(bytes, &mut area[..words]);
         let a = r.answer;
         return number(a);
     }
@@ -35,7 +35,7 @@ pub fn decode_unit(bytes: &[u8], words: usize) -> u64 {
 pub fn decode_text(bytes: &[u8], words: usize) -> u64 {
     let mut area = [0u32; 512];
     if words <= 512 {
-        let r = text_area::decode_text(bytes, &mut area[..words]);
+        let r = text_decoder::decode_text(bytes, &mut area[..words]);
         let a = r.answer;
         return number(a);
     }

@@ -1,11 +1,11 @@
 // The checked values that a program runs, and every refusal, through the public calls. Each line of the input is a case, and each
 // with a title is told with what was expected and what came.
 mod areas;
-mod desk;
 mod naming;
+mod session;
 mod text;
 
-use desk::Desk;
+use session::Session;
 use text::Tail;
 
 fn told(title: &[u8], expected: u64, got: u64) {
@@ -32,17 +32,17 @@ fn reported(text: &[u8], at: usize, t: Tail, got: u64) {
     }
 }
 
-fn case_at(text: &[u8], at: usize, d: Desk) -> Desk {
+fn case_at(text: &[u8], at: usize, d: Session) -> Session {
     let mut numbers = [0u32; 512];
     let h = text::head_at(text, at);
     let t = text::tail_at(text, h, &mut numbers);
-    let after = desk::carried_out(d, text, h, &numbers, t.count);
+    let after = session::carried_out(d, text, h, &numbers, t.count);
     reported(text, at, t, after.got);
     after
 }
 
 fn run(text: &[u8]) {
-    let mut d = desk::bare();
+    let mut d = session::bare();
     let mut at: usize = 0;
     let mut left = text.len();
     while left > 0 {

@@ -13,9 +13,9 @@ fn told_with(number: u8, length: usize) -> u64 {
 pub fn unpack(bytes: &[u8], room: usize) -> u64 {
     let mut buffer = [0u8; 512];
     if room <= 512 {
-        let r = name_unpacker::unpack(bytes, &mut buffer[..room]);
+        let r = symbol_unpacker::unpack(bytes, &mut buffer[..room]);
         let a = r.answer;
-        return told_with(answer::number(a), r.length);
+        return told_with(base_answer::number(a), r.length);
     }
     NO_ROOM
 }
@@ -23,14 +23,14 @@ pub fn unpack(bytes: &[u8], room: usize) -> u64 {
 // A name as a number: 256 times its length, and its first byte.
 fn told(name: &[u8]) -> u64 {
     if 0 < name.len() {
-        return (name.len() % 256) as u64 * 256 + ports::byte_at(name, 0) as u64;
+        return (name.len() % 256) as u64 * 256 + program_io::byte_at(name, 0) as u64;
     }
     0
 }
 
 // A symbol's name, where the piece's names are these bytes.
 fn found<'a>(symbol: u16, piece: &'a [u8], own: &'a [u8]) -> u64 {
-    told(name_finder::name_of(symbol, piece, own))
+    told(symbol_lookup::name_of(symbol, piece, own))
 }
 
 pub fn name(symbol: u16, piece: &[u8]) -> u64 {

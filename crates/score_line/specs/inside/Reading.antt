@@ -4,9 +4,9 @@ use mathlib.Core.Bool.{Bool}
 use mathlib.Core.List.{List}
 use mathlib.Core.Option.{some}
 use lib.Ieee.{Float}
-use Rattle.formats.specs.Format.{Source, Read, got, refused, andThen, small, named, found, timesFrom}
-use Rattle.formats.specs.Description.{format}
-use Rattle.formats.specs.declared.Fault.the-variants as fault
+use Rattle.base_formats.specs.Format.{Source, Read, got, refused, andThen, small, named, found, timesFrom}
+use Rattle.base_formats.specs.Description.{format}
+use Rattle.base_formats.specs.declared.Fault.the-variants as fault
 use Rattle.score_line.specs.LineFormat.{float, whenOf, timed, when, label, Kind, instr, control, tempo, typeOf, kinds, Body, body, labelled, eventOf, eventParts, kindOf, counted, values, padded, lineWith, afterTime}
 use Rattle.score_line.specs.declared.When.{When}
 use Rattle.score_line.specs.declared.Label.{Label}
@@ -14,10 +14,10 @@ use Rattle.score_line.specs.declared.Event.{Event}
 use Rattle.score_line.specs.declared.Line.{Line}
 use Rattle.score_line.specs.declared.Range.{Range}
 use Rattle.score_line.specs.declared.Range.the-variants as range
-use Rattle.score_line.specs.declared.Number.{Number}
-use Rattle.score_line.specs.declared.Number.the-variants as number
-use Rattle.score_line.specs.declared.Real.{Real}
-use Rattle.score_line.specs.declared.Real.the-variants as real
+use Rattle.score_line.specs.declared.IntegerRead.{IntegerRead}
+use Rattle.score_line.specs.declared.IntegerRead.the-variants as number
+use Rattle.score_line.specs.declared.FloatRead.{FloatRead}
+use Rattle.score_line.specs.declared.FloatRead.the-variants as real
 use Rattle.score_line.specs.declared.WhenRead.{WhenRead}
 use Rattle.score_line.specs.declared.WhenRead.the-variants as when-read
 use Rattle.score_line.specs.declared.LabelRead.{LabelRead}
@@ -81,11 +81,11 @@ afterWhen s w at = andThen (format afterTime .from s at) (λ y q. got (lineWith 
 
 -- ---- the code's results as readings
 
-abbrev pub numberIs : Number → Read ℕ
+abbrev pub numberIs : IntegerRead → Read ℕ
 numberIs (number.Of v p) = got v p
 numberIs (number.Refused f) = refused f
 
-abbrev pub realIs : Real → Read Float
+abbrev pub realIs : FloatRead → Read Float
 realIs (real.Of x p) = got x p
 realIs (real.Refused f) = refused f
 

@@ -4,7 +4,7 @@ use mathlib.Core.Path.{_≡_}
 use mathlib.Core.Bool.{Bool}
 use mathlib.Core.List.{List}
 use lib.ListN.{length}
-use Rattle.bitstream.specs.Fields.{over, farthest}
+use Rattle.base_bitstream.specs.Fields.{over, farthest}
 
 -- ---- inside: bits laid at a position, with room for them
 

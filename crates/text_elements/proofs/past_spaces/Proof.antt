@@ -2,7 +2,7 @@ use borrow.Author.Needs.{needs}
 use mathlib.Core.Path.{_≡_, refl}
 use Prim.Native.Nat.{_-_}
 use lib.ListN.{length, drop}
-use Rattle.score_text.specs.inside.Reading.{pastSpaces}
+use Rattle.text_format.specs.inside.Reading.{pastSpaces}
 use Rattle.text_elements.proofs.Parts.{spaces-stop, spaces-on, spaces-end}
 use Rattle.text_elements.proofs.past_spaces.Statement.{statement}
 use Rattle.text_elements.proofs.past_spaces.Tie as tie

@@ -1,6 +1,6 @@
 use borrow.Author.Needs.{needs}
 use Prim.Native.Nat.{_-_}
-use Rattle.score_text.specs.Said.{mostLines}
+use Rattle.text_format.specs.Content.{mostLines}
 use Rattle.text_reader.proofs.LineLoop.{Reading, starts, too-many, stops, again, ends}
 use Rattle.text_reader.proofs.read_text.Statement.{statement}
 use Rattle.text_reader.proofs.read_text.Tie as tie

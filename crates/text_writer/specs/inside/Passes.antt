@@ -5,13 +5,13 @@ use mathlib.Core.Bool.{true, false}
 use mathlib.Core.List.{List, _++_}
 use mathlib.Core.Option.{some}
 use lib.ListN.{length, take, drop}
-use Rattle.number_writer.specs.Push.{lineRoom, contentOf}
-use Rattle.number_writer.specs.declared.LineText.{LineText}
-use Rattle.score_text.specs.Form as form
-use Rattle.score_text.specs.Form.{lineBytes, textBytes}
+use Rattle.text_number_writer.specs.Push.{lineRoom, contentOf}
+use Rattle.text_number_writer.specs.declared.LineText.{LineText}
+use Rattle.text_format.specs.Form as form
+use Rattle.text_format.specs.Form.{lineBytes, textBytes}
 use Rattle.score_writer.specs.Slots.{slotRead, areaLines}
 use Rattle.score_writer.specs.Writing.{mostLines}
-use Rattle.written_line.specs.inside.LineText.{lineText}
+use Rattle.text_line_writer.specs.inside.LineText.{lineText}
 use Rattle.text_writer.specs.Writing.{Text, all, lacking, textFrom}
 use Rattle.text_writer.specs.declared.Measure.{Measure}
 
@@ -23,12 +23,12 @@ measuredPast k (lacking i) = record { there = false; line = i; bytes = 0 }
 -- n slots, few enough, and each of their texts has room in the code's line of text
 pub record Measurable (area : List ℕ) (n : ℕ) : Type 0 where
   pub few : n ≤ mostLines
-  pub short : (i : ℕ) → i < n → (w : form.Written) → lineText (slotRead area i .line) ≡ some w → length (lineBytes w) ≤ lineRoom
+  pub short : (i : ℕ) → i < n → (w : form.TextLine) → lineText (slotRead area i .line) ≡ some w → length (lineBytes w) ≤ lineRoom
 
 -- and they all have a text, which has room
 pub record Layable (area : List ℕ) (n room : ℕ) : Type 0 where
   pub measurable : Measurable area n
-  pub lines : List form.Written
+  pub lines : List form.TextLine
   pub are : textFrom 0 (areaLines area n 0) ≡ all lines
   pub within : length (textBytes lines) ≤ room
 

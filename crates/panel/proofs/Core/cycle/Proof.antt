@@ -11,4 +11,4 @@ cycle-spec =
     (λ c. unfold blockAfter in let y = c .before .before in
     let a = y .before .before .before .before .before .before .before .args in
     let p = panelOf (a .self) (a .code .now) (a .vals .now) in
-    (cycles p _ _ (y .into-block .ensures .0), y .into-block .ensures .1)))
+    (cycles p _ _ (y .cycle-call .ensures .0), y .cycle-call .ensures .1)))

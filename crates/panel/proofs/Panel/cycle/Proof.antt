@@ -7,4 +7,4 @@ use Rattle.panel.proofs.Panel.cycle.Tie as tie
 pub cycle-spec : {M : Type 1} → statement M
 cycle-spec =
     tie.close (tie.spec (λ c κs. search needs) (λ c. search needs)
-    (λ c. unfold blockAfter in let e = c .before .before .into-block .ensures in (cycles _ _ _ (e .0), e .1)))
+    (λ c. unfold blockAfter in let e = c .before .before .cycle-call .ensures in (cycles _ _ _ (e .0), e .1)))

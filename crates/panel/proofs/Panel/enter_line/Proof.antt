@@ -1,6 +1,6 @@
 use borrow.Author.Needs.{needs}
-use Rattle.players.specs.Calls.{keypad}
-use Rattle.panel.proofs.Entering.{by-door}
+use Rattle.player_model.specs.Calls.{keypad}
+use Rattle.panel.proofs.Entering.{by-entrance}
 use Rattle.panel.proofs.Panel.enter_line.Statement.{statement}
 use Rattle.panel.proofs.Panel.enter_line.Tie as tie
 
@@ -8,4 +8,4 @@ pub enter-line-spec : {M : Type 1} → statement M
 enter-line-spec =
     tie.close (tie.spec
     (λ c κs. search needs) (λ c κs. search needs)
-    (λ c. by-door _ keypad _ _ (c .before .keypad .ensures) _ (c .bring .ensures)))
+    (λ c. by-entrance _ keypad _ _ (c .before .keypad .ensures) _ (c .submit .ensures)))

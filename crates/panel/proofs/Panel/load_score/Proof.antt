@@ -1,6 +1,6 @@
 use borrow.Author.Needs.{needs}
-use Rattle.players.specs.Calls.{stick}
-use Rattle.panel.proofs.Entering.{by-door}
+use Rattle.player_model.specs.Calls.{stick}
+use Rattle.panel.proofs.Entering.{by-entrance}
 use Rattle.panel.proofs.Panel.load_score.Statement.{statement}
 use Rattle.panel.proofs.Panel.load_score.Tie as tie
 
@@ -8,4 +8,4 @@ pub load-score-spec : {M : Type 1} → statement M
 load-score-spec =
     tie.close (tie.spec
     (λ c κs. search needs) (λ c κs. search needs)
-    (λ c. by-door _ stick _ _ (c .before .stick .ensures) _ (c .bring .ensures)))
+    (λ c. by-entrance _ stick _ _ (c .before .stick .ensures) _ (c .submit .ensures)))

@@ -1,6 +1,6 @@
 use borrow.Author.Needs.{needs}
-use Rattle.players.specs.Calls.{unit}
-use Rattle.panel.proofs.Entering.{by-door}
+use Rattle.player_model.specs.Calls.{unit}
+use Rattle.panel.proofs.Entering.{by-entrance}
 use Rattle.panel.proofs.Panel.receive_unit.Statement.{statement}
 use Rattle.panel.proofs.Panel.receive_unit.Tie as tie
 
@@ -8,4 +8,4 @@ pub receive-unit-spec : {M : Type 1} → statement M
 receive-unit-spec =
     tie.close (tie.spec
     (λ c κs. search needs) (λ c κs. search needs)
-    (λ c. by-door _ unit _ _ (c .before .unit .ensures) _ (c .bring .ensures)))
+    (λ c. by-entrance _ unit _ _ (c .before .unit .ensures) _ (c .submit .ensures)))

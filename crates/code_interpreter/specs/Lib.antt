@@ -1,0 +1,4 @@
+pub mod Run
+pub mod Passes
+pub mod Area
+pub mod WorkingArea

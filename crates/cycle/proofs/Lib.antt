@@ -1,4 +1,0 @@
-pub mod Stepping
-pub mod Samples
-pub mod Resting
-pub mod Calling

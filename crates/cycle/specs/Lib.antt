@@ -1,2 +1,0 @@
-pub mod OneCycle
-pub mod IntoBlock

@@ -1,7 +1,0 @@
-use mathlib.Core.Path.{refl}
-use Rattle.keyboard.specs.Keyboard.{noMessages}
-use Rattle.keyboard.proofs.no_messages.Statement.{statement}
-use Rattle.keyboard.proofs.no_messages.Tie as tie
-
-pub no-messages-spec : {M : Type 1} → statement M
-no-messages-spec = tie.close (tie.spec (λ c. unfold noMessages in refl))

@@ -1,7 +1,0 @@
-use borrow.Author.Tests.{eq-eqb, ne-eqb}
-use Rattle.messages.specs.Message.{dataBytes}
-use Rattle.messages.proofs.data_bytes.Statement.{statement}
-use Rattle.messages.proofs.data_bytes.Tie as tie
-
-pub data-bytes-spec : {M : Type 1} → statement M
-data-bytes-spec = tie.close (tie.spec (λ c. unfold dataBytes in search eq-eqb) (λ c. unfold dataBytes in search (eq-eqb, ne-eqb)) (λ c. unfold dataBytes in search ne-eqb))

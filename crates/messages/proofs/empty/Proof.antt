@@ -1,7 +1,0 @@
-use borrow.Author.Needs.{needs}
-use Rattle.messages.proofs.OneByte.{nothing-held}
-use Rattle.messages.proofs.empty.Statement.{statement}
-use Rattle.messages.proofs.empty.Tie as tie
-
-pub empty-spec : {M : Type 1} → statement M
-empty-spec = tie.close (tie.spec (λ c κs. search needs) (λ c. search nothing-held))

@@ -1,0 +1,277 @@
+// What lines and note messages do with the sounding notes, and the run of a cycle, over straight-line code (document 01, "One cycle, in
+// order", steps 3, 4 and 5).
+use code_program::Instrument;
+use midi_messages::NoteMessage;
+use note_pool::MOST_NOTES;
+use note_pool::Notes;
+use note_pool::Started;
+use note_state::Note;
+use player_queue::Lines;
+use score_line::Event;
+use score_line::Line;
+ghost use mathlib.Core.Path.{_≡_};
+ghost use Prim.Native.Nat.{_<_, _≤_, min};
+ghost use lib.ListN.{take};
+ghost use Rattle.player_model.specs.Lists.{each, over};
+ghost use Rattle.player_model.specs.Cycle.{positionLimit, startedBy, started, afterMessage, afterMessages, runFrom};
+ghost use Rattle.player_model.specs.PlayerState.{noteLimit};
+ghost use Rattle.voices_compiled.specs.Voices.{voices};
+ghost use Rattle.note_pool.specs.Notes.{notesIn, startedIn, startedOver};
+ghost use Rattle.note_pool.specs.Started.{StartedBy};
+ghost use Rattle.note_events.specs.Controls.{controlledIn, controlsIn, controlledAll};
+ghost use Rattle.note_lifecycle.specs.OneNote.{structOf};
+
+// The limit on position.
+const POSITION_LIMIT: u64 = 1000000000000;
+
+fn at_most(position: u64, most: u64) -> u64
+    ensures { λ r. ⌜ r ≡ min position most ⌝ }
+{
+    if position < most { position } else { most }
+}
+
+// What a due line starts: an instr line a note, where fewer than the most notes sound, or where it has priority and a note has none, which
+// is cut off. A birth is worked only where the note starts.
+fn start_line<'a>(
+    table: [Instrument; 8],
+    n: usize,
+    code: &'a [u64],
+    vals: &'a [f32],
+    v: Started,
+    l: Line,
+    position: u64,
+) -> Started
+    requires { ⌜ (v .count ≤ 16) × (v .missed < 64) × (position ≤ positionLimit) ⌝ }
+    ensures { λ r. ⌜ StartedBy (startedBy (voices (take n table) (now (code .entry)) (now (vals .entry))) noteLimit position l (startedIn (v .notes) (v .count) (v .missed)) (l .event)) v r ⌝ }
+{
+    let e = l.event;
+    match e {
+        Event::Instr {
+            label,
+            instrument,
+            duration,
+        } => {
+            if v.count < MOST_NOTES {
+                let f = code_program::find(table, n, instrument);
+                let x = f.instrument;
+                let note = note_lifecycle::note_from_line(
+                    code,
+                    vals,
+                    x,
+                    l,
+                    position,
+                    label,
+                    instrument,
+                    duration,
+                );
+                return note_pool::with_note(v, note);
+            }
+            if !l.priority {
+                return note_pool::with_miss(v);
+            }
+            let place = note_pool::oldest_without_priority(v);
+            if v.count <= place {
+                return note_pool::with_miss(v);
+            }
+            let f = code_program::find(table, n, instrument);
+            let x = f.instrument;
+            let note = note_lifecycle::note_from_line(
+                code,
+                vals,
+                x,
+                l,
+                position,
+                label,
+                instrument,
+                duration,
+            );
+            note_pool::with_note(note_pool::cut_off(v, place), note)
+        }
+        Event::Control {
+            label: _,
+            variable: _,
+            value: _,
+        } => v,
+        Event::End => v,
+        Event::Tempo(_) => v,
+    }
+}
+
+// Step 3: each instr line among those that are due starts a note. A position past the limit counts as the limit.
+pub fn start_notes<'a>(
+    table: [Instrument; 8],
+    n: usize,
+    code: &'a [u64],
+    vals: &'a [f32],
+    old: Notes,
+    due: Lines,
+    position: u64,
+) -> Started
+    ensures { λ r. ⌜ (r ≡ startedOver (started (voices (take n table) (now (code .entry)) (now (vals .entry))) noteLimit (min position positionLimit) (notesIn (old .notes) (old .count)) (take (due .count) (due .lines))) (old .notes)) × (r .missed ≤ 64) ⌝ }
+{
+    let w = note_pool::within(due.count, 64);
+    let p = at_most(position, POSITION_LIMIT);
+    let lines = due.lines;
+    let notes = old.notes;
+    let mut v = Started {
+        notes: notes,
+        count: note_pool::within(old.count, MOST_NOTES),
+        missed: 0,
+    };
+    let mut i: usize = 0;
+    while i < w {
+        let l = lines[i];
+        v = start_line(table, n, code, vals, v, l, p);
+        i += 1;
+    }
+    v
+}
+
+// A control line's effect on the first notes; what lies behind them stays.
+fn control_notes(
+    table: [Instrument; 8],
+    n: usize,
+    v: Notes,
+    label: u16,
+    variable: u16,
+    value: f32,
+) -> Notes
+    ensures { λ r. ⌜ (r .count ≡ v .count) × (r .notes ≡ over (each (controlledIn (take n table) label variable value) (take (v .count) (v .notes))) (v .notes)) ⌝ }
+{
+    let notes = v.notes;
+    let m = note_pool::within(v.count, MOST_NOTES);
+    let mut a = notes;
+    let mut j: usize = 0;
+    while j < m {
+        let x = notes[j];
+        let f = code_program::find(table, n, x.instrument);
+        let i = f.instrument;
+        let y = note_lifecycle::controlled_note(i, x, label, variable, value);
+        a[j] = y;
+        j += 1;
+    }
+    Notes {
+        notes: a,
+        count: v.count,
+    }
+}
+
+fn control_line(table: [Instrument; 8], n: usize, v: Notes, l: Line) -> Notes
+    ensures { λ r. ⌜ (r .count ≡ v .count) × (r .notes ≡ over (controlsIn (take n table) (take (v .count) (v .notes)) (l .event)) (v .notes)) ⌝ }
+{
+    let e = l.event;
+    match e {
+        Event::Control {
+            label,
+            variable,
+            value,
+        } => { control_notes(table, n, v, label, variable, value) }
+        Event::Instr {
+            label: _,
+            instrument: _,
+            duration: _,
+        } => v,
+        Event::End => v,
+        Event::Tempo(_) => v,
+    }
+}
+
+// Step 4: each control line among the first m, in order; what lies behind the notes stays.
+pub fn control_lines(
+    table: [Instrument; 8],
+    n: usize,
+    notes: Notes,
+    lines: [Line; 64],
+    m: usize,
+) -> Notes
+    ensures { λ r. ⌜ (r .count ≡ notes .count) × (r .notes ≡ over (controlledAll (take n table) (take (notes .count) (notes .notes)) (take m lines)) (notes .notes)) ⌝ }
+{
+    let w = note_pool::within(m, 64);
+    let mut v = notes;
+    let mut i: usize = 0;
+    while i < w {
+        let l = lines[i];
+        v = control_line(table, n, v, l);
+        i += 1;
+    }
+    v
+}
+
+// What a note message does.
+fn play_message<'a>(
+    table: [Instrument; 8],
+    n: usize,
+    code: &'a [u64],
+    vals: &'a [f32],
+    v: Started,
+    chosen: u16,
+    m: NoteMessage,
+) -> Started
+    requires { ⌜ (v .count ≤ 16) × (v .missed < 128) ⌝ }
+    ensures { λ r. ⌜ StartedBy (afterMessage (voices (take n table) (now (code .entry)) (now (vals .entry))) noteLimit chosen (startedIn (v .notes) (v .count) (v .missed)) m) v r ⌝ }
+{
+    if m.on {
+        if v.count < MOST_NOTES {
+            let f = code_program::find(table, n, chosen);
+            let x = f.instrument;
+            let note = note_lifecycle::note_from_key(code, vals, x, chosen, m);
+            return note_pool::with_note(v, note);
+        }
+        return note_pool::with_miss(v);
+    }
+    note_pool::release_oldest(v, m.channel, m.key)
+}
+
+// After step 4: each note message among the first m, in order.
+pub fn play_messages<'a>(
+    table: [Instrument; 8],
+    n: usize,
+    code: &'a [u64],
+    vals: &'a [f32],
+    old: Started,
+    chosen: u16,
+    messages: [NoteMessage; 64],
+    m: usize,
+) -> Started
+    requires { ⌜ old .missed ≤ 64 ⌝ }
+    ensures { λ r. ⌜ (r ≡ startedOver (afterMessages (voices (take n table) (now (code .entry)) (now (vals .entry))) noteLimit chosen (startedIn (old .notes) (old .count) (old .missed)) (take m messages)) (old .notes)) × (r .missed ≤ 128) ⌝ }
+{
+    let w = note_pool::within(m, 64);
+    let mut v = old;
+    v.count = note_pool::within(old.count, MOST_NOTES);
+    let mut i: usize = 0;
+    while i < w {
+        let x = messages[i];
+        v = play_message(table, n, code, vals, v, chosen, x);
+        i += 1;
+    }
+    v
+}
+
+// Step 5: the first notes run, oldest first, each adding its outputs to the mix; what lies behind them stays.
+pub fn run_notes<'a>(
+    table: [Instrument; 8],
+    n: usize,
+    code: &'a [u64],
+    vals: &'a [f32],
+    notes: [Note; MOST_NOTES],
+    count: usize,
+    mix: &mut [f32],
+) -> [Note; MOST_NOTES]
+    ensures notes { λ r. ⌜ r ≡ over (each structOf (runFrom (voices (take n table) (now (code .entry)) (now (vals .entry))) (notesIn notes count) (now (mix .entry)) .notes)) notes ⌝ }
+    ensures mix { λ r. ⌜ now (mix .exit) ≡ runFrom (voices (take n table) (now (code .entry)) (now (vals .entry))) (notesIn notes count) (now (mix .entry)) .mix ⌝ }
+{
+    let m = note_pool::within(count, MOST_NOTES);
+    let mut room = code_interpreter::working_area(vals);
+    let mut a = notes;
+    let mut j: usize = 0;
+    while j < m {
+        let x = notes[j];
+        let f = code_program::find(table, n, x.instrument);
+        let i = f.instrument;
+        let y = note_lifecycle::run_note(code, &mut room, i, x, mix);
+        a[j] = y;
+        j += 1;
+    }
+    a
+}

@@ -1,9 +1,0 @@
-pub mod DecimalDigits
-pub mod Readings
-pub mod Examples
-pub mod Signs
-pub mod Quotient
-pub mod Closest
-pub mod Units
-pub mod Means
-pub mod Spelling

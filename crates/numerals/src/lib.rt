@@ -1,1 +1,0 @@
-// Numbers and names in text: how they are spelled, what they mean and how they are read. There is no code here.

@@ -1,9 +1,0 @@
-use Rattle.players.specs.Cycle.{goesOn}
-use Rattle.one_note.proofs.goes_on.Statement.{statement}
-use Rattle.one_note.proofs.goes_on.Tie as tie
-
-pub goes-on-spec : {M : Type 1} → statement M
-goes-on-spec =
-    tie.close (tie.spec
-    (λ c. unfold goesOn in rw (c .if1 .taken)) (λ c. unfold goesOn in rw (c .before .if1 .left, c .if2 .taken))
-    (λ c. unfold goesOn in rw (c .before .before .if1 .left, c .before .if2 .left)))

@@ -1,0 +1,154 @@
+-- What a cycle call leaves, of every panel.
+use mathlib.Core.Path.{_≡_, refl, ap, _∙_}
+use mathlib.Core.Bool.{Bool, true, false, not, cond, true≢false}
+use mathlib.Core.List.{List, [], _∷_}
+use Prim.Native.Nat.{ℕ}
+use native.Mathlib.Omega.{arith}
+use lib.IntN.{ℤ}
+use lib.ListN.{length, drop, length-take}
+use lib.Seq.{take-append-seam}
+use lib.Dec.{eqb}
+use Rattle.base_answer.specs.Numbers.{numberOf, isTaken}
+use Rattle.base_answer.specs.declared.Answer.the-variants as answer
+use Rattle.score_line.specs.declared.Line.{Line}
+use Rattle.note_state.specs.declared.Note.{Note}
+use Rattle.player_model.specs.Lists.{each, filter, over}
+use Rattle.player_model.specs.Cycle.{isDue, samples}
+use Rattle.player_model.specs.Cycle as cycle
+use Rattle.player_model.specs.PlayerState.{PlayingState, laterThan, dueOf, endsBy, blockOf, played}
+use Rattle.player_model.specs.inside.PlayerState.{capped}
+use Rattle.player_model.specs.Calls.{Call, submit, burst, keyboard, cycle as cycle-call, one, numbered, After}
+use Rattle.player_model.specs.History.{at}
+use Rattle.player_model.proofs.Lists.{length-filter}
+use Rattle.player_model.proofs.Loops.{length-over}
+use Rattle.player_queue.specs.Admission.{waitingIn}
+use Rattle.voices_compiled.specs.Voices.{VoiceState}
+use Rattle.note_pool.specs.Notes.{notesIn}
+use Rattle.note_lifecycle.specs.OneNote.{noteOf, structOf}
+use Rattle.note_pool.proofs.Steps.{length-each}
+use Rattle.player_state.specs.Playing.{playingStateOf}
+use Rattle.player_steps.specs.Steps.{laidOver, advanced}
+use Rattle.player_state.specs.declared.Playing.{Playing}
+use Rattle.player_state.specs.States.{queueAfter}
+use Rattle.player_cycle.specs.OneCycle as oneCycle
+use Rattle.player_cycle.specs.CycleCall.{cycledOf, blockLeft}
+use Rattle.player_calls.specs.declared.CallResult.{CallResult}
+use Rattle.panel.specs.State.{voicesOf, playerStateOf, settingsIn, withState, endedOf}
+use Rattle.panel.specs.Calls.{cycleOf, blockAfter}
+use Rattle.panel.specs.declared.Panel.{Panel}
+use Rattle.panel_claims.specs.Claims.{afterOf, reachedOf, findsEnd, blockIn, areaOf, Refused, RefusalsChangeNothing}
+use Rattle.panel_claims.proofs.Entrances.{Brings, takes, refuses, brings}
+use Rattle.panel_claims.proofs.Bursts.{Receives, received, unreceived, receives}
+use Rattle.panel_claims.proofs.Keyboard.{Presses, keys-over, keys-faulty, keys-full, keys-taken, presses}
+
+-- ---- what is laid over an array is read back
+
+note-struct : (ns : List (cycle.Note VoiceState)) → each noteOf (each structOf ns) ≡ ns
+unfolding each
+note-struct [] = refl
+note-struct (n ∷ ns) = ap (λ (l : List (cycle.Note VoiceState)). n ∷ l) (note-struct ns)
+
+notes-back : (ns : List (cycle.Note VoiceState)) (old : List Note) → notesIn (over (each structOf ns) old) (length ns) ≡ ns
+notes-back ns old = cc (length-each structOf ns, take-append-seam (each structOf ns) (drop (length (each structOf ns)) old), note-struct ns)
+
+plays-back : (old : Playing) (p : PlayingState VoiceState) → playingStateOf (laidOver old p) ≡ p
+plays-back old p =
+    λ i. record { notes = notes-back (p .notes) (old .notes .notes) i; position = p .position; tempo = p .tempo; counts = p .counts; ended = p .ended }
+
+-- ---- the two ways of a cycle that is lent 320 samples
+
+-- steps 2 to 8
+unfoldable pub playedOf : Panel → Panel
+playedOf p = withState p (oneCycle.playedOf (voicesOf (p .program)) (settingsIn p) (p .state))
+
+pub holds-played : (p : Panel) → playerStateOf (playedOf p)
+    ≡ record {
+      waits = laterThan (playerStateOf p .plays .position) (playerStateOf p .waits);
+      messages = [];
+      plays = capped (played (voicesOf (p .program)) (settingsIn p) (dueOf (playerStateOf p)) (playerStateOf p .plays));
+    }
+unfolding playedOf oneCycle.playedOf queueAfter advanced
+holds-played p =
+    let later = laterThan (playerStateOf p .plays .position) (playerStateOf p .waits) in
+    λ i. record {
+      waits = take-append-seam later (drop (length later) (p .state .queue .lines)) i;
+      messages = [];
+      plays = plays-back (p .state .playing) (capped (played (voicesOf (p .program)) (settingsIn p) (dueOf (playerStateOf p)) (playerStateOf p .plays))) i;
+    }
+
+pub reached-played : (p : Panel) → reachedOf (playedOf p) ≡ at (playerStateOf p .plays .position)
+unfolding playedOf oneCycle.playedOf queueAfter
+reached-played p = refl
+
+-- a played panel still has its 64 places
+pub played-long : (p : Panel) → length (p .state .queue .lines) ≡ 64 → length (playedOf p .state .queue .lines) ≡ 64
+unfolding playedOf oneCycle.playedOf queueAfter laterThan
+played-long p h =
+    let k : Line → Bool = λ (l : Line). not (isDue (p .state .playing .position) l) in
+    let w = waitingIn (p .state .queue) in
+    length-over (filter k w) (p .state .queue .lines) (omega (arith, length-filter k w, length-take (p .state .queue .count) (p .state .queue .lines))) ∙ h
+
+-- ---- what the call leaves
+
+pub data Cycles (p : Panel) (b : List ℤ) (a : After Panel) : Type 0 where
+  off : numbered (cycle-call b) ≡ false → a ≡ record { player = p; answers = one 10 0; block = b; area = [] } → Cycles p b a
+  over-before : numbered (cycle-call b) ≡ true → p .state .playing .ended ≡ true → a ≡ record { player = p; answers = one 9 0; block = b; area = [] } → Cycles p b a
+  ends : numbered (cycle-call b) ≡ true → p .state .playing .ended ≡ false → endsBy (dueOf (playerStateOf p)) (playerStateOf p .plays) ≡ true
+      → a ≡ record { player = endedOf p; answers = one 9 0; block = b; area = [] } → Cycles p b a
+  plays : numbered (cycle-call b) ≡ true → p .state .playing .ended ≡ false → endsBy (dueOf (playerStateOf p)) (playerStateOf p .plays) ≡ false
+      → a ≡ record { player = playedOf p; answers = one 0 0; block = blockOf (voicesOf (p .program)) (settingsIn p) (dueOf (playerStateOf p)) (playerStateOf p .plays); area = [] }
+      → Cycles p b a
+
+pub cycles : (p : Panel) (b : List ℤ) → Cycles p b (afterOf p (cycle-call b))
+unfolding afterOf cycleOf cycledOf blockAfter blockLeft playedOf endedOf
+cycles p b = go (eqb (length b) samples) (p .state .playing .ended) (endsBy (dueOf (playerStateOf p)) (playerStateOf p .plays)) refl refl refl
+  where
+    sound : List ℤ
+    sound = blockOf (voicesOf (p .program)) (settingsIn p) (dueOf (playerStateOf p)) (playerStateOf p .plays)
+
+    out : Bool → Bool → Bool → CallResult
+    out w e d =
+        cond w
+        (cond e (record { state = p .state; answer = answer.Ended })
+        (cond d (record { state = endedOf p .state; answer = answer.Ended }) (record { state = playedOf p .state; answer = answer.Taken })))
+        (record { state = p .state; answer = answer.BlockLength })
+
+    go : (w e d : Bool) → eqb (length b) samples ≡ w → p .state .playing .ended ≡ e → endsBy (dueOf (playerStateOf p)) (playerStateOf p .plays) ≡ d
+        → Cycles p b (record { player = withState p (out w e d .state); answers = one (numberOf (out w e d .answer)) 0; block = cond (isTaken (out w e d .answer)) sound b; area = [] })
+    go true true d hw he hd = over-before hw he refl
+    go true false true hw he hd = ends hw he hd refl
+    go true false false hw he hd = plays hw he hd refl
+    go false e d hw he hd = off hw refl
+
+-- ---- refusals
+
+refused-so : (p : Panel) (c : Call) {b : Bool} {n l : ℕ} → findsEnd p c ≡ b
+    → afterOf p c ≡ record { player = cond b (endedOf p) p; answers = one n l; block = blockIn c; area = areaOf c } → Refused p c
+refused-so p c f x = record { player = cc; block = cc; area = cc }
+
+pub refusals-change-nothing : RefusalsChangeNothing
+unfolding RefusalsChangeNothing
+refusals-change-nothing p (submit d handed) t = go (brings p d handed)
+  where
+    go : {ls : List Line} → Brings p ls (afterOf p (submit d handed)) → Refused p (submit d handed)
+    go (takes l q e f x) = absurd (true≢false (cc))
+    go (refuses n l z x) = refused-so p (submit d handed) refl x
+refusals-change-nothing p (burst bytes area) t = go (receives p bytes area)
+  where
+    go : Receives p bytes area (afterOf p (burst bytes area)) → Refused p (burst bytes area)
+    go (received us q x) = absurd (true≢false (cc))
+    go (unreceived n z x) = refused-so p (burst bytes area) refl x
+refusals-change-nothing p (keyboard bytes) t = go (presses p bytes)
+  where
+    go : Presses p bytes (afterOf p (keyboard bytes)) → Refused p (keyboard bytes)
+    go (keys-over e x) = refused-so p (keyboard bytes) refl x
+    go (keys-faulty n e f z x) = refused-so p (keyboard bytes) refl x
+    go (keys-full ms e f l x) = refused-so p (keyboard bytes) refl x
+    go (keys-taken ms e f l x) = absurd (true≢false (cc))
+refusals-change-nothing p (cycle-call b) t = go (cycles p b)
+  where
+    go : Cycles p b (afterOf p (cycle-call b)) → Refused p (cycle-call b)
+    go (off w x) = refused-so p (cycle-call b) {b = false} (cc) x
+    go (over-before w e x) = refused-so p (cycle-call b) {b = false} (cc) x
+    go (ends w e d x) = refused-so p (cycle-call b) {b = true} (cc) x
+    go (plays w e d x) = absurd (true≢false (cc))

@@ -1,0 +1,17 @@
+pub mod Ranged
+pub mod Entrances
+pub mod Bursts
+pub mod Alone
+pub mod Keyboard
+pub mod Chosen
+pub mod Cycles
+pub mod Past
+pub mod Ceiling
+pub mod Fitting
+pub mod Pushing
+pub mod Readings
+pub mod Decided
+pub mod Answers
+pub mod Written
+pub mod Verdicts
+pub mod Fresh

@@ -1,0 +1,181 @@
+-- Every line taken fits, so every cycle and condition 3 are those of the orchestra as it is written.
+use mathlib.Core.Path.{_≡_, ap, _∙_, subst⁻¹}
+use mathlib.Core.Bool.{cond}
+use mathlib.Core.List.{List, [], _∷_, _++_, append-nil}
+use Prim.Native.Nat.{ℕ, _≤_}
+use native.Mathlib.Omega.{arith}
+use lib.ListN.{length, length-take}
+use lib.Dec.{eqb}
+use borrow.Author.Tests.{eq-eqb, ne-eqb}
+use Rattle.score_line.specs.declared.Event.{Event}
+use Rattle.score_line.specs.declared.Event.the-variants.{Instr, Control, End, Tempo}
+use Rattle.score_line.specs.declared.Line.{Line}
+use Rattle.orchestra_syntax.specs.Tree.{Instrument}
+use Rattle.orchestra_semantics.specs.Meaning.{instrumentOf}
+use Rattle.voices_resolved.specs.Tree.{treeVoices}
+use Rattle.voices_source.specs.Alike.{StateAs}
+use Rattle.voices_source.specs.Voices.{writtenVoices}
+use Rattle.voices_source.specs.inside.Translation.{HeldAs, PlaysAsWritten, PastAsWritten}
+use Rattle.voices_source.specs.Voices as written
+use Rattle.voices_source.proofs.Written.{every-piece, every-past}
+use Rattle.voices_compiled.specs.Voices as byPlace
+use Rattle.base_answer.specs.Numbers.{numberOf}
+use Rattle.score_bursts.specs.Bursts.{unitsIn}
+use Rattle.score_bursts.specs.inside.Reading.{burstOf}
+use Rattle.player_model.specs.Lists.{All, each}
+use Rattle.player_model.specs.PlayerState.{Settings, settingsOf}
+use Rattle.player_model.specs.Calls.{Entrance, unit, reads, Call, submit, burst, keyboard, cycle, one, linesOf, takenOf, Last, none, latest, Transition, takenIn, cyclesWith, lastWith, transitionOf, traceFrom, trace, allTaken, afterAll}
+use Rattle.player_model.specs.Condition3.{above, inTime, InTime, AsPlain, PlainAlike}
+use Rattle.player_model.specs.History.{Reached, History}
+use Rattle.player_model.proofs.Lists.{all-append, all-map}
+use Rattle.code_loader.specs.Loading.{loadOf}
+use Rattle.code_loader_claims.specs.Claims.{StandsFor}
+use Rattle.panel.specs.declared.Panel.{Panel}
+use Rattle.panel_claims.specs.Verdict.{HasFields, here, there, Playable, Fits, AllFit, Faulty, untimed, unplayable, late, full, AtEntrance, over, badText, cut, notCarried, outOfRange, tooManyValues, leftOver, faulty, taken}
+use Rattle.panel.specs.Calls.{submitOf}
+use Rattle.panel_claims.specs.Claims.{afterOf, panel, Given, fresh, settings, past, LinesFit, CycleByTree, Condition3}
+use Rattle.panel_claims.proofs.Ranged.{ranged, AllRanged, reads-ranged}
+use Rattle.panel_claims.proofs.Past.{no-line, no-others, Kept, own, kept-all, stands, fresh-kept, past-is, block-by-place, by-place}
+use Rattle.panel_claims.proofs.Bursts.{singly, Receives, received, unreceived, receives, taken-of}
+use Rattle.panel_claims.proofs.Answers.{at-entrance-given, past-unit}
+use Rattle.panel_claims.proofs.Decided.{at-entrance}
+
+-- ---- no more values than fields
+
+enough-fields : {name n : ℕ} {is : List Instrument} → HasFields name n is → n ≤ length (instrumentOf is name .fields)
+unfolding instrumentOf
+enough-fields {name} (here {i = i} q h) = rw (eq-eqb (i .name) name q) h
+enough-fields {name} (there {i = i} q h) = rw (ne-eqb (i .name) name q) (enough-fields h)
+
+module _ (is : List Instrument) where
+  abbrev AllTakable : List Line → Type 0
+  AllTakable ls = All (λ (l : Line). written.Fits is l (l .event)) ls
+
+  event-fits : (l : Line) (e : Event) → Playable is (l .count) e → ranged e → written.Fits is l e
+  event-fits l (Instr label name d) h r = omega (arith, enough-fields h, length-take (l .count) (l .values))
+  event-fits l (Control label x y) h r = r
+  event-fits l End h r = tt
+  event-fits l (Tempo t) h r = tt
+
+  lines-fitting : (d : Entrance) (reached : Reached) (ls : List Line) (n : ℕ) → AllFit is d reached n ls → AllRanged ls → AllTakable ls
+  lines-fitting d reached [] n h r = tt
+  lines-fitting d reached (l ∷ ls) n h r = (event-fits l (l .event) (h .0 .playable) (r .0), lines-fitting d reached ls _ (h .1) (r .1))
+
+  -- ---- one call
+
+  faulty-takes : (d : Entrance) (reached : Reached) (n : ℕ) (l : Line) (number : ℕ) (ls : List Line) → Faulty is d reached n l number
+      → AllTakable (cond (eqb number 0) ls [] ++ [])
+  faulty-takes d reached n l number ls (untimed m t) = tt
+  faulty-takes d reached n l number ls (unplayable t u) = tt
+  faulty-takes d reached n l number ls (late t u x) = tt
+  faulty-takes d reached n l number ls (full t u x y) = tt
+
+  entrance-fits : (p : Panel) (d : Entrance) (handed : List ℕ) (number line : ℕ) → AtEntrance is (own p) d handed number line
+      → AllTakable (takenOf (linesOf (submit d handed)) (one number line))
+  entrance-fits p d handed number line (over e) = tt
+  entrance-fits p d handed number line (badText e q) = tt
+  entrance-fits p d handed number line (cut e q) = tt
+  entrance-fits p d handed number line (notCarried e q) = tt
+  entrance-fits p d handed number line (outOfRange e q) = tt
+  entrance-fits p d handed number line (tooManyValues e q) = tt
+  entrance-fits p d handed number line (leftOver e q) = tt
+  entrance-fits p d handed number line (faulty {number = m} before l later s t f) = faulty-takes d (own p .reached) _ l m (reads d handed .lines) f
+  entrance-fits p d handed number line (taken ls s t) =
+      all-append (λ (l : Line). written.Fits is l (l .event)) (reads d handed .lines) []
+      (lines-fitting d (own p .reached) (reads d handed .lines) (length (own p .holds .waits))
+      (rw (s .2) t) (reads-ranged d handed)) tt
+
+  bring-fits : (p : Panel) → StandsFor is (p .program) → length (p .state .queue .lines) ≡ 64 → (d : Entrance) (handed : List ℕ)
+      → AllTakable (takenOf (linesOf (submit d handed)) (afterOf p (submit d handed) .answers))
+  bring-fits p r long d handed =
+      let x = at-entrance is (own p) d handed in
+      rw (at-entrance-given is p r long d handed (x .number) (x .line) (x .verdict)) (entrance-fits p d handed (x .number) (x .line) (x .verdict))
+
+  -- the units of a burst, each as it comes
+  units-fit : (us : List (List ℕ)) (p : Panel) → StandsFor is (p .program) → length (p .state .queue .lines) ≡ 64 → AllTakable (taken-of us (singly p us .numbers))
+  unfolding singly each afterOf
+  units-fit [] p r long = tt
+  units-fit (u ∷ us) p r long =
+      let y = past-unit p long u in
+      all-append (λ (l : Line). written.Fits is l (l .event)) (cond (eqb (numberOf (submitOf p unit u .answer)) 0) (reads unit u .lines) []) (taken-of us (singly (submitOf p unit u .panel) us .numbers))
+      (rw append-nil at (bring-fits p r long unit u)) (units-fit us (submitOf p unit u .panel) (rw (y .has) r) (y .long))
+
+  burst-fits : (p : Panel) → StandsFor is (p .program) → length (p .state .queue .lines) ≡ 64 → (bytes area : List ℕ)
+      → AllTakable (takenOf (linesOf (burst bytes area)) (afterOf p (burst bytes area) .answers))
+  burst-fits p r long bytes area = go (receives p bytes area)
+    where
+      go : Receives p bytes area (afterOf p (burst bytes area)) → AllTakable (takenOf (linesOf (burst bytes area)) (afterOf p (burst bytes area) .answers))
+      go (received us q x) =
+          rw (x, q) (units-fit us p r long)
+      go (unreceived n z x) = rw (x, no-others n (each (λ (u : List ℕ). reads unit u .lines) (unitsIn (burstOf bytes)))) tt
+
+  call-fits : (p : Panel) → StandsFor is (p .program) → length (p .state .queue .lines) ≡ 64 → (c : Call) → AllTakable (takenOf (linesOf c) (afterOf p c .answers))
+  call-fits p r long (submit d handed) = bring-fits p r long d handed
+  call-fits p r long (burst bytes area) = burst-fits p r long bytes area
+  call-fits p r long (keyboard bytes) = rw (no-line (afterOf p (keyboard bytes) .answers)) tt
+  call-fits p r long (cycle b) = rw (no-line (afterOf p (cycle b) .answers)) tt
+
+-- ---- every list of calls
+
+module _ (orchestra : List ℕ) (is : List Instrument) (ceiling chosen : ℕ) (g : Given orchestra is ceiling chosen) where
+  all-fitting : (cs : List Call) (n : ℕ) (z : Last) (p : Panel) → Kept (loadOf orchestra .program) ceiling chosen is (stands orchestra is ceiling chosen g) p
+      → AllTakable is (allTaken (traceFrom panel n z p cs))
+  unfolding traceFrom allTaken afterAll
+  all-fitting [] n z p k = tt
+  all-fitting (c ∷ cs) n z p k =
+      let m = transitionOf panel n z p c in
+      all-append (λ (l : Line). written.Fits is l (l .event)) (takenIn m) (allTaken (traceFrom panel (cyclesWith m) (lastWith m) (afterOf p c .player) cs))
+      (call-fits is p (subst⁻¹ (StandsFor is) (k .has) (stands orchestra is ceiling chosen g)) (k .long) c)
+      (all-fitting cs (cyclesWith m) (lastWith m) (afterOf p c .player) (kept-all (loadOf orchestra .program) ceiling chosen is (stands orchestra is ceiling chosen g) (c ∷ []) p k))
+
+pub lines-fit : LinesFit
+unfolding LinesFit
+lines-fit orchestra is ceiling chosen g cs = all-fitting orchestra is ceiling chosen g cs 0 none (fresh orchestra ceiling chosen) (fresh-kept orchestra is ceiling chosen g)
+
+-- ---- every cycle of sound
+
+pub written-past : (orchestra : List ℕ) (is : List Instrument) (ceiling chosen : ℕ) → Given orchestra is ceiling chosen → (cs : List Call)
+    → PastAsWritten is (settings ceiling chosen) (trace panel (fresh orchestra ceiling chosen) cs)
+unfolding LinesFit
+written-past orchestra is ceiling chosen g cs =
+    every-past Panel is (settings ceiling chosen) (trace panel (fresh orchestra ceiling chosen) cs) (g .accepted .named) (lines-fit orchestra is ceiling chosen g cs)
+
+pub cycle-by-tree : CycleByTree
+unfolding CycleByTree
+cycle-by-tree orchestra is ceiling chosen g cs =
+    let e = past-is orchestra is ceiling chosen g cs in
+    let w = written-past orchestra is ceiling chosen g cs in (
+      record {
+        holds = subst⁻¹ (λ (h : History byPlace.VoiceState). StateAs (HeldAs is) (h .holds) (past orchestra is ceiling chosen cs .holds)) e (w .holds);
+        reached = ap (λ (h : History byPlace.VoiceState). h .reached) e ∙ w .reached;
+      },
+      λ lent t. block-by-place orchestra is ceiling chosen g cs lent t ∙ w .block (settingsOf ceiling chosen),
+    )
+
+-- ---- condition 3
+
+module _ (is : List Instrument) (s : ℕ → Settings) (ls : List Line) (w : (n : ℕ) → PlaysAsWritten is s ls n) where
+  line-timely : (z : Last) (l : Line) → inTime panel (writtenVoices is) s ls z l → inTime panel (treeVoices is) s ls z l
+  line-timely none l h = h
+  line-timely (latest n) l h = subst⁻¹ (λ (x : ℕ). above x (l .when)) (w n .position) h
+
+  timely : (m : Transition Panel) → InTime panel (writtenVoices is) s ls m → InTime panel (treeVoices is) s ls m
+  timely m h = all-map (inTime panel (writtenVoices is) s ls (m .last)) (inTime panel (treeVoices is) s ls (m .last)) (line-timely (m .last)) (takenIn m) h
+
+  as-written : (m : Transition Panel) → AsPlain panel (treeVoices is) s ls m → AsPlain panel (writtenVoices is) s ls m
+  as-written m a =
+      record {
+        answer = λ q. a .answer q ∙ ap (λ (y : ℕ). one y 0) (w (m .cycles) .answers);
+        block = λ q t. a .block q t ∙ w (m .cycles) .blocks;
+        counts = a .counts ∙ (λ i. record { missed = w (cyclesWith m) .missed i });
+      }
+
+pub condition-3 : Condition3
+unfolding Condition3 PlainAlike LinesFit
+condition-3 orchestra is ceiling chosen g cs away i =
+    let ms = trace panel (fresh orchestra ceiling chosen) cs in
+    let ls = allTaken ms in
+    let s = settings ceiling chosen in
+    let w : (n : ℕ) → PlaysAsWritten is s ls n = λ n. every-piece is s ls n (g .accepted .named) (lines-fit orchestra is ceiling chosen g cs) in
+    all-map (AsPlain panel (treeVoices is) s ls) (AsPlain panel (writtenVoices is) s ls) (as-written is s ls w) ms
+    (by-place orchestra is ceiling chosen g cs away (all-map (InTime panel (writtenVoices is) s ls) (InTime panel (treeVoices is) s ls) (timely is s ls w) ms i))

@@ -1,0 +1,4 @@
+pub mod Stepping
+pub mod Samples
+pub mod Idle
+pub mod Calling

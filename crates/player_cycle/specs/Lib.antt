@@ -1,0 +1,2 @@
+pub mod OneCycle
+pub mod CycleCall

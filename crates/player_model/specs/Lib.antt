@@ -1,0 +1,9 @@
+pub mod Lists
+pub mod Cycle
+pub mod PlayerState
+pub mod Results
+pub mod Plain
+pub mod Calls
+pub mod Condition3
+pub mod History
+pub mod inside

@@ -1,0 +1,3 @@
+pub mod Order
+pub mod Admission
+pub mod Idle

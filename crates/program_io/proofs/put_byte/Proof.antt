@@ -1,0 +1,10 @@
+use borrow.Author.Needs.{needs}
+use Rattle.program_io.proofs.Putting.{put-past}
+use Rattle.program_io.proofs.put_byte.Statement.{statement}
+use Rattle.program_io.proofs.put_byte.Tie as tie
+
+pub put-byte-spec : {M : Type 1} → statement M
+put-byte-spec =
+    tie.close (tie.spec
+    (λ c. search needs) (λ c. search needs) (λ c. search needs) (λ c. search needs)
+    (λ c. put-past (search needs)))

@@ -1,7 +1,0 @@
-use borrow.Author.Needs.{needs}
-use Rattle.said_line.proofs.Words.{end-judged}
-use Rattle.said_line.proofs.end_line.Statement.{statement}
-use Rattle.said_line.proofs.end_line.Tie as tie
-
-pub end-line-spec : {M : Type 1} → statement M
-end-line-spec = tie.close (tie.spec (λ c κs. search needs) (λ c κs. search needs) (λ c. search needs) (λ c κs. search needs) (λ c. search end-judged))

@@ -1,9 +1,0 @@
-use borrow.Author.Needs.{needs}
-use Rattle.said_line.proofs.Words.{tempo-judged}
-use Rattle.said_line.proofs.tempo_line.Statement.{statement}
-use Rattle.said_line.proofs.tempo_line.Tie as tie
-
-pub tempo-line-spec : {M : Type 1} → statement M
-tempo-line-spec =
-    tie.close
-    (tie.spec (λ c κs. search needs) (λ c κs. search needs) (λ c κs. search needs) (λ c. search needs) (λ c κs. search needs) (λ c. search tempo-judged))

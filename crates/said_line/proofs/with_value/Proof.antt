@@ -1,9 +1,0 @@
-use borrow.Author.Needs.{needs}
-use Rattle.said_line.proofs.Keeping.{stored, counted}
-use Rattle.said_line.proofs.with_value.Statement.{statement}
-use Rattle.said_line.proofs.with_value.Tie as tie
-
-pub with-value-spec : {M : Type 1} → statement M
-with-value-spec =
-    tie.close
-    (tie.spec (λ c κs. search needs) (λ c. search needs) (λ c. search needs) (λ c. search needs) (λ c. search stored) (λ c. search needs) (λ c. search counted))

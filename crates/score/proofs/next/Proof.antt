@@ -1,7 +1,0 @@
-use borrow.Author.Needs.{needs}
-use Rattle.score.proofs.Readers.{next-step}
-use Rattle.score.proofs.next.Statement.{statement}
-use Rattle.score.proofs.next.Tie as tie
-
-pub next-spec : {M : Type 1} → statement M
-next-spec = tie.close (tie.spec (λ c κs. search needs) (λ c κs. search needs) (λ c. search next-step))

@@ -1,8 +1,0 @@
-pub mod Elements
-pub mod Events
-pub mod FormBytes
-pub mod Lines
-pub mod Texts
-pub mod OneSpelling
-pub mod Answers
-pub mod Examples

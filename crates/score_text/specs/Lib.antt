@@ -1,4 +1,0 @@
-pub mod Said
-pub mod Form
-pub mod Claims
-pub mod inside

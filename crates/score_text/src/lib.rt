@@ -1,1 +1,0 @@
-// A score as text: how its lines are spelled, what they mean and how they are read. There is no code here.

@@ -1,4 +1,0 @@
-pub mod Run
-pub mod Passes
-pub mod Area
-pub mod Room

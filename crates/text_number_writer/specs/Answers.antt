@@ -1,0 +1,33 @@
+-- What the search for a float's shortest text answers. Definitions only.
+use Prim.Native.Nat.{ℕ, suc, _<_}
+use mathlib.Core.Path.{_≡_}
+use mathlib.Core.Logic.{_⊎_}
+use lib.Ieee.{Float}
+use Rattle.text_numerals.specs.Numeral.{mostNumber}
+use Rattle.text_numerals.specs.Shortest.{Reads, Shortest, NoText}
+use Rattle.text_number_writer.specs.declared.Found.{Found}
+use Rattle.text_number_writer.specs.declared.Found.the-variants as found
+use Rattle.text_number_writer.specs.declared.NumberText.{NumberText}
+use Rattle.text_number_writer.specs.declared.NumberText.the-variants as text
+
+unfoldable pub TextIs : Float → NumberText → Type 0
+TextIs x (text.Text n d) = Shortest x n d
+TextIs x text.None = NoText x
+
+-- ---- with d decimals
+
+-- only f and the next number can read as x
+unfoldable pub Around : Float → ℕ → ℕ → Type 0
+Around x d f = (n : ℕ) → n < mostNumber → Reads x n d → (n ≡ f) ⊎ (n ≡ suc f)
+
+pub record Least (x : Float) (d n : ℕ) : Type 0 where
+  pub below : n < mostNumber
+  pub reads : Reads x n d
+  pub least : (k : ℕ) → k < n → Reads x k d → ⊥
+
+abbrev pub NoNumber : Float → ℕ → Type 0
+NoNumber x d = (n : ℕ) → n < mostNumber → Reads x n d → ⊥
+
+unfoldable pub LeastIs : Float → ℕ → Found → Type 0
+LeastIs x d (found.Number n) = Least x d n
+LeastIs x d found.None = NoNumber x d

@@ -1,0 +1,9 @@
+pub mod DecimalDigits
+pub mod Readings
+pub mod Examples
+pub mod Signs
+pub mod Quotient
+pub mod Closest
+pub mod Units
+pub mod Means
+pub mod Encoding

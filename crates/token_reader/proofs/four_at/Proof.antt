@@ -1,9 +1,0 @@
-use Rattle.token_reader.proofs.Standing.{four-is}
-use borrow.Author.Needs.{needs}
-use Rattle.token_reader.proofs.four_at.Statement.{statement}
-use Rattle.token_reader.proofs.four_at.Tie as tie
-
-pub four-at-spec : {M : Type 1} → statement M
-four-at-spec =
-    tie.close (tie.spec
-    (λ c κs. search needs) (λ c. search needs) (λ c κs. search needs) (λ c. search needs) (λ c. search needs) (λ c. search four-is))

@@ -1,3 +1,0 @@
-pub mod Spelling
-pub mod Measures
-pub mod inside

@@ -1,9 +1,0 @@
-use borrow.Author.Needs.{needs}
-use Rattle.vectors.proofs.desk.repeated.Statement.{statement}
-use Rattle.vectors.proofs.desk.repeated.Tie as tie
-
-pub repeated-spec : {M : Type 1} → statement M
-repeated-spec =
-    tie.close (tie.spec
-    (λ c times size bytes numbers e₀ left₀ e left. Unit {0}) (λ c times size bytes numbers e₀ left₀ e left. left) (λ c. search needs)
-    (λ c κs. search needs) (λ c. search needs) (λ c. search needs) (λ c. search needs) (λ c. search needs))
