@@ -8,17 +8,14 @@ work=$(mktemp -d)
 trap 'rm -rf "$work"' EXIT
 demo=$here/../demo
 
-"$here/../bin/play" "$demo/tune.orc.bin" "$demo/tune.sasl" "$work/panel.wav" >/dev/null
+"$here/../bin/play" "$demo/tune.orc" "$demo/tune.sasl" "$work/panel.wav" >/dev/null
 
 cd "$work"
 {
     echo 'global { srate 32000; krate 100; outchannels 1; }'
     sed 's|//.*||' "$demo/tune.orc"
 } >tune.saol
-# sfront wants the orchestra's names where the panel's text has symbols.
-cp "$demo/tune.orc" .
-python3 "$demo/assemble.py" tune.orc | sed -n 's|^\(s[0-9]*\) \(.*\)$|s/\\b\1\\b/\2/g|p' >names.sed
-sed -f names.sed "$demo/tune.sasl" >tune.sasl
+sed 's|//.*||; /^ *$/d' "$demo/tune.sasl" >tune.sasl
 sfront -orc tune.saol -sco tune.sasl -bitout tune.mp4 -aout decoder.wav >sfront.log 2>&1
 gcc -O2 -w -o decoder sa.c -lm
 ./decoder >/dev/null 2>&1

@@ -16,6 +16,8 @@ MOST_TOKENS = 2048
 MOST_NOTES = 16
 LONGEST = 128  # tokens of a statement before its ;
 DEEPEST = 23  # brackets inside an instrument's own
+# A subnormal float, with which processors multiply far more slowly; a score's text has none, so the orchestra does.
+TINY = "1e-40"
 FRAME = "instr s(y) {{ asig x; x = y; {} output(x); }}"
 LEXEME = re.compile(r"\w+|&&|\|\||[<>=!]=|\S")
 
@@ -70,10 +72,11 @@ def pieces():
     costly = [("times", chain("*"), "1"), ("over", chain("/"), "1"), ("plus", chain("+"), "1"), ("less", chain("<"), "1"),
               ("and", chain("&&"), "1"), ("not", prefixes("!"), "1"), ("minus", prefixes("-"), "1"), ("choices", choices, "1"),
               ("ifs", fixed("if (x) { x = y; }"), "1"), ("outputs", fixed("output(x);"), "0.001"), ("fracs", fracs, "0.5"),
-              # subnormal floats, with which processors multiply far more slowly
-              ("tiny", chain("*", "1"), "1e-40")]
+              ("tiny", chain("*", "1"), TINY)]
     for name, statement, value in costly:
         orchestra = filled(statement)
+        if value == TINY:
+            orchestra, value = orchestra.replace("x = y;", f"x = {TINY};", 1), "1"
         assert count(orchestra) <= MOST_TOKENS
         yield name, orchestra, [("s", value)] * MOST_NOTES
 

@@ -48,7 +48,7 @@ by_sfront() {
 
 # by_play NAME
 by_play() {
-    python3 "$here/../demo/assemble.py" "$1.orc" "$1.sco" >/dev/null
+    "$here/../bin/assemble" "$1.orc" "$1.sco" >/dev/null
     echo "$play $1.orc.bin $1.sco.bin $1.wav"
 }
 

@@ -20,8 +20,10 @@ pub enum Answer {
     BadNames,
     BadRates,
     TooLarge,
+    UnknownVersion,
     BadText,
     NoText,
+    NothingToUndo,
 }
 
 // The number of an answer in document 01's table.
@@ -46,8 +48,10 @@ pub fn number(a: Answer) -> u8
         Answer::BadNames => 14,
         Answer::BadRates => 15,
         Answer::TooLarge => 16,
+        Answer::UnknownVersion => 17,
         Answer::BadText => 18,
         Answer::NoText => 19,
+        Answer::NothingToUndo => 21,
     }
 }
 

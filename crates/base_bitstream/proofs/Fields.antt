@@ -12,7 +12,7 @@ use lib.Seq.{take-at, drop-at, drop-drop, drop-nil, drop-append-add, take-all, t
 use lib.Dec.{leb}
 use Rattle.base_laws.proofs.Choice.{both-true}
 use Rattle.base_bitstream.specs.Bits.{field, bitsOf, valueOf}
-use Rattle.base_bitstream.specs.Fields.{farthest, put, over, roomFor, readAt}
+use Rattle.base_bitstream.specs.Fields.{farthest, put, over, pick, roomFor, readAt, numberOf, EveryNumber}
 use Rattle.base_bitstream.specs.inside.Fields.{Room, written}
 use Rattle.base_bitstream.specs.declared.FieldRead.the-variants.{Value, Short}
 use Rattle.base_bitstream.proofs.BitValues.{length-field, valueOf-field, field-valueOf, valueOf-lt, length-bitsOf}
@@ -177,3 +177,11 @@ pub write-some : {b : Bool} (s t : List ℕ) (at n v : ℕ) → b ≡ roomFor (8
     → bitsOf t ≡ written (bitsOf s) at n v
 unfolding written
 write-some s t at n v e f g = g ∙ sym (rw (length-bitsOf s, sym e ∙ f))
+
+pub every-number : EveryNumber
+unfolding readAt
+every-number l at n = go (roomFor (length l) at n)
+  where
+    go : (b : Bool) → numberOf (pick b (Value (valueOf (take n (drop at l))) (at + n)) Short) ≡ pick b 0 1
+    go true = refl
+    go false = refl

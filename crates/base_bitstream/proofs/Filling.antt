@@ -118,3 +118,8 @@ filled-last s p hr hl hb =
     let v : valueOf (drop p (bitsOf s)) ≡ b % 2 ^ (8 - r) =
     cc (all, value-part (field 8 b) r (8 - r) 0 (omega arith), div-one (valueOf (field 8 b)), valueOf-field 8 b, mod-eq-of-lt hb) in
     rw (lt-ltb (length (bitsOf s)) (p + 8) (omega arith), v)
+
+pub length-bytesFrom : (n : ℕ) (l : List Bool) → length (bytesFrom n l) ≡ n
+unfolding bytesFrom
+length-bytesFrom zero l = refl
+length-bytesFrom (suc n) l = ap suc (length-bytesFrom n (drop 8 l))

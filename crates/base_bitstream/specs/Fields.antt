@@ -1,5 +1,6 @@
--- Fields at a position of a list of bits. Definitions only.
+-- Fields at a position of a list of bits. Definitions and a statement only.
 use Prim.Native.Nat.{ℕ, _+_, _^_}
+use mathlib.Core.Path.{_≡_}
 use mathlib.Core.Bool.{Bool, true, false, _&&_}
 use mathlib.Core.List.{List, _++_}
 use lib.ListN.{length, take, drop}
@@ -31,3 +32,11 @@ pick false a b = b
 -- n bits from a position on: their number and the position past them, or `Short` where the list has no such field
 unfoldable pub readAt : List Bool → ℕ → ℕ → FieldRead
 readAt l at n = pick (roomFor (length l) at n) (Value (valueOf (take n (drop at l))) (at + n)) Short
+
+-- document 01's number of each case: 0, or 1 where the bits end before the field is whole
+abbrev pub numberOf : FieldRead → ℕ
+numberOf (Value v p) = 0
+numberOf Short = 1
+
+abbrev pub EveryNumber : Type 0
+EveryNumber = (l : List Bool) (at n : ℕ) → numberOf (readAt l at n) ≡ pick (roomFor (length l) at n) 0 1

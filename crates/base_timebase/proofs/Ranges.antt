@@ -12,7 +12,21 @@ use lib.Ieee.{Float, nan, inf, fin, binary32, up, down, odd, ofFields, ofBits, n
 use lib.Ieee.Bits.{nanBits-is, nanBits-above}
 use lib.Ieee.Scale.{finite}
 use Rattle.base_timebase.proofs.Order.{AtMost, at-most-back}
-use Rattle.base_timebase.specs.Time.{latest, finiteBits, timeBits, tempoBits}
+use Rattle.base_timebase.specs.Time.{latest, slowest, fastest, finiteBits, timeBits, tempoBits}
+use Rattle.base_timebase.specs.inside.Range.{checked}
+use Rattle.base_timebase.specs.declared.Checked.the-variants.{Value, Outside}
+
+-- ---- a pattern by its test
+
+pub in-range : (p : Bool) (b : ℕ) → p ≡ true → Value (ofBits binary32 b) ≡ checked p b
+unfolding checked
+in-range true b e = refl
+in-range false b e = absurd (true≢false (sym e))
+
+pub out-of-range : (p : Bool) (b : ℕ) → p ≡ false → Outside ≡ checked p b
+unfolding checked
+out-of-range true b e = absurd (true≢false e)
+out-of-range false b e = refl
 
 -- a pattern with magnitude at most that of an infinity is no NaN's
 pub no-nan : (b : ℕ) → b % 2 ^ 31 ≤ 0x7f80_0000 → T (not (nanBits binary32 b))
@@ -41,6 +55,14 @@ pub tempo-outside : (b : ℕ) → 0x7f80_0000 < b % 2 ^ 31 → tempoBits b ≡ f
 unfolding tempoBits le
 tempo-outside b h = rw (nan-of b h)
 
+pub tempo-is : (b : ℕ) → le slowest (ofBits binary32 b) ≡ true → tempoBits b ≡ le (ofBits binary32 b) fastest
+unfolding tempoBits
+tempo-is b h = rw h
+
+pub tempo-slow : (b : ℕ) → le slowest (ofBits binary32 b) ≡ false → tempoBits b ≡ false
+unfolding tempoBits
+tempo-slow b h = rw h
+
 -- ---- finite: the exponent's field is not all ones
 
 odd-finite : (d : ℕ) (s : Bool) (q k l : ℕ) → finite (odd d s q k l) ≡ true
@@ -64,9 +86,15 @@ field-below r h =
     (λ l. let u : r / 8388608 ≡ 255 = omega (arith, ltb-false r 0x7f80_0000 l) in cc (eq-eqb (r / 8388608) 255 u))
 
 -- the test that `value_of` makes
-pub finite-test : (b : ℕ) → finiteBits b ≡ ltb (b % 2 ^ 31) 0x7f80_0000
+finite-test : (b : ℕ) → finiteBits b ≡ ltb (b % 2 ^ 31) 0x7f80_0000
 unfolding finiteBits ofBits
 finite-test b = fields-finite (leb (2 ^ 31) b) (b % 2 ^ 31 / 2 ^ 23) (b % 2 ^ 23) ∙ field-below (b % 2 ^ 31) (mod-lt b (lib.Dec.lit< tt))
+
+pub finite-in : (b : ℕ) → b % 2 ^ 31 < 0x7f80_0000 → finiteBits b ≡ true
+finite-in b h = finite-test b ∙ lt-ltb _ _ h
+
+pub finite-out : (b : ℕ) → 0x7f80_0000 ≤ b % 2 ^ 31 → finiteBits b ≡ false
+finite-out b h = finite-test b ∙ le-ltb _ _ h
 
 -- ---- sign bit clear: zero or more, where it is a number
 

@@ -1,18 +1,19 @@
 -- What the ranges and the ticks tell the layers above. Assumes nothing.
-use Prim.Native.Nat.{ℕ, _<_, _≤_, _^_, zero-le}
+use Prim.Native.Nat.{ℕ, suc, _+_, _*_, _/_, _%_, _<_, _≤_, _^_, zero-le}
 use mathlib.Core.Bool.{Bool, true, false, not, _&&_, true≢false}
 use mathlib.Core.Logic.{_⊎_, inl, inr, ⊎-elim}
 use mathlib.Core.Path.{_≡_, refl, sym, _∙_}
-use native.Mathlib.Nat.{le-trans, le-of-eq}
+use native.Mathlib.Nat.{le-trans, le-of-eq, le-antisymm, mul-assoc, suc-mul, mul-le-mul-right, mod-lt, mod-add-div'}
 use native.Mathlib.Omega.{arith}
-use borrow.Author.Tests.{ltb-true, eqb-true}
+use borrow.Author.Tests.{ltb-true, eqb-true, leb-true, leb-false}
 use borrow.Table.Steps.{cases}
-use lib.Dec.{T, ltb}
-use lib.Ieee.{Float, nan, inf, fin, binary32, isNan, ofBits, toBits, lt, eq, le}
+use lib.Dec.{T, ltb, leb}
+use lib.Ieee.{Float, nan, inf, fin, binary32, up, down, isNan, ofBits, toBits, lt, eq, le}
 use lib.Ieee.Bits.{toBits-ofBits}
+use lib.Ieee.Fits.{down-pos}
 use lib.Ieee.Scale.{finite}
 use Rattle.base_laws.proofs.Choice.{both-true}
-use Rattle.base_timebase.specs.Time.{finiteBits, timeBits, durationBits, tempoBits, ticksOf, ticksIn, cycleOf, cycleIn, latest, slowest, fastest, endless}
+use Rattle.base_timebase.specs.Time.{finiteBits, timeBits, durationBits, tempoBits, nearest, ticksOf, ticksIn, cycleOf, cycleIn, latest, slowest, fastest, endless, Nearest, TicksNearest, OneNearest}
 use Rattle.base_timebase.specs.inside.Range.{checked, EveryNumber}
 use Rattle.base_timebase.specs.declared.Checked.the-variants.{Value, Outside}
 use Rattle.base_timebase.proofs.Order.{le-trans as le-on}
@@ -43,7 +44,7 @@ pub finite-is : (b : ℕ) → finiteBits b ≡ finite (ofBits binary32 b)
 unfolding finiteBits
 finite-is b = refl
 
-finite-no-nan : (x : Float) → finite x ≡ true → T (not (isNan x))
+pub finite-no-nan : (x : Float) → finite x ≡ true → T (not (isNan x))
 unfolding isNan
 finite-no-nan nan e = absurd (true≢false (sym e))
 finite-no-nan (inf s) e = tt
@@ -98,6 +99,31 @@ tempo-finite b e =
 pub half-up : ticksIn (ofBits binary32 0x38c0_0000) ≡ 563
 unfolding ticksIn ofBits le
 half-up = refl
+
+nearest-is : (a c : ℕ) → 0 < c → Nearest a c (nearest a c)
+unfolding nearest
+nearest-is a c h =
+    let n = (a * 2 + c) / (c * 2) in
+    let q : (a * 2 + c) % (c * 2) + n * (c * 2) ≡ a * 2 + c = mod-add-div' (a * 2 + c) (c * 2) in
+    let l : (a * 2 + c) % (c * 2) < c * 2 = mod-lt (a * 2 + c) (omega arith) in
+    let s : n * (c * 2) ≡ n * c * 2 = sym (mul-assoc n c 2) in
+    record { above = omega arith; below = omega arith }
+
+-- ticks are nearest, and nothing else is
+pub ticks-nearest : TicksNearest
+unfolding ticksIn ticksOf
+ticks-nearest m e h = rw h (nearest-is (m * up e * 6144000) (down e) (down-pos e))
+
+nearest-least : (a c n k : ℕ) → Nearest a c n → Nearest a c k → k ≤ n
+nearest-least a c n k p q =
+    cases (leb k n) (leb-true k n)
+    (λ g.
+    let d : suc n * c ≤ k * c = mul-le-mul-right c (leb-false k n g) in
+    let s : suc n * c ≡ n * c + c = suc-mul n c in
+    absurd (omega arith))
+
+pub one-nearest : OneNearest
+one-nearest a c n k p q = le-antisymm (nearest-least a c k n q p) (nearest-least a c n k p q)
 
 -- ticks do not fall as time grows
 pub ticks-grow : (x y : Float) → le x y ≡ true → le y latest ≡ true → ticksIn x ≤ ticksIn y

@@ -1,7 +1,8 @@
--- Document 01: which 32-bit patterns are times, durations, tempos and values, and the ticks of a time and of a tempo. Definitions only.
-use Prim.Native.Nat.{ℕ, _+_, _-_, _*_, _/_, _^_}
+-- Document 01: which 32-bit patterns are times, durations, tempos and values, and the ticks of a time and of a tempo. Definitions and statements only.
+use Prim.Native.Nat.{ℕ, _+_, _-_, _*_, _/_, _^_, _<_, _≤_}
+use mathlib.Core.Path.{_≡_}
 use mathlib.Core.Bool.{Bool, true, false, _&&_, _||_, cond}
-use lib.IntN.{pos}
+use lib.IntN.{ℤ, pos}
 use lib.Dec.{ltb, eqb}
 use lib.Ieee.{Float, nan, inf, fin, binary32, up, down, le, ofBits, toBits}
 use lib.Ieee.Scale.{finite}
@@ -72,3 +73,18 @@ cycleOf (fin s m e) = cond s 0 (m * up e * 1024 / down e)
 unfoldable pub cycleIn : Float → ℕ
 unfolding cycleOf le
 cycleIn x = cond (le slowest x && le x fastest) (cycleOf x) 0
+
+-- ---- what nearest comes to
+
+-- n is a / c to the nearest whole number, an exact half going up: n is at most a half above it, and less than a half below
+pub record Nearest (a c n : ℕ) : Type 0 where
+  pub above : n * c * 2 ≤ a * 2 + c
+  pub below : a * 2 < n * c * 2 + c
+
+-- the ticks of every time, which is the fraction m * up e / down e of a beat
+abbrev pub TicksNearest : Type 0
+TicksNearest = (m : ℕ) (e : ℤ) → le (fin false m e) latest ≡ true → Nearest (m * up e * 6144000) (down e) (ticksIn (fin false m e))
+
+-- and no other number is
+abbrev pub OneNearest : Type 0
+OneNearest = (a c n k : ℕ) → Nearest a c n → Nearest a c k → n ≡ k

@@ -12,7 +12,7 @@ use Rattle.orchestra_tokens.specs.Measures.{measured}
 use Rattle.orchestra_syntax.specs.Tree.{Instrument}
 use Rattle.orchestra_syntax.specs.Names.{mostInstruments, nameRules}
 use Rattle.orchestra_syntax.specs.inside.Placed.{placed}
-use Rattle.orchestra_syntax.specs.inside.Program.{zeroF, program, instrument}
+use Rattle.orchestra_syntax.specs.inside.Program.{zeroF, program}
 use Rattle.orchestra_syntax.specs.Grammar.{Orchestra}
 use Rattle.orchestra_rules.specs.Formed.{opOf, argOf, opsOf, argsOf, valsOf}
 use Rattle.code_operations.specs.Words.{codeSize, programSize}
@@ -24,7 +24,7 @@ use Rattle.code_loader_claims.proofs.Stretches.{program-code}
 use Rattle.code_loader_claims.proofs.KindsAll.{orchestra-kinds}
 use Rattle.orchestra_reader.specs.declared.OrchestraRead.{OrchestraRead}
 use Rattle.orchestra_reader.specs.inside.Compiled.{padded, laid, headsFrom, compile}
-use Rattle.orchestra_reader.proofs.Heads.{at-most-8}
+use Rattle.orchestra_reader.proofs.Heads.{at-most-8, length-heads}
 use Rattle.orchestra_reader.proofs.Verdict.{accepted-exactly}
 use Rattle.code_program.specs.declared.Instrument as row
 use Rattle.code_program.specs.InstrumentTable.{blank}
@@ -43,11 +43,6 @@ unfolding laidIn
 take-laid m d [] le = refl
 take-laid zero d (x ∷ xs) le = absurd (omega arith)
 take-laid (suc m) d (x ∷ xs) le = ap (λ l. x ∷ l) (take-laid m d xs (omega arith))
-
-length-heads : (n : ℕ) (is : List Instrument) → length (headsFrom n is) ≡ length is
-unfolding headsFrom
-length-heads n [] = refl
-length-heads n (i ∷ is) = ap suc (length-heads (n + length (instrument (placed i))) is)
 
 length-rows : (os ns ss : List ℕ) (n j : ℕ) (hs : List ℕ) → length (rowsFrom os ns ss n j hs) ≡ length hs
 unfolding rowsFrom

@@ -2,7 +2,6 @@
 use score_line::Event;
 use score_line::Line;
 ghost use mathlib.Core.Path.{_≡_};
-ghost use Prim.Native.Nat.{min};
 ghost use lib.ListN.{take};
 ghost use Rattle.code_program.specs.InstrumentTable.{lookupIn, fieldCountIn};
 
@@ -40,17 +39,11 @@ pub enum FieldCount {
     NoSuch,
 }
 
-fn within(n: usize, most: usize) -> usize
-    ensures { λ r. ⌜ r ≡ min n most ⌝ }
-{
-    if n < most { n } else { most }
-}
-
 // The instrument with a name among the first n; else a blank one.
 pub fn find(table: [Instrument; 8], n: usize, name: u16) -> Lookup
     ensures { λ r. ⌜ r ≡ lookupIn name (take n table) ⌝ }
 {
-    let m = within(n, 8);
+    let m = base_numbers::at_most(n, 8);
     let mut i: usize = 0;
     while i < m {
         let x = table[i];

@@ -7,6 +7,7 @@ use lib.ListN.{length, take, drop, replicate, drop-of-length-le}
 use lib.Seq.{take-all, take-at, take-nil}
 use lib.Ieee.{Float, binary32}
 use lib.Ieee.Bits.{ofBits-fits}
+use Rattle.code_interpreter.proofs.Rooms.{frame-places}
 use Rattle.orchestra_syntax.specs.Tree.{Statements}
 use Rattle.orchestra_syntax.specs.inside.Program.{zeroF}
 use Rattle.orchestra_semantics.specs.inside.Placed.{Sounding, sounding, pass, birth, kPass, aPasses, fresh}
@@ -24,10 +25,6 @@ framed : (vs : List Float) → length vs ≡ notePlaces → take notePlaces (fra
 unfolding frameOf laid
 framed vs l = rw (take-all framePlaces vs (omega arith)) (take-at vs (drop (length vs) (replicate framePlaces zeroF)) notePlaces l)
 
-frame-size : (vs : List Float) → length (frameOf vs) ≡ framePlaces
-unfolding frameOf
-frame-size vs = length-laid vs (replicate framePlaces zeroF)
-
 unframed : (f vs : List Float) → length f ≡ framePlaces → length vs ≡ notePlaces → laid f vs ≡ take notePlaces f
 unfolding laid
 unframed f vs a b = rw (b, drop-of-length-le vs {i = length f} (omega arith)) (append-nil (take notePlaces f))
@@ -36,7 +33,7 @@ pub once-means : OnceMeans
 unfolding OnceMeans once holds
 once-means vals r n t vs p l =
     let f = frameOf vs in
-    let d = passes vals t r n 0 f p (omega arith) (frame-size vs) in
+    let d = passes vals t r n 0 f p (omega arith) (frame-places vs) in
     unframed (run vals (lowered r n 0 t) f .frame) vs (d .size) l
     ∙ ap (λ (x : Sounding). x .values) (d .is zeroF (ofBits-fits binary32 0))
     ∙ ap (λ (u : List Float). pass r t (sounding u zeroF) .values) (framed vs l)
@@ -95,7 +92,7 @@ module _ (vals : List Float) (n : ℕ) (t : Statements) (p : Playable vals n 0 t
 pub played-means : PlayedMeans
 unfolding PlayedMeans played
 played-means vals n t vs mix p l a =
-    let m = meant vals n t p (frameOf vs) mix (frame-size vs) a in
+    let m = meant vals n t p (frameOf vs) mix (frame-places vs) a in
     let q = framed vs l in (
       unframed (sums vals (lowered 2 n 0 t) (frameOf vs) mix .frame) vs (m .size) l ∙ m .values ∙ ap (λ (u : List Float). aPasses t u mix .values) q,
       m .sums ∙ ap (λ (u : List Float). aPasses t u mix .mix) q,

@@ -6,13 +6,13 @@ use Prim.Native.Nat.{ℕ, zero, suc, _+_, _≤_, _<_, min}
 use native.Mathlib.Omega.{arith}
 use lib.ListN.{length, take, drop, getD, length-take}
 use lib.Seq.{drop-cons, drop-nil, getD-take, take-append-seam}
+use Rattle.base_laws.proofs.Lists.{take-min}
 use Rattle.base_answer.specs.Numbers.{isTaken}
 use Rattle.base_answer.specs.declared.Answer.the-variants as answer
 use Rattle.score_line.specs.declared.Line.{Line}
 use Rattle.score_reader.specs.Score.{Score}
 use Rattle.player_model.specs.Calls.{unit, mustBeTimed, hasTime, reads}
 use Rattle.player_model.proofs.Lists.{cond-true, cond-false}
-use Rattle.player_model.proofs.Loops.{take-min}
 use Rattle.player_queue.specs.Admission.{admitted, pushed}
 use Rattle.code_program.specs.declared.FieldCount.{FieldCount}
 use Rattle.player_queue.specs.declared.Queue.{Queue}

@@ -50,7 +50,7 @@ fn admit_lines(table: [Instrument; 8], n: usize, old: Queue, h: EntranceRead) ->
 {
     let lines = h.lines;
     let timed = h.timed;
-    let m = entrance_readers::capped_count(h.count);
+    let m = base_numbers::at_most(h.count, entrance_readers::MOST_LINES);
     let mut q = old;
     let mut i: usize = 0;
     while i < m {

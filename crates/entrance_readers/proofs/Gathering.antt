@@ -6,6 +6,7 @@ use Prim.Native.Nat.{ℕ, suc, _+_, _≤_, _<_, min}
 use native.Mathlib.Omega.{arith}
 use lib.ListN.{length, take, drop, getD, set, replicate, length-take, length-replicate}
 use lib.Seq.{drop-cons, take-suc}
+use Rattle.base_laws.proofs.Lists.{take-min}
 use Rattle.base_answer.specs.Numbers.{isTaken}
 use Rattle.base_answer.specs.declared.Answer.{Answer}
 use Rattle.base_answer.specs.declared.Answer.the-variants as answer
@@ -34,8 +35,9 @@ use Rattle.text_reader.proofs.Walk.{ahead-first as text-first, ahead-next as te
 use Rattle.player_model.specs.Lists.{over}
 use Rattle.player_model.specs.Calls.{single}
 use Rattle.player_model.proofs.Lists.{cond-false}
-use Rattle.player_model.proofs.Loops.{take-min, over-set}
-use Rattle.entrance_readers.specs.Entrances.{mostLinesRead, blankLine, entranceReadOf}
+use Rattle.player_model.proofs.Loops.{over-set}
+use Rattle.entrance_readers.specs.Entrances.{mostLinesRead, entranceReadOf}
+use Rattle.score_line.specs.Reading.{blankLine}
 use Rattle.entrance_readers.specs.declared.EntranceRead.{EntranceRead}
 
 -- the places before any line

@@ -1,11 +1,8 @@
 -- What is handed in at an entrance, read.
-use mathlib.Core.Bool.{Bool, false}
+use mathlib.Core.Bool.{Bool}
 use Prim.Native.Nat.{ℕ}
 use lib.ListN.{length, take, replicate}
-use lib.Ieee.{binary32, ofBits}
-use Rattle.score_line.specs.declared.When.the-variants.{Untimed}
-use Rattle.score_line.specs.declared.Event.the-variants.{End}
-use Rattle.score_line.specs.declared.Line.{Line}
+use Rattle.score_line.specs.Reading.{blankLine}
 use Rattle.score_reader.specs.Score.{Score}
 use Rattle.player_model.specs.Lists.{over}
 use Rattle.entrance_readers.specs.declared.EntranceRead.{EntranceRead}
@@ -13,9 +10,6 @@ use Rattle.entrance_readers.specs.declared.EntranceRead.{EntranceRead}
 -- as many lines as can wait, and one more
 abbrev pub mostLinesRead : ℕ
 mostLinesRead = 65
-
-unfoldable pub blankLine : Line
-blankLine = record { when = Untimed; priority = false; event = End; count = 0; values = replicate 8 (ofBits binary32 0) }
 
 -- what was read, with the first of its lines
 unfoldable pub entranceReadOf : Bool → Score → EntranceRead

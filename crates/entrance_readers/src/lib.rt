@@ -1,14 +1,11 @@
 // The entrances: what is handed in at one is read whole (document 01, "Order at an entrance"). Stick, unit, keypad and text differ in how they are read and in nothing
 // else.
 use base_answer::Answer;
-use score_line::Event;
 use score_line::Line;
 use score_line::LineRead;
-use score_line::When;
 use score_reader::ScoreRead;
 ghost use mathlib.Core.Path.{_≡_};
 ghost use mathlib.Core.Bool.{true, false};
-ghost use Prim.Native.Nat.{min};
 ghost use lib.ListN.{length};
 ghost use Rattle.base_answer.specs.Numbers.{isTaken};
 ghost use Rattle.base_bitstream.specs.Bits.{bitsOf};
@@ -16,10 +13,10 @@ ghost use Rattle.score_reader.specs.Score.{scoreOf, refusedScore};
 ghost use Rattle.text_format.specs.inside.Reading.{textOf};
 ghost use Rattle.player_model.specs.Calls.{mustBeTimed, single, reads};
 ghost use Rattle.player_model.specs.Calls as entrance;
-ghost use Rattle.entrance_readers.specs.Entrances.{mostLinesRead, blankLine, entranceReadOf};
+ghost use Rattle.entrance_readers.specs.Entrances.{entranceReadOf};
 
 // 64 lines can wait at most, so that no more than 65 are handed over; the last of them is still judged by its own faults before the room is.
-const MOST_LINES: usize = 65;
+pub const MOST_LINES: usize = 65;
 
 // What was handed in at an entrance, read: the first fault and its line's number, or the lines. `timed` says that each needs a time.
 pub struct EntranceRead {
@@ -30,35 +27,15 @@ pub struct EntranceRead {
     pub line: usize,
 }
 
-// A line for places that hold none.
-pub fn blank_line() -> Line
-    ensures { λ r. ⌜ r ≡ blankLine ⌝ }
-{
-    Line {
-        when: When::Untimed,
-        priority: false,
-        event: Event::End,
-        count: 0,
-        values: [0.0f32; 8],
-    }
-}
-
-// As many of n lines as are handed over.
-pub fn capped_count(n: usize) -> usize
-    ensures { λ r. ⌜ r ≡ min n mostLinesRead ⌝ }
-{
-    if n < MOST_LINES { n } else { MOST_LINES }
-}
-
 // The lines of a score that is known to be whole.
 fn score_lines(s: &[u8]) -> EntranceRead
     requires { ⌜ isTaken (scoreOf (bitsOf (now s)) .answer) ≡ true ⌝ }
     ensures { λ r. ⌜ r ≡ entranceReadOf true (scoreOf (bitsOf (now (s .entry)))) ⌝ }
 {
-    let none = blank_line();
+    let none = score_line::blank_line();
     let mut lines = [none; MOST_LINES];
     let mut c = score_reader::first(s);
-    let m = capped_count(c.left);
+    let m = base_numbers::at_most(c.left, MOST_LINES);
     let mut i: usize = 0;
     while i < m {
         let step = score_reader::next(s, c);
@@ -81,7 +58,7 @@ fn refused_score(read: ScoreRead) -> EntranceRead
     ensures { λ r. ⌜ r ≡ entranceReadOf true (refusedScore (read .answer) (read .line)) ⌝ }
 {
     let answer = read.answer;
-    let none = blank_line();
+    let none = score_line::blank_line();
     EntranceRead {
         timed: true,
         answer: answer,
@@ -109,9 +86,9 @@ fn text_lines(s: &[u8], count: usize) -> EntranceRead
     requires { ⌜ count ≡ length (textOf (now s) .lines) ⌝ }
     ensures { λ r. ⌜ r ≡ entranceReadOf true (textOf (now (s .entry))) ⌝ }
 {
-    let none = blank_line();
+    let none = score_line::blank_line();
     let mut lines = [none; MOST_LINES];
-    let m = capped_count(count);
+    let m = base_numbers::at_most(count, MOST_LINES);
     let mut at: usize = 0;
     let mut i: usize = 0;
     while i < m {
@@ -152,7 +129,7 @@ fn single_line(read: LineRead) -> EntranceRead
 {
     let answer = read.answer;
     let only = read.line;
-    let none = blank_line();
+    let none = score_line::blank_line();
     let mut lines = [none; MOST_LINES];
     let mut count: usize = 0;
     if base_answer::is_taken(answer) {

@@ -34,14 +34,17 @@ enum Step {
     Goes(ParserState, Classified),
 }
 
-// The answer to a call, and its note messages from the first on: at most 64 can wait, so 65 tell that there is no room.
+// How many note messages wait at most.
+pub const MOST_MESSAGES: usize = 64;
+
+// The answer to a call, and its note messages from the first on: one more than can wait tells that there is no room.
 pub struct CallMessages {
-    pub list: [NoteMessage; 65],
+    pub list: [NoteMessage; MOST_READ],
     pub count: usize,
     pub answer: Answer,
 }
 
-const MOST: usize = 65;
+pub const MOST_READ: usize = MOST_MESSAGES + 1;
 
 const FIRST_STATUS: u8 = 0x80;
 
@@ -183,7 +186,7 @@ fn empty() -> CallMessages
     ensures { λ r. ⌜ r ≡ messagesWith [] Taken ⌝ }
 {
     let blank = note_off(0, 0);
-    let list = [blank; 65];
+    let list = [blank; MOST_READ];
     CallMessages {
         list: list,
         count: 0,
@@ -209,7 +212,7 @@ fn add(g: CallMessages, h: Classified) -> CallMessages
     match h {
         Classified::Note(m) => {
             let n = g.count;
-            if n < MOST {
+            if n < MOST_READ {
                 let mut list = g.list;
                 list[n] = m;
                 let a = g.answer;

@@ -8,6 +8,7 @@ use native.Mathlib.Numerals.{add-one}
 use lib.ListN.{length, take, drop, getD, set, length-append, length-take, take-append-drop}
 use lib.Seq.{take-suc, take-at, take-all, length-take-le}
 use borrow.Author.Tests.{le-leb, lt-leb}
+use Rattle.base_laws.proofs.Lists.{take-min}
 use Rattle.base_answer.specs.Numbers.{isTaken}
 use Rattle.base_answer.specs.declared.Answer.the-variants.{Taken, NoRoom}
 use Rattle.midi_messages.specs.Writing.{Call, whole, fault}
@@ -17,7 +18,7 @@ use Rattle.midi_messages.specs.declared.CallMessages.{CallMessages}
 use Rattle.midi_messages.proofs.Faults.{Kind, is-whole, is-cut, is-not-carried, every-kind}
 use Rattle.player_model.specs.Lists.{over}
 use Rattle.player_model.proofs.Lists.{cond-true, cond-false}
-use Rattle.player_model.proofs.Loops.{over-set, take-min}
+use Rattle.player_model.proofs.Loops.{over-set}
 use Rattle.midi_queue.specs.Keyboard.{mostMessages, messagesIn, behind, enqueuedIn}
 use Rattle.midi_queue.specs.declared.MessageQueue.{MessageQueue}
 use Rattle.midi_queue.specs.declared.QueueResult.{QueueResult}

@@ -1,9 +1,11 @@
 // The fourth entrance: the note messages that wait, and what the bytes of a keyboard call bring in, all of it or none (document 02, M-104).
 use base_answer::Answer;
+use midi_messages::MOST_MESSAGES;
+use midi_messages::MOST_READ;
 use midi_messages::NoteMessage;
 ghost use mathlib.Core.Path.{_≡_};
 ghost use mathlib.Core.List.{_++_};
-ghost use Prim.Native.Nat.{_+_, _≤_, min};
+ghost use Prim.Native.Nat.{_+_, _≤_};
 ghost use lib.ListN.{take};
 ghost use Rattle.player_model.specs.Lists.{over};
 ghost use Rattle.midi_messages.specs.inside.Reading.{callOf};
@@ -20,9 +22,6 @@ pub struct QueueResult {
     pub messages: MessageQueue,
     pub answer: Answer,
 }
-
-// Most note messages that wait.
-const MOST_MESSAGES: usize = 64;
 
 // None wait.
 pub fn no_messages() -> MessageQueue
@@ -41,17 +40,11 @@ pub fn no_messages() -> MessageQueue
     }
 }
 
-fn within(n: usize, most: usize) -> usize
-    ensures { λ r. ⌜ r ≡ min n most ⌝ }
-{
-    if n < most { n } else { most }
-}
-
 // The first m of some messages behind the first n of others; what lies behind them stays.
 fn appended(
     list: [NoteMessage; MOST_MESSAGES],
     n: usize,
-    more: [NoteMessage; 65],
+    more: [NoteMessage; MOST_READ],
     m: usize,
 ) -> [NoteMessage; MOST_MESSAGES]
     requires { ⌜ n + m ≤ 64 ⌝ }
@@ -79,7 +72,7 @@ pub fn enqueue(waiting: MessageQueue, bytes: &[u8]) -> QueueResult
             answer: a,
         };
     }
-    let n = within(waiting.count, MOST_MESSAGES);
+    let n = base_numbers::at_most(waiting.count, MOST_MESSAGES);
     if MOST_MESSAGES - n < g.count {
         return QueueResult {
             messages: waiting,

@@ -16,7 +16,6 @@ use Rattle.score_line.specs.declared.Line.{Line}
 use Rattle.player_model.specs.Lists.{each, fold, filter, over}
 use Rattle.midi_messages.specs.declared.NoteMessage.{NoteMessage}
 use Rattle.player_model.specs.Cycle.{Rendered, born, joinedBy, releaseOldest, pressed, afterMessage, afterMessages, startedBy, started, withState, runFrom, controlledBy, controlEvent, controlled, goesOn}
-use Rattle.player_model.specs.PlayerState.{noteLimit}
 use Rattle.player_model.specs.Cycle as cycle
 use Rattle.player_model.proofs.Lists.{cond-true, cond-false}
 use Rattle.player_model.proofs.Loops.{fold-take, over-over}
@@ -210,22 +209,22 @@ module _ (table : List Instrument) (code : List ℕ) (vals : List Float) where
       → n ≡ bornNote code vals (instrumentIn table name) l position label name duration
   born-found position l label name duration f ef n en = en ∙ ap (λ (g : Lookup). bornNote code vals (g .instrument) l position label name duration) ef
 
-  pub start-instr : (position : ℕ) (l : Line) (s : cycle.Started VoiceState) (e : Event) (label : Label) (name : ℕ) (duration : Float)
+  pub start-instr : (most position : ℕ) (l : Line) (s : cycle.Started VoiceState) (e : Event) (label : Label) (name : ℕ) (duration : Float)
       → e ≡ Instr label name duration → (n : Note) → n ≡ bornNote code vals (instrumentIn table name) l position label name duration
-      → joinedBy noteLimit s (noteOf n) ≡ startedBy (voices table code vals) noteLimit position l s e
-  start-instr position l s e label name duration ee n en =
-      ap (joinedBy noteLimit s) (ap noteOf en ∙ born-same position l label name duration)
-      ∙ ap (startedBy (voices table code vals) noteLimit position l s) (sym ee)
+      → joinedBy most s (noteOf n) ≡ startedBy (voices table code vals) most position l s e
+  start-instr most position l s e label name duration ee n en =
+      ap (joinedBy most s) (ap noteOf en ∙ born-same position l label name duration)
+      ∙ ap (startedBy (voices table code vals) most position l s) (sym ee)
 
-  pub starting-more : (position : ℕ) (ns : List (cycle.Note VoiceState)) (ls : List Line) (i : ℕ) (d : Line) (old : List Note) (v r : Started) → i < length ls
-      → Starting (started (voices table code vals) noteLimit position ns (take i ls)) old v
-      → StartedBy (startedBy (voices table code vals) noteLimit position (getD ls i d) (startedIn (v .notes) (v .count) (v .missed)) (getD ls i d .event)) v r
-      → Starting (started (voices table code vals) noteLimit position ns (take (i + 1) ls)) old r
+  pub starting-more : (most position : ℕ) (ns : List (cycle.Note VoiceState)) (ls : List Line) (i : ℕ) (d : Line) (old : List Note) (v r : Started) → i < length ls
+      → Starting (started (voices table code vals) most position ns (take i ls)) old v
+      → StartedBy (startedBy (voices table code vals) most position (getD ls i d) (startedIn (v .notes) (v .count) (v .missed)) (getD ls i d .event)) v r
+      → Starting (started (voices table code vals) most position ns (take (i + 1) ls)) old r
   unfolding started
-  starting-more position ns ls i d old v r h p b =
+  starting-more most position ns ls i d old v r h p b =
       let w = voices table code vals in
-      starting-step (λ (s : cycle.Started VoiceState). startedBy w noteLimit position (getD ls i d) s (getD ls i d .event)) _ _ old v r
-      (fold-take (λ (s : cycle.Started VoiceState) (l : Line). startedBy w noteLimit position l s (l .event)) _ ls i d h) p b
+      starting-step (λ (s : cycle.Started VoiceState). startedBy w most position (getD ls i d) s (getD ls i d .event)) _ _ old v r
+      (fold-take (λ (s : cycle.Started VoiceState) (l : Line). startedBy w most position l s (l .event)) _ ls i d h) p b
 
   -- ---- the note messages
 
@@ -233,27 +232,27 @@ module _ (table : List Instrument) (code : List ℕ) (vals : List Float) where
   unfolding noteFromKey pressed voices birthOf
   pressed-same name m = refl
 
-  pub press-starts : (s : cycle.Started VoiceState) (name : ℕ) (m : NoteMessage) → m .on ≡ true → (f : Lookup) → f ≡ lookupIn name table
-      → (n : Note) → n ≡ noteFromKey code vals (f .instrument) name m → joinedBy noteLimit s (noteOf n) ≡ afterMessage (voices table code vals) noteLimit name s m
+  pub press-starts : (most : ℕ) (s : cycle.Started VoiceState) (name : ℕ) (m : NoteMessage) → m .on ≡ true → (f : Lookup) → f ≡ lookupIn name table
+      → (n : Note) → n ≡ noteFromKey code vals (f .instrument) name m → joinedBy most s (noteOf n) ≡ afterMessage (voices table code vals) most name s m
   unfolding afterMessage
-  press-starts s name m o f ef n en =
-      ap (joinedBy noteLimit s) (ap noteOf (en ∙ ap (λ (g : Lookup). noteFromKey code vals (g .instrument) name m) ef) ∙ pressed-same name m)
+  press-starts most s name m o f ef n en =
+      ap (joinedBy most s) (ap noteOf (en ∙ ap (λ (g : Lookup). noteFromKey code vals (g .instrument) name m) ef) ∙ pressed-same name m)
       ∙ sym (cond-true _ _ o)
 
-  pub off-marks : (s : cycle.Started VoiceState) (name : ℕ) (m : NoteMessage) → m .on ≡ false
-      → record { notes = releaseOldest (m .channel) (m .key) (s .notes); missed = s .missed } ≡ afterMessage (voices table code vals) noteLimit name s m
+  pub off-marks : (most : ℕ) (s : cycle.Started VoiceState) (name : ℕ) (m : NoteMessage) → m .on ≡ false
+      → record { notes = releaseOldest (m .channel) (m .key) (s .notes); missed = s .missed } ≡ afterMessage (voices table code vals) most name s m
   unfolding afterMessage
-  off-marks s name m o = sym (cond-false _ _ o)
+  off-marks most s name m o = sym (cond-false _ _ o)
 
-  pub messages-more : (name : ℕ) (s : cycle.Started VoiceState) (ms : List NoteMessage) (i : ℕ) (d : NoteMessage) (old : List Note) (v r : Started) → i < length ms
-      → Starting (afterMessages (voices table code vals) noteLimit name s (take i ms)) old v
-      → StartedBy (afterMessage (voices table code vals) noteLimit name (startedIn (v .notes) (v .count) (v .missed)) (getD ms i d)) v r
-      → Starting (afterMessages (voices table code vals) noteLimit name s (take (i + 1) ms)) old r
+  pub messages-more : (most name : ℕ) (s : cycle.Started VoiceState) (ms : List NoteMessage) (i : ℕ) (d : NoteMessage) (old : List Note) (v r : Started) → i < length ms
+      → Starting (afterMessages (voices table code vals) most name s (take i ms)) old v
+      → StartedBy (afterMessage (voices table code vals) most name (startedIn (v .notes) (v .count) (v .missed)) (getD ms i d)) v r
+      → Starting (afterMessages (voices table code vals) most name s (take (i + 1) ms)) old r
   unfolding afterMessages
-  messages-more name s ms i d old v r h p b =
+  messages-more most name s ms i d old v r h p b =
       let w = voices table code vals in
-      starting-step (λ (t : cycle.Started VoiceState). afterMessage w noteLimit name t (getD ms i d)) _ _ old v r
-      (fold-take (afterMessage w noteLimit name) s ms i d h) p b
+      starting-step (λ (t : cycle.Started VoiceState). afterMessage w most name t (getD ms i d)) _ _ old v r
+      (fold-take (afterMessage w most name) s ms i d h) p b
 
 -- ---- step 7
 

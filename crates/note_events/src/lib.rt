@@ -1,34 +1,26 @@
 // What lines and note messages do with the sounding notes, and the run of a cycle, over straight-line code (document 01, "One cycle, in
 // order", steps 3, 4 and 5).
 use code_program::Instrument;
+use midi_messages::MOST_MESSAGES;
 use midi_messages::NoteMessage;
 use note_pool::MOST_NOTES;
 use note_pool::Notes;
 use note_pool::Started;
 use note_state::Note;
 use player_queue::Lines;
+use player_queue::MOST_LINES;
 use score_line::Event;
 use score_line::Line;
 ghost use mathlib.Core.Path.{_≡_};
-ghost use Prim.Native.Nat.{_<_, _≤_, min};
+ghost use Prim.Native.Nat.{_<_, _≤_};
 ghost use lib.ListN.{take};
 ghost use Rattle.player_model.specs.Lists.{each, over};
 ghost use Rattle.player_model.specs.Cycle.{positionLimit, startedBy, started, afterMessage, afterMessages, runFrom};
-ghost use Rattle.player_model.specs.PlayerState.{noteLimit};
 ghost use Rattle.voices_compiled.specs.Voices.{voices};
 ghost use Rattle.note_pool.specs.Notes.{notesIn, startedIn, startedOver};
 ghost use Rattle.note_pool.specs.Started.{StartedBy};
 ghost use Rattle.note_events.specs.Controls.{controlledIn, controlsIn, controlledAll};
 ghost use Rattle.note_lifecycle.specs.OneNote.{structOf};
-
-// The limit on position.
-const POSITION_LIMIT: u64 = 1000000000000;
-
-fn at_most(position: u64, most: u64) -> u64
-    ensures { λ r. ⌜ r ≡ min position most ⌝ }
-{
-    if position < most { position } else { most }
-}
 
 // What a due line starts: an instr line a note, where fewer than the most notes sound, or where it has priority and a note has none, which
 // is cut off. A birth is worked only where the note starts.
@@ -40,9 +32,10 @@ fn start_line<'a>(
     v: Started,
     l: Line,
     position: u64,
+    most: usize,
 ) -> Started
-    requires { ⌜ (v .count ≤ 16) × (v .missed < 64) × (position ≤ positionLimit) ⌝ }
-    ensures { λ r. ⌜ StartedBy (startedBy (voices (take n table) (now (code .entry)) (now (vals .entry))) noteLimit position l (startedIn (v .notes) (v .count) (v .missed)) (l .event)) v r ⌝ }
+    requires { ⌜ (v .count ≤ 16) × (v .missed < 64) × (position ≤ positionLimit) × (most ≤ 16) ⌝ }
+    ensures { λ r. ⌜ StartedBy (startedBy (voices (take n table) (now (code .entry)) (now (vals .entry))) most position l (startedIn (v .notes) (v .count) (v .missed)) (l .event)) v r ⌝ }
 {
     let e = l.event;
     match e {
@@ -51,7 +44,7 @@ fn start_line<'a>(
             instrument,
             duration,
         } => {
-            if v.count < MOST_NOTES {
+            if v.count < most {
                 let f = code_program::find(table, n, instrument);
                 let x = f.instrument;
                 let note = note_lifecycle::note_from_line(
@@ -97,7 +90,7 @@ fn start_line<'a>(
     }
 }
 
-// Step 3: each instr line among those that are due starts a note. A position past the limit counts as the limit.
+// Step 3: each instr line among those that are due starts a note.
 pub fn start_notes<'a>(
     table: [Instrument; 8],
     n: usize,
@@ -106,22 +99,23 @@ pub fn start_notes<'a>(
     old: Notes,
     due: Lines,
     position: u64,
+    most: usize,
 ) -> Started
-    ensures { λ r. ⌜ (r ≡ startedOver (started (voices (take n table) (now (code .entry)) (now (vals .entry))) noteLimit (min position positionLimit) (notesIn (old .notes) (old .count)) (take (due .count) (due .lines))) (old .notes)) × (r .missed ≤ 64) ⌝ }
+    requires { ⌜ (position ≤ positionLimit) × (most ≤ 16) ⌝ }
+    ensures { λ r. ⌜ (r ≡ startedOver (started (voices (take n table) (now (code .entry)) (now (vals .entry))) most position (notesIn (old .notes) (old .count)) (take (due .count) (due .lines))) (old .notes)) × (r .missed ≤ 64) ⌝ }
 {
-    let w = note_pool::within(due.count, 64);
-    let p = at_most(position, POSITION_LIMIT);
+    let w = base_numbers::at_most(due.count, MOST_LINES);
     let lines = due.lines;
     let notes = old.notes;
     let mut v = Started {
         notes: notes,
-        count: note_pool::within(old.count, MOST_NOTES),
+        count: base_numbers::at_most(old.count, MOST_NOTES),
         missed: 0,
     };
     let mut i: usize = 0;
     while i < w {
         let l = lines[i];
-        v = start_line(table, n, code, vals, v, l, p);
+        v = start_line(table, n, code, vals, v, l, position, most);
         i += 1;
     }
     v
@@ -139,7 +133,7 @@ fn control_notes(
     ensures { λ r. ⌜ (r .count ≡ v .count) × (r .notes ≡ over (each (controlledIn (take n table) label variable value) (take (v .count) (v .notes))) (v .notes)) ⌝ }
 {
     let notes = v.notes;
-    let m = note_pool::within(v.count, MOST_NOTES);
+    let m = base_numbers::at_most(v.count, MOST_NOTES);
     let mut a = notes;
     let mut j: usize = 0;
     while j < m {
@@ -181,12 +175,12 @@ pub fn control_lines(
     table: [Instrument; 8],
     n: usize,
     notes: Notes,
-    lines: [Line; 64],
+    lines: [Line; MOST_LINES],
     m: usize,
 ) -> Notes
     ensures { λ r. ⌜ (r .count ≡ notes .count) × (r .notes ≡ over (controlledAll (take n table) (take (notes .count) (notes .notes)) (take m lines)) (notes .notes)) ⌝ }
 {
-    let w = note_pool::within(m, 64);
+    let w = base_numbers::at_most(m, MOST_LINES);
     let mut v = notes;
     let mut i: usize = 0;
     while i < w {
@@ -206,12 +200,13 @@ fn play_message<'a>(
     v: Started,
     chosen: u16,
     m: NoteMessage,
+    most: usize,
 ) -> Started
-    requires { ⌜ (v .count ≤ 16) × (v .missed < 128) ⌝ }
-    ensures { λ r. ⌜ StartedBy (afterMessage (voices (take n table) (now (code .entry)) (now (vals .entry))) noteLimit chosen (startedIn (v .notes) (v .count) (v .missed)) m) v r ⌝ }
+    requires { ⌜ (v .count ≤ 16) × (v .missed < 128) × (most ≤ 16) ⌝ }
+    ensures { λ r. ⌜ StartedBy (afterMessage (voices (take n table) (now (code .entry)) (now (vals .entry))) most chosen (startedIn (v .notes) (v .count) (v .missed)) m) v r ⌝ }
 {
     if m.on {
-        if v.count < MOST_NOTES {
+        if v.count < most {
             let f = code_program::find(table, n, chosen);
             let x = f.instrument;
             let note = note_lifecycle::note_from_key(code, vals, x, chosen, m);
@@ -230,20 +225,21 @@ pub fn play_messages<'a>(
     vals: &'a [f32],
     old: Started,
     chosen: u16,
-    messages: [NoteMessage; 64],
+    messages: [NoteMessage; MOST_MESSAGES],
     m: usize,
+    most: usize,
 ) -> Started
-    requires { ⌜ old .missed ≤ 64 ⌝ }
-    ensures { λ r. ⌜ (r ≡ startedOver (afterMessages (voices (take n table) (now (code .entry)) (now (vals .entry))) noteLimit chosen (startedIn (old .notes) (old .count) (old .missed)) (take m messages)) (old .notes)) × (r .missed ≤ 128) ⌝ }
+    requires { ⌜ (old .missed ≤ 64) × (most ≤ 16) ⌝ }
+    ensures { λ r. ⌜ (r ≡ startedOver (afterMessages (voices (take n table) (now (code .entry)) (now (vals .entry))) most chosen (startedIn (old .notes) (old .count) (old .missed)) (take m messages)) (old .notes)) × (r .missed ≤ 128) ⌝ }
 {
-    let w = note_pool::within(m, 64);
+    let count = base_numbers::at_most(m, MOST_MESSAGES);
     let mut v = old;
-    v.count = note_pool::within(old.count, MOST_NOTES);
-    let mut i: usize = 0;
-    while i < w {
-        let x = messages[i];
-        v = play_message(table, n, code, vals, v, chosen, x);
-        i += 1;
+    v.count = base_numbers::at_most(old.count, MOST_NOTES);
+    let mut next: usize = 0;
+    while next < count {
+        let x = messages[next];
+        v = play_message(table, n, code, vals, v, chosen, x, most);
+        next += 1;
     }
     v
 }
@@ -261,7 +257,7 @@ pub fn run_notes<'a>(
     ensures notes { λ r. ⌜ r ≡ over (each structOf (runFrom (voices (take n table) (now (code .entry)) (now (vals .entry))) (notesIn notes count) (now (mix .entry)) .notes)) notes ⌝ }
     ensures mix { λ r. ⌜ now (mix .exit) ≡ runFrom (voices (take n table) (now (code .entry)) (now (vals .entry))) (notesIn notes count) (now (mix .entry)) .mix ⌝ }
 {
-    let m = note_pool::within(count, MOST_NOTES);
+    let m = base_numbers::at_most(count, MOST_NOTES);
     let mut room = code_interpreter::working_area(vals);
     let mut a = notes;
     let mut j: usize = 0;

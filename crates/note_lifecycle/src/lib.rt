@@ -9,7 +9,7 @@ use score_line::Label;
 use score_line::Line;
 ghost use mathlib.Core.Path.{_≡_};
 ghost use mathlib.Core.Bool.{cond};
-ghost use Prim.Native.Nat.{_<_, _≤_, _+_, min};
+ghost use Prim.Native.Nat.{_<_, _≤_, _+_};
 ghost use lib.Dec.{T};
 ghost use lib.Ieee.{binary32, fits};
 ghost use lib.ListN.{take};
@@ -19,12 +19,6 @@ ghost use Rattle.note_state.specs.Notes.{withValues};
 ghost use Rattle.code_interpreter.specs.WorkingArea.{numbersIn};
 ghost use Rattle.voices_compiled.specs.Voices.{named};
 ghost use Rattle.note_lifecycle.specs.OneNote.{noteOf, labelOf, bornNote, noteFromKey, isHeldIn, controlledNote, ranNote, ranMix};
-
-fn within(n: usize, most: usize) -> usize
-    ensures { λ r. ⌜ r ≡ min n most ⌝ }
-{
-    if n < most { n } else { most }
-}
 
 fn select_value(first: bool, x: f32, y: f32) -> f32
     ensures { λ r. ⌜ (r ≡ cond first x y) × T (fits binary32 r) ⌝ }
@@ -71,7 +65,7 @@ fn label_of(label: Label) -> NoteLabel
 fn fresh_values(given: [f32; 8], count: usize, fields: usize) -> [f32; 16]
     ensures { λ r. ⌜ r ≡ freshOf (take fields (take count given)) ⌝ }
 {
-    let n = within(within(count, 8), fields);
+    let n = base_numbers::at_most(base_numbers::at_most(count, 8), fields);
     code_interpreter::initial_values(&given[0..n])
 }
 

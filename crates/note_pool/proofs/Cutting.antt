@@ -1,6 +1,6 @@
 -- The oldest note without priority: its place, and the notes without it.
 use mathlib.Core.Path.{_≡_, refl, sym, ap, _∙_, subst}
-use mathlib.Core.Bool.{Bool, true, false, not, cond}
+use mathlib.Core.Bool.{Bool, true, false, cond}
 use mathlib.Core.List.{List, [], _∷_, _++_}
 use Prim.Native.Nat.{ℕ, zero, suc, _+_, _≤_, _<_}
 use native.Mathlib.Omega.{arith}
@@ -10,7 +10,6 @@ use lib.ListN.{length, take, drop, getD, set, length-append}
 use lib.Seq.{take-suc, drop-cons, drop-at, length-take-le}
 use Rattle.player_model.specs.Lists.{each, over}
 use Rattle.player_model.specs.Cycle.{canCut, cutOldest, joinedBy}
-use Rattle.player_model.specs.PlayerState.{noteLimit}
 use Rattle.player_model.specs.Cycle as cycle
 use Rattle.player_model.proofs.Lists.{cond-true, cond-false}
 use Rattle.player_model.proofs.Loops.{over-set, length-over, take-over}
@@ -21,14 +20,6 @@ use Rattle.note_lifecycle.specs.OneNote.{noteOf}
 use Rattle.note_pool.specs.Started.{StartedBy}
 use Rattle.note_pool.specs.declared.Started.{Started}
 use Rattle.note_pool.proofs.Steps.{each-append, each-one, over-self, cut}
-
-pub not-true : (b : Bool) → not b ≡ true → b ≡ false
-not-true true h = sym h
-not-true false h = refl
-
-pub not-false : (b : Bool) → not b ≡ false → b ≡ true
-not-false true h = refl
-not-false false h = sym h
 
 -- ---- the place, among the notes from i on
 
@@ -137,11 +128,11 @@ module _ (v : Started) (long : length (v .notes) ≡ 16) (g : v .count ≤ 16) w
   pub none-to-cut : (place : ℕ) → place ≡ oldestWithoutPriority (soundingOf v) → v .count ≤ place → canCut (notesIn (v .notes) (v .count)) ≡ false
   none-to-cut place e q = cut-none (soundingOf v) (omega (arith, count-is, e))
 
-module _ (s : cycle.Started VoiceState) (v w r : Started) (n : Note) (long : length (v .notes) ≡ 16) (h : 16 ≤ v .count) (g : v .count ≤ 16) where
+module _ (most : ℕ) (s : cycle.Started VoiceState) (v w r : Started) (n : Note) (long : length (v .notes) ≡ 16) (h : most ≤ v .count) (g : v .count ≤ 16) where
   pub start-cut : n .priority ≡ true → (place : ℕ) → place ≡ oldestWithoutPriority (soundingOf v) → place < v .count
       → (w .notes ≡ over (withoutElement place (soundingOf v)) (v .notes)) × (w .count + 1 ≡ v .count) × (w .missed ≡ v .missed + 1)
       → (r .notes ≡ set (w .notes) (w .count) n) × (r .count ≡ w .count + 1) × (r .missed ≡ w .missed)
-      → joinedBy noteLimit (startedIn (v .notes) (v .count) (v .missed)) (noteOf n) ≡ s → StartedBy s v r
+      → joinedBy most (startedIn (v .notes) (v .count) (v .missed)) (noteOf n) ≡ s → StartedBy s v r
   start-cut p place e q a b j =
       let xs = withoutElement place (soundingOf v) in
       let l : length xs + 1 ≡ length (soundingOf v) = length-left place (soundingOf v) (omega (arith, count-is v long g)) in
@@ -160,7 +151,7 @@ module _ (s : cycle.Started VoiceState) (v w r : Started) (n : Note) (long : len
       record {
         are =
             (λ i. record { notes = notes i; missed = (b .2 ∙ a .2) i })
-            ∙ cut (v .notes) (v .count) (v .missed) n long h g p (c .0) ∙ j;
+            ∙ cut (v .notes) (v .count) (v .missed) n long most h g p (c .0) ∙ j;
         room = omega (arith, b .1, a .1);
         more = omega (arith, b .1, a .1);
         few = omega (arith, b .2, a .2);

@@ -9,9 +9,9 @@ use native.Mathlib.Numerals.{add-one}
 use native.Mathlib.Nat.{le-of-suc-le-suc}
 use lib.ListN.{length, take, drop, getD, set, length-set, take-append-drop}
 use lib.Seq.{take-suc, take-suc-set, take-at, drop-drop, drop-length, drop-set-lt, take-all, take-take, take-set-lt, length-take-le, getD-take}
+pub use Rattle.player_model.proofs.Lists.{length-each}
 use Rattle.player_model.specs.Lists.{each, over, All}
 use Rattle.player_model.specs.Cycle.{canCut, cutOldest, joinedBy, releaseOldest}
-use Rattle.player_model.specs.PlayerState.{noteLimit}
 use Rattle.player_model.specs.Cycle as cycle
 use Rattle.player_model.proofs.Lists.{cond-true, cond-false, all-append}
 use Rattle.player_model.proofs.Loops.{over-set}
@@ -31,11 +31,6 @@ unfolding each
 each-append f [] ys = refl
 each-append {A} {B} f (x ∷ xs) ys = ap (λ (l : List B). f x ∷ l) (each-append f xs ys)
 
-pub length-each : {A B : Type 0} (f : A → B) (xs : List A) → length (each f xs) ≡ length xs
-unfolding each
-length-each f [] = refl
-length-each f (x ∷ xs) = ap suc (length-each f xs)
-
 pub each-one : {A B : Type 0} (f : A → B) (x : A) → each f (x ∷ []) ≡ f x ∷ []
 unfolding each
 each-one f x = refl
@@ -46,20 +41,20 @@ module _ (ns : List Note) (k m : ℕ) (x : Note) (long : length ns ≡ 16) where
   count-in : k ≤ 16 → length (notesIn ns k) ≡ k
   count-in h = length-each noteOf (take k ns) ∙ length-take-le k ns (omega arith)
 
-  pub room : k < 16 → startedIn (set ns k x) (k + 1) m ≡ joinedBy noteLimit (startedIn ns k m) (noteOf x)
-  room h =
+  pub room : (most : ℕ) → k < most → k < 16 → startedIn (set ns k x) (k + 1) m ≡ joinedBy most (startedIn ns k m) (noteOf x)
+  room most l h =
       let c = count-in (omega arith) in
       let q : notesIn (set ns k x) (k + 1) ≡ notesIn ns k ++ (noteOf x ∷ []) =
       rw (add-one, take-suc-set ns k x (omega arith)) (each-append noteOf (take k ns) (x ∷ []) ∙ ap (λ (l : List (cycle.Note VoiceState)). notesIn ns k ++ l) (each-one noteOf x)) in
       ap (λ (l : List (cycle.Note VoiceState)). record { notes = l; missed = m }) q
-      ∙ sym (join-room noteLimit (startedIn ns k m) (noteOf x) (omega (arith, c)))
+      ∙ sym (join-room most (startedIn ns k m) (noteOf x) (omega (arith, c)))
 
-  pub full : 16 ≤ k → k ≤ 16 → (x .priority && canCut (notesIn ns k)) ≡ false → startedIn ns k (m + 1) ≡ joinedBy noteLimit (startedIn ns k m) (noteOf x)
-  full h g e = let c = count-in g in sym (join-miss noteLimit (startedIn ns k m) (noteOf x) (omega (arith, c)) e)
+  pub full : (most : ℕ) → most ≤ k → k ≤ 16 → (x .priority && canCut (notesIn ns k)) ≡ false → startedIn ns k (m + 1) ≡ joinedBy most (startedIn ns k m) (noteOf x)
+  full most h g e = let c = count-in g in sym (join-miss most (startedIn ns k m) (noteOf x) (omega (arith, c)) e)
 
-  pub cut : 16 ≤ k → k ≤ 16 → x .priority ≡ true → canCut (notesIn ns k) ≡ true
-      → record { notes = cutOldest (notesIn ns k) ++ (noteOf x ∷ []); missed = m + 1 } ≡ joinedBy noteLimit (startedIn ns k m) (noteOf x)
-  cut h g p e = let c = count-in g in sym (join-cut noteLimit (startedIn ns k m) (noteOf x) (omega (arith, c)) p e)
+  pub cut : (most : ℕ) → most ≤ k → k ≤ 16 → x .priority ≡ true → canCut (notesIn ns k) ≡ true
+      → record { notes = cutOldest (notesIn ns k) ++ (noteOf x ∷ []); missed = m + 1 } ≡ joinedBy most (startedIn ns k m) (noteOf x)
+  cut most h g p e = let c = count-in g in sym (join-cut most (startedIn ns k m) (noteOf x) (omega (arith, c)) p e)
 
 -- ---- notes laid over an array
 
@@ -131,12 +126,13 @@ laid-notes ns old k xs h e b =
 pub start-none : (v : Started) → v .count ≤ 16 → StartedBy (startedIn (v .notes) (v .count) (v .missed)) v v
 start-none v h = record { are = refl; room = h; more = omega arith; few = omega arith; long = refl; behind = refl }
 
-module _ (s : cycle.Started VoiceState) (v r : Started) (n : Note) (long : length (v .notes) ≡ 16) where
-  pub start-room : v .count < 16 → (r .notes ≡ set (v .notes) (v .count) n) × (r .count ≡ v .count + 1) × (r .missed ≡ v .missed)
-      → joinedBy noteLimit (startedIn (v .notes) (v .count) (v .missed)) (noteOf n) ≡ s → StartedBy s v r
-  start-room h e q =
+module _ (most : ℕ) (s : cycle.Started VoiceState) (v r : Started) (n : Note) (long : length (v .notes) ≡ 16) where
+  pub start-room : v .count < most → most ≤ 16 → (r .notes ≡ set (v .notes) (v .count) n) × (r .count ≡ v .count + 1) × (r .missed ≡ v .missed)
+      → joinedBy most (startedIn (v .notes) (v .count) (v .missed)) (noteOf n) ≡ s → StartedBy s v r
+  start-room l b e q =
+      let h : v .count < 16 = omega arith in
       record {
-        are = (λ i. startedIn (e .0 i) (e .1 i) (e .2 i)) ∙ room (v .notes) (v .count) (v .missed) n long h ∙ q;
+        are = (λ i. startedIn (e .0 i) (e .1 i) (e .2 i)) ∙ room (v .notes) (v .count) (v .missed) n long most l h ∙ q;
         room = omega (arith, e .1);
         more = omega (arith, e .1);
         few = omega (arith, e .2);
@@ -144,12 +140,12 @@ module _ (s : cycle.Started VoiceState) (v r : Started) (n : Note) (long : lengt
         behind = ap (drop (r .count)) (e .0) ∙ drop-set-lt (r .count) (v .notes) (v .count) n (omega (arith, e .1));
       }
 
-  pub start-full : 16 ≤ v .count → v .count ≤ 16 → (r .notes ≡ v .notes) × (r .count ≡ v .count) × (r .missed ≡ v .missed + 1)
-      → joinedBy noteLimit (startedIn (v .notes) (v .count) (v .missed)) (noteOf n) ≡ s
+  pub start-full : most ≤ v .count → v .count ≤ 16 → (r .notes ≡ v .notes) × (r .count ≡ v .count) × (r .missed ≡ v .missed + 1)
+      → joinedBy most (startedIn (v .notes) (v .count) (v .missed)) (noteOf n) ≡ s
       → (n .priority && canCut (notesIn (v .notes) (v .count))) ≡ false → StartedBy s v r
   start-full h g e q f =
       record {
-        are = (λ i. startedIn (e .0 i) (e .1 i) (e .2 i)) ∙ full (v .notes) (v .count) (v .missed) n long h g f ∙ q;
+        are = (λ i. startedIn (e .0 i) (e .1 i) (e .2 i)) ∙ full (v .notes) (v .count) (v .missed) n long most h g f ∙ q;
         room = omega (arith, e .1);
         more = omega (arith, e .1);
         few = omega (arith, e .2);

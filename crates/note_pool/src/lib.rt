@@ -2,7 +2,7 @@
 // (document 01, "One cycle, in order", steps 3 and 7, and what a note-off does).
 use note_state::Note;
 ghost use mathlib.Core.Path.{_≡_};
-ghost use Prim.Native.Nat.{_<_, _≤_, _+_, min};
+ghost use Prim.Native.Nat.{_<_, _≤_, _+_};
 ghost use lib.ListN.{length, take, set};
 ghost use Rattle.player_model.specs.Lists.{filter, over};
 ghost use Rattle.player_model.specs.Cycle.{releaseOldest};
@@ -25,13 +25,6 @@ pub struct Notes {
 
 // Most notes that sound at once.
 pub const MOST_NOTES: usize = 16;
-
-// A count, at most so many.
-pub fn within(n: usize, most: usize) -> usize
-    ensures { λ r. ⌜ r ≡ min n most ⌝ }
-{
-    if n < most { n } else { most }
-}
 
 // One note more; there is room for it.
 pub fn with_note(v: Started, n: Note) -> Started
@@ -67,16 +60,16 @@ pub fn oldest_without_priority(v: Started) -> usize
     ensures { λ r. ⌜ r ≡ oldestWithoutPriority (take (v .count) (v .notes)) ⌝ }
 {
     let notes = v.notes;
-    let m = v.count;
-    let mut i: usize = 0;
-    while i < m {
-        let x = notes[i];
+    let count = v.count;
+    let mut oldest: usize = 0;
+    while oldest < count {
+        let x = notes[oldest];
         if !x.priority {
-            return i;
+            return oldest;
         }
-        i += 1;
+        oldest += 1;
     }
-    m
+    count
 }
 
 // The note at a place cut off: the later ones move down, what lies behind them stays, and one more is missed.
@@ -106,20 +99,20 @@ pub fn release_oldest(v: Started, channel: u8, key: u8) -> Started
     ensures { λ r. ⌜ StartedBy (record { notes = releaseOldest channel key (notesIn (v .notes) (v .count)); missed = v .missed }) v r ⌝ }
 {
     let notes = v.notes;
-    let m = v.count;
-    let mut i: usize = 0;
-    while i < m {
-        let x = notes[i];
+    let count = v.count;
+    let mut place: usize = 0;
+    while place < count {
+        let x = notes[place];
         if note_lifecycle::is_held(x, channel, key) {
             let mut a = notes;
-            a[i] = note_state::release(x);
+            a[place] = note_state::release(x);
             return Started {
                 notes: a,
-                count: m,
+                count: count,
                 missed: v.missed,
             };
         }
-        i += 1;
+        place += 1;
     }
     v
 }
@@ -128,7 +121,7 @@ pub fn release_oldest(v: Started, channel: u8, key: u8) -> Started
 pub fn remaining(notes: [Note; MOST_NOTES], count: usize, position: u64) -> Notes
     ensures { λ r. ⌜ (r .count ≡ length (filter (goesOnIn position) (take count notes))) × (r .notes ≡ over (filter (goesOnIn position) (take count notes)) notes) × (r .count ≤ 16) ⌝ }
 {
-    let m = within(count, MOST_NOTES);
+    let m = base_numbers::at_most(count, MOST_NOTES);
     let mut a = notes;
     let mut k: usize = 0;
     let mut i: usize = 0;
@@ -151,7 +144,7 @@ pub fn copied_over(
 ) -> [Note; MOST_NOTES]
     ensures { λ r. ⌜ r ≡ over (take count new) old ⌝ }
 {
-    let m = within(count, MOST_NOTES);
+    let m = base_numbers::at_most(count, MOST_NOTES);
     let mut a = old;
     let mut i: usize = 0;
     while i < m {

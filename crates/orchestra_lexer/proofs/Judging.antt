@@ -11,7 +11,7 @@ use Rattle.base_answer.specs.Numbers.{isTaken}
 use Rattle.base_answer.specs.declared.Answer.{Answer}
 use Rattle.base_answer.specs.declared.Answer.the-variants.{Taken, BadToken, TooLarge}
 use Rattle.orchestra_tokens.specs.inside.Scanning.{Scanned, none, some, tokensOf, tokensIn}
-use Rattle.orchestra_tokens.specs.Measures.{bracketsWithin, stretchesWithin}
+use Rattle.orchestra_tokens.specs.Measures.{longest, bracketsWithin, stretchesWithin}
 use Rattle.orchestra_tokens.specs.inside.Passes.{found, finished, start, scanned}
 use Rattle.orchestra_tokens.specs.inside.Reading.{stored, judged, readOf}
 use Rattle.orchestra_tokens.specs.declared.Token.{Token}
@@ -59,19 +59,19 @@ unfolding scanned
 took bs n e = let p = took-by (ends (tokensOf bs)) n e in record { some-is = p .0; count-is = p .1; room = p .2; judged-is = p .3 }
 
 module _ (bs : List ℕ) where
-  pub read-long : {r : Tokens} → 16384 < length bs → r ≡ stored TooLarge [] → r ≡ readOf bs
+  pub read-long : {r : Tokens} → longest < length bs → r ≡ stored TooLarge [] → r ≡ readOf bs
   unfolding readOf
-  read-long lt e = rw (lt-ltb 16384 (length bs) lt) e
+  read-long lt e = rw (lt-ltb longest (length bs) lt) e
 
-  pub read-taken : {r : Tokens} → length bs ≤ 16384 → r ≡ judged (tokensOf bs) → r ≡ readOf bs
+  pub read-taken : {r : Tokens} → length bs ≤ longest → r ≡ judged (tokensOf bs) → r ≡ readOf bs
   unfolding readOf
-  read-taken le e = rw (le-ltb 16384 (length bs) le) e
+  read-taken le e = rw (le-ltb longest (length bs) le) e
 
   pub scan-taken : (f : ScanResult) {b : Bool} → f ≡ scanned bs → b ≡ isTaken (f .answer) → b ≡ true → scanned bs ≡ found Taken (f .count)
   unfolding scanned
   scan-taken f e p q = found-taken (ends (tokensOf bs)) f e (sym p ∙ q)
 
-  pub read-refused : {r : Tokens} (f : ScanResult) {b : Bool} → length bs ≤ 16384 → f ≡ scanned bs → b ≡ isTaken (f .answer) → b ≡ false → r ≡ stored (f .answer) []
+  pub read-refused : {r : Tokens} (f : ScanResult) {b : Bool} → length bs ≤ longest → f ≡ scanned bs → b ≡ isTaken (f .answer) → b ≡ false → r ≡ stored (f .answer) []
       → r ≡ readOf bs
   unfolding scanned
   read-refused f le e p q u = read-taken le (u ∙ stored-refused (ends (tokensOf bs)) f e (sym p ∙ q))

@@ -3,12 +3,13 @@ use Prim.Native.Nat.{ℕ, suc, _+_, _-_, _≤_, _<_}
 use native.Mathlib.Omega.{arith}
 use native.Mathlib.Numerals.{add-one}
 use mathlib.Core.Path.{_≡_, refl, sym, ap, _∙_, subst}
-use mathlib.Core.Bool.{Bool, true, false, not, _&&_, _||_, cond, and-assoc, and-comm, and-false}
+use mathlib.Core.Bool.{Bool, true, false, not, _&&_, _||_, cond, and-assoc, and-comm}
 use mathlib.Core.List.{List, [], _∷_}
 use lib.ListN.{length, getD, drop, length-drop, drop-of-length-le}
 use lib.Seq.{drop-cons, drop-drop}
 use lib.Dec.{eqb, leb}
 use borrow.Author.Tests.{eq-eqb, ne-eqb, not-true, not-false}
+use Rattle.base_laws.proofs.Choice.{and-swap}
 use Rattle.base_answer.specs.declared.Answer.the-variants.{BadToken}
 use Rattle.orchestra_tokens.specs.Encoding.{valid}
 use Rattle.orchestra_tokens.specs.inside.Scanning.{Scanned, none, some, with, ended, more, tokensAfter}
@@ -50,10 +51,6 @@ unfolding tokensAfter
 left-none bs at h = ap (tokensAfter 0) (drop-of-length-le bs {i = at} h)
 
 -- ---- one token more
-
-and-swap : (a b c : Bool) → (a && (b && c)) ≡ (b && (a && c))
-and-swap true b c = refl
-and-swap false b c = sym (and-false b)
 
 regroup : (f a b l x y : Bool) → (f && (l && ((a && x) && (b && y)))) ≡ ((f && (a && b)) && (l && (x && y)))
 regroup f a b l x y = simp (and-assoc, and-comm, and-swap)

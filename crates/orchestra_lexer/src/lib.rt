@@ -11,10 +11,11 @@ use orchestra_tokens::byte_at;
 ghost use mathlib.Core.Path.{_≡_};
 ghost use mathlib.Core.Bool.{true};
 ghost use mathlib.Core.List.{[]};
-ghost use Prim.Native.Nat.{_<_, _≤_};
+ghost use Prim.Native.Nat.{_<_, _≤_, _+_};
 ghost use lib.ListN.{drop, length};
 ghost use Rattle.base_answer.specs.declared.Answer.the-variants.{Taken};
 ghost use Rattle.base_timebase.specs.Time.{finiteBits};
+ghost use Rattle.orchestra_tokens.specs.Measures.{longest};
 ghost use Rattle.orchestra_tokens.specs.Encoding.{valid};
 ghost use Rattle.orchestra_tokens.specs.inside.Scanning.{twoOf, fourOf, more as moreOf, tokensOf};
 ghost use Rattle.orchestra_tokens.specs.inside.Passes.{standing, found, scanned};
@@ -35,9 +36,9 @@ fn wide(b: u8) -> u32
     b as u32
 }
 
-// The whole number of the two bytes from `at`, and of the four.
+// The whole number of the two bytes from `at`, and of the four, which stand behind a token's first byte.
 fn two_at(bytes: &[u8], at: usize) -> u32
-    requires { ⌜ at ≤ 20000 ⌝ }
+    requires { ⌜ at ≤ longest + 3 ⌝ }
     ensures low { λ r. ⌜ r < 65536 ⌝ }
     ensures is { λ r. ⌜ r ≡ twoOf (drop at (now (bytes .entry))) ⌝ }
 {
@@ -47,7 +48,7 @@ fn two_at(bytes: &[u8], at: usize) -> u32
 }
 
 fn four_at(bytes: &[u8], at: usize) -> u32
-    requires { ⌜ at ≤ 19000 ⌝ }
+    requires { ⌜ at ≤ longest + 1 ⌝ }
     ensures { λ r. ⌜ r ≡ fourOf (drop at (now (bytes .entry))) ⌝ }
 {
     let high = two_at(bytes, at);
@@ -83,7 +84,7 @@ fn is_finite(w: u32) -> bool
 
 // Whether the token that stands at `at` is listed and its number is in range.
 fn is_valid(bytes: &[u8], at: usize) -> bool
-    requires { ⌜ at ≤ 16384 ⌝ }
+    requires { ⌜ at ≤ longest ⌝ }
     ensures { λ r. ⌜ r ≡ valid (standing (now (bytes .entry)) at) ⌝ }
 {
     let k = byte_at(bytes, at);
@@ -103,7 +104,7 @@ fn is_valid(bytes: &[u8], at: usize) -> bool
 }
 
 fn scan(bytes: &[u8]) -> ScanResult
-    requires { ⌜ length (now bytes) ≤ 16384 ⌝ }
+    requires { ⌜ length (now bytes) ≤ longest ⌝ }
     ensures { λ r. ⌜ r ≡ scanned (now (bytes .entry)) ⌝ }
 {
     let mut m = Measure {
@@ -130,7 +131,7 @@ fn scan(bytes: &[u8]) -> ScanResult
 
 // The word and the float of the token that stands at `at`.
 fn word_from(bytes: &[u8], at: usize) -> u32
-    requires { ⌜ at ≤ 16384 ⌝ }
+    requires { ⌜ at ≤ longest ⌝ }
     ensures { λ r. ⌜ r ≡ wordOf (standing (now (bytes .entry)) at) ⌝ }
 {
     let k = byte_at(bytes, at);
@@ -144,7 +145,7 @@ fn word_from(bytes: &[u8], at: usize) -> u32
 }
 
 fn real_from(bytes: &[u8], at: usize) -> f32
-    requires { ⌜ (at ≤ 16384) × (valid (standing (now bytes) at) ≡ true) ⌝ }
+    requires { ⌜ (at ≤ longest) × (valid (standing (now bytes) at) ≡ true) ⌝ }
     ensures { λ r. ⌜ r ≡ realOf (standing (now (bytes .entry)) at) ⌝ }
 {
     let k = byte_at(bytes, at);
@@ -175,7 +176,7 @@ fn refused(a: Answer) -> Tokens
 
 // The second pass, over bytes that the first one took.
 fn store(bytes: &[u8], count: usize) -> Tokens
-    requires { ⌜ (length (now bytes) ≤ 16384) × (scanned (now bytes) ≡ found Taken count) ⌝ }
+    requires { ⌜ (length (now bytes) ≤ longest) × (scanned (now bytes) ≡ found Taken count) ⌝ }
     ensures { λ r. ⌜ r ≡ judged (tokensOf (now (bytes .entry))) ⌝ }
 {
     let mut kinds: [u8; 2048] = [0; 2048];

@@ -10,7 +10,7 @@ use lib.Seq.{drop-cons, getD-take, length-take-le}
 use lib.Dec.{eqb, leb, ltb, leb·suc-suc}
 use borrow.Author.Tests.{eq-eqb, ne-eqb, lt-ltb, le-ltb, lt-leb, le-leb, ltb-true, ltb-false}
 use Rattle.orchestra_syntax.specs.Names.{symbols, has}
-use Rattle.orchestra_syntax.specs.inside.Placed.{placeFrom, place, speedOfKind}
+use Rattle.orchestra_syntax.specs.inside.Placed.{placedAs, placeFrom, place, speedOfKind}
 use Rattle.orchestra_name_rules.specs.Table.{ownOf, seekIn}
 
 -- ---- the loop of `seek`
@@ -112,11 +112,11 @@ seek-none (w ∷ ws) ks s p le = go (eqb w s) (λ h. seek-none ws (drop 1 ks) s 
     go false h le = h (omega arith)
 
 module _ (table ks : List ℕ) (n s i : ℕ) (fits : n ≤ length table) (e : i ≡ seekIn (take n table) s) where
-  pub place-found : (r : ℕ) → i < n → r ≡ speedOfKind (getD ks i 0) → 16 * r + i ≡ place (ownOf (take n table) ks) s
-  place-found r lt q =
+  pub place-found : {r c : ℕ} → i < n → r ≡ speedOfKind (getD ks i 0) → c ≡ placedAs r i → c ≡ place (ownOf (take n table) ks) s
+  place-found lt q c =
       let l = length-take-le n table fits in
       let f = seek-from (take n table) ks s 0 (omega (arith, l, e)) in
-      rw (q, e) (omega (arith, f))
+      c ∙ rw (q, e) (omega (arith, f))
 
   pub place-none : n ≤ i → 0 ≡ place (ownOf (take n table) ks) s
   place-none le = let l = length-take-le n table fits in sym (seek-none (take n table) ks s 0 (omega (arith, l, e)))

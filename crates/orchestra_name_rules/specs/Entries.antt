@@ -45,7 +45,7 @@ titlesAfter End n ts = ts
 titlesAfter Declare n ts = ts
 titlesAfter Instr n ts = cond (ltb (length ts) 8) (ts ++ n ∷ []) ts
 
--- a name that is used becomes 16 * rate + place; one that is declared stays
+-- a name that is used stands by its place; one that is declared stays
 abbrev pub placedName : OpClass → ℕ → List Named → ℕ
 placedName Value n ms = n
 placedName Name n ms = place ms n

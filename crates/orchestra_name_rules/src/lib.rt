@@ -1,4 +1,5 @@
 // The name rules of one instruction, the tables of names after it, and its name put by its place.
+use orchestra_syntax::MOST_NAMES;
 use orchestra_syntax::OpClass;
 ghost use mathlib.Core.Path.{_≡_};
 ghost use mathlib.Core.Bool.{not, _&&_};
@@ -11,16 +12,7 @@ ghost use Rattle.orchestra_syntax.specs.inside.Placed.{place as placeOf, speedO
 ghost use Rattle.orchestra_name_rules.specs.Entries.{valid, namesAfter, titlesAfter, placedName};
 ghost use Rattle.orchestra_name_rules.specs.Table.{seekIn, own};
 
-// Rates as numbers, i slowest.
-const I_RATE: u16 = 0;
-
-const K_RATE: u16 = 1;
-
-const A_RATE: u16 = 2;
-
-// How many names an instrument has at most, fields included, and how many instruments there are at most.
-const MOST_NAMES: usize = 16;
-
+// How many instruments there are at most.
 const MOST_INSTRUMENTS: usize = 8;
 
 // Tables of names are slices of which the first n words are filled.
@@ -63,25 +55,25 @@ fn rate_of_kind(k: u8) -> u16
     ensures is { λ r. ⌜ r ≡ speedOfKind k ⌝ }
 {
     if k == orchestra_syntax::FIELD {
-        return I_RATE;
+        return orchestra_syntax::I_RATE;
     }
     if k == orchestra_signs::IVAR {
-        return I_RATE;
+        return orchestra_syntax::I_RATE;
     }
     if k == orchestra_signs::ASIG {
-        return A_RATE;
+        return orchestra_syntax::A_RATE;
     }
-    K_RATE
+    orchestra_syntax::K_RATE
 }
 
-// 16 * rate + place of a name; 0 where there is none.
+// A name by its place; 0 where there is none.
 fn place(symbols: &[u16], kinds: &[u8], n: usize, s: u16) -> u16
     requires { ⌜ (n ≤ 16) × (n ≤ length (now symbols)) × (n ≤ length (now kinds)) ⌝ }
     ensures { λ r. ⌜ r ≡ placeOf (own (now (symbols .entry)) (now (kinds .entry)) n) s ⌝ }
 {
     let i = seek(symbols, n, s);
     if i < n {
-        return 16 * rate_of_kind(kinds[i]) + (i as u16);
+        return orchestra_syntax::placed_as(rate_of_kind(kinds[i]), i as u16);
     }
     0
 }

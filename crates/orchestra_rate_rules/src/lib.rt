@@ -1,19 +1,14 @@
 // The rate rules of one instruction whose name is put by its place, and the rates after it.
+use orchestra_syntax::A_RATE;
+use orchestra_syntax::I_RATE;
+use orchestra_syntax::K_RATE;
 use orchestra_syntax::OpClass;
 ghost use mathlib.Core.Path.{_≡_};
 ghost use mathlib.Core.Bool.{_&&_};
 ghost use Prim.Native.Nat.{_-_, _<_, max};
 ghost use lib.Dec.{leb};
 ghost use Rattle.orchestra_syntax.specs.inside.Program.{opClassOf};
-ghost use Rattle.orchestra_syntax.specs.inside.Placed.{rateOf};
 ghost use Rattle.orchestra_rate_rules.specs.Change.{rates, guard as guardOf, entered as enteredOf, left as leftOf, ratesValid, ratesAfter};
-
-// Rates as numbers, i slowest.
-pub const I_RATE: u16 = 0;
-
-const K_RATE: u16 = 1;
-
-const A_RATE: u16 = 2;
 
 // The fastest part of the expression so far; how many ifs are open from the first on whose guard, or one around it, has rate k, and
 // rate a.
@@ -21,12 +16,6 @@ pub struct Rates {
     pub fastest: u16,
     pub kdeep: usize,
     pub adeep: usize,
-}
-
-fn rate_of(n: u16) -> u16
-    ensures { λ r. ⌜ r ≡ rateOf n ⌝ }
-{
-    n / 16 % 4
 }
 
 fn faster(x: u16, y: u16) -> u16
@@ -74,19 +63,13 @@ fn entered(m: u16, q: Rates) -> Rates
     }
 }
 
-fn less_one(n: usize) -> usize
-    ensures { λ r. ⌜ r ≡ n - 1 ⌝ }
-{
-    if n == 0 { 0 } else { n - 1 }
-}
-
 fn left(q: Rates) -> Rates
     ensures { λ r. ⌜ r ≡ leftOf q ⌝ }
 {
     Rates {
         fastest: q.fastest,
-        kdeep: less_one(q.kdeep),
-        adeep: less_one(q.adeep),
+        kdeep: base_numbers::one_less(q.kdeep),
+        adeep: base_numbers::one_less(q.adeep),
     }
 }
 
@@ -116,7 +99,7 @@ pub fn rate_valid(op: u8, arg: u16, q: Rates) -> bool
     match orchestra_syntax::op_class(op) {
         OpClass::Value => true,
         OpClass::Name => true,
-        OpClass::Store => assigns(q, rate_of(arg)),
+        OpClass::Store => assigns(q, orchestra_syntax::rate_of(arg)),
         OpClass::Output => true,
         OpClass::If => true,
         OpClass::Else => true,
@@ -133,7 +116,7 @@ pub fn rates_after(op: u8, arg: u16, q: Rates) -> Rates
     match orchestra_syntax::op_class(op) {
         OpClass::Value => q,
         OpClass::Name => {
-            let m = faster(q.fastest, rate_of(arg));
+            let m = faster(q.fastest, orchestra_syntax::rate_of(arg));
             ended(q, m)
         }
         OpClass::Store => ended(q, I_RATE),

@@ -17,7 +17,7 @@ use Rattle.orchestra_tokens.specs.declared.Token.{Token}
 use Rattle.orchestra_tokens.specs.declared.Tokens.{Tokens}
 use Rattle.orchestra_tokens.specs.inside.Token.{toks}
 use Rattle.orchestra_tokens.specs.inside.Scanning.{Scanned as Encoded, none, some, tokensOf}
-use Rattle.orchestra_tokens.specs.Measures.{measured, bracketsWithin, stretchesWithin}
+use Rattle.orchestra_tokens.specs.Measures.{longest, measured, bracketsWithin, stretchesWithin}
 use Rattle.orchestra_tokens.specs.inside.Reading.{stored as stored·tokens, judged, readOf as tokens·of}
 use Rattle.orchestra_tokens.proofs.RoundTrip.{impossible as never, tokens-valid, stored-tokens}
 use Rattle.orchestra_syntax.specs.Tree.{Instrument}
@@ -142,9 +142,9 @@ few-tokens ts e = leb-true (length ts) 2048 (both-true (leb (length ts) 2048) (b
 
 view : (bs : List ℕ) → View bs (tokens·of bs)
 unfolding tokens·of readOf
-view bs = by-arm (View bs) (ltb 16384 (length bs)) _ _ (λ e. not·encoded TooLarge refl (rw e)) (λ e. by-tokens e (tokensOf bs) refl)
+view bs = by-arm (View bs) (ltb longest (length bs)) _ _ (λ e. not·encoded TooLarge refl (rw e)) (λ e. by-tokens e (tokensOf bs) refl)
   where
-    by-tokens : ltb 16384 (length bs) ≡ false → (g : Encoded) → tokensOf bs ≡ g → View bs (judged g)
+    by-tokens : ltb longest (length bs) ≡ false → (g : Encoded) → tokensOf bs ≡ g → View bs (judged g)
     by-tokens l none e = not·encoded BadToken refl (rw (l, e))
     by-tokens l (some ts) e = by-arm (View bs) (measured ts) _ _ (λ m. encoded ts (few-tokens ts m) e (rw (l, e, m))) (λ m. not·encoded TooLarge refl (rw (l, e, m)))
 

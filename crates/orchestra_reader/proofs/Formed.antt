@@ -15,7 +15,7 @@ kind-declares ksig = refl
 kind-declares asig = refl
 kind-declares imports = refl
 
-formed-kinds : {ds : List Declaration} {ts : List Token} → Decls ds ts → FormedKinds ds
+pub formed-kinds : {ds : List Declaration} {ts : List Token} → Decls ds ts → FormedKinds ds
 unfolding FormedKinds
 formed-kinds no·decls = tt
 formed-kinds (some·decls K N D) = (kind-declares K, formed-kinds D)

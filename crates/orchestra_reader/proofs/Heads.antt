@@ -94,7 +94,7 @@ heads-are (i ∷ is) f n =
     let p = plain-append (declare-plain fieldKind refl (i .fields)) (plain-append (declared-plain (i .declarations) (f .0)) (code-plain (i .body))) in
     instr-starts n i p (program is) ∙ ap (λ l. n ∷ l) (heads-are is (f .1) _)
 
-length-heads : (n : ℕ) (is : List Instrument) → length (headsFrom n is) ≡ length is
+pub length-heads : (n : ℕ) (is : List Instrument) → length (headsFrom n is) ≡ length is
 unfolding headsFrom
 length-heads n [] = refl
 length-heads n (i ∷ is) = ap suc (length-heads _ is)

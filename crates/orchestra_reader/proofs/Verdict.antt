@@ -74,7 +74,7 @@ module _ (bs : List ℕ) (ts : List Token) (s : Sized bs ts) where
 pub every-verdict : EveryVerdict
 unfolding readOf
 every-verdict bs b =
-    by-arm (Verdict bs) (ltb 16384 (length bs)) _ _ (λ e. tooLong (ltb-true 16384 (length bs) e)) (λ e. by-tokens (ltb-false 16384 (length bs) e) (tokensOf bs) refl)
+    by-arm (Verdict bs) (ltb longest (length bs)) _ _ (λ e. tooLong (ltb-true longest (length bs) e)) (λ e. by-tokens (ltb-false longest (length bs) e) (tokensOf bs) refl)
   where
     by-tokens : length bs ≤ longest → (g : Scanned) → tokensOf bs ≡ g → Verdict bs (byTokens g)
     by-tokens le none e = noTokens le (every-scan bs b .unspelt e)
@@ -91,7 +91,7 @@ one-reading bs is js a b =
 accepted-read : (bs : List ℕ) (is : List Instrument) → Accepted bs is → readOf bs ≡ taken (compile is)
 unfolding readOf
 accepted-read bs is a =
-    let n : ltb 16384 (length bs) ≡ false = le-ltb 16384 (length bs) (a .sized .short) in
+    let n : ltb longest (length bs) ≡ false = le-ltb longest (length bs) (a .sized .short) in
     rw (n, encoded-found bs (a .tokens) (a .sized .encodes), a .sized .within, complete (a .derived))
     (names-judged (a .derived) true (a .named) ∙ rates-judged (a .derived) (a .named) true (a .rated))
 
@@ -103,13 +103,13 @@ unread-so ts f (ok c r) (read h) = absurd (f (h .tree) (h .derives))
 -- tokens within the sizes are judged by the grammar
 sized-read : (bs : List ℕ) (ts : List Token) → Sized bs ts → readOf bs ≡ byGrammar (orchestra ts)
 unfolding readOf
-sized-read bs ts s = rw (le-ltb 16384 (length bs) (s .short), encoded-found bs ts (s .encodes), s .within)
+sized-read bs ts s = rw (le-ltb longest (length bs) (s .short), encoded-found bs ts (s .encodes), s .within)
 
 pub verdict-given : VerdictGiven
 unfolding readOf
-verdict-given bs r b (tooLong lt) = rw (lt-ltb 16384 (length bs) lt)
-verdict-given bs r b (noTokens le f) = rw (le-ltb 16384 (length bs) le, every-scan bs b .nothing f)
-verdict-given bs r b (tooLarge ts le s m) = rw (le-ltb 16384 (length bs) le, encoded-found bs ts s, m)
+verdict-given bs r b (tooLong lt) = rw (lt-ltb longest (length bs) lt)
+verdict-given bs r b (noTokens le f) = rw (le-ltb longest (length bs) le, every-scan bs b .nothing f)
+verdict-given bs r b (tooLarge ts le s m) = rw (le-ltb longest (length bs) le, encoded-found bs ts s, m)
 verdict-given bs r b (outside ts s f) = sized-read bs ts s ∙ unread-so ts f (orchestra ts) (sound ts)
 verdict-given bs r b (misnamed ts is s d n) = sized-read bs ts s ∙ ap byGrammar (complete d) ∙ names-judged d false n
 verdict-given bs r b (misrated ts is s d n e) = sized-read bs ts s ∙ ap byGrammar (complete d) ∙ names-judged d true n ∙ rates-judged d n false e
@@ -148,4 +148,4 @@ by-scan (some ts) = blank-if (measured ts) _ _ (by-grammar (orchestra ts)) (λ n
 
 pub refused-blank : RefusedBlank
 unfolding readOf
-refused-blank bs = blank-if (ltb 16384 (length bs)) _ _ (λ n. refl) (by-scan (tokensOf bs))
+refused-blank bs = blank-if (ltb longest (length bs)) _ _ (λ n. refl) (by-scan (tokensOf bs))

@@ -2,12 +2,13 @@
 use Prim.Native.Nat.{ℕ, suc, _+_, _≤_}
 use native.Mathlib.Omega.{arith}
 use native.Mathlib.Nat.{zero-add, add-zero}
-use mathlib.Core.Path.{_≡_, refl, sym, ap, _∙_}
+use mathlib.Core.Path.{_≡_, refl, ap, _∙_}
 use mathlib.Core.List.{List, [], _∷_, _++_, map, append-assoc, append-nil, map-append}
-use mathlib.Core.Bool.{Bool, true, false, not, _&&_, cond, and-assoc, and-comm, and-false}
+use mathlib.Core.Bool.{Bool, true, false, not, _&&_, cond, and-assoc, and-comm}
 use lib.ListN.{length, length-append}
 use lib.Dec.{leb, ltb}
 use borrow.Author.Tests.{le-leb, lt-leb, ltb-true, ltb-false}
+use Rattle.base_laws.proofs.Choice.{and-swap}
 use Rattle.orchestra_syntax.specs.Tree.{Expr, number, name, unary, binary, choose, Statements, done, assign, output, branch, Instrument}
 use Rattle.orchestra_syntax.specs.inside.Program.{Ins, ins, insArg, opClassOf, chooseOp, instrOp, compile, code, instrument, program, unaryOp, binaryOp}
 use Rattle.orchestra_syntax.specs.Names.{Named, namesOf, symbols, has, apart, knownIn, known, obeysNameRules, allObeyNameRules, titleOf, nameRules}
@@ -51,10 +52,6 @@ module _ (ts : List ℕ) (ms : List Named) where
 
 pub length-end : {A : Type 0} (l : List A) (a : A) → length (l ++ a ∷ []) ≡ length l + 1
 length-end l a = length-append l (a ∷ [])
-
-and-swap : (a b c : Bool) → (a && (b && c)) ≡ (b && (a && c))
-and-swap true b c = refl
-and-swap false b c = sym (and-false b)
 
 regroup : (h l a k : Bool) → (h && ((l && a) && k)) ≡ ((l && (h && a)) && k)
 regroup h l a k = simp (and-assoc, and-comm, and-swap)

@@ -1,6 +1,5 @@
 // The name rules and the rate rules as passes over a program, and its names put by their places. A program is given as two slices: an
 // operation for each instruction, and the name (or the place) that it has.
-use orchestra_rate_rules::I_RATE;
 use orchestra_rate_rules::Rates;
 ghost use mathlib.Core.Path.{_≡_};
 ghost use Rattle.orchestra_rules.specs.Naming.{namesPass, placesPass};
@@ -61,7 +60,7 @@ pub fn obeys_rate_rules(ops: &[u8], args: &[u16]) -> bool
     ensures { λ r. ⌜ r ≡ ratesPass (now (ops .entry)) (now (args .entry)) ⌝ }
 {
     let mut q = Rates {
-        fastest: I_RATE,
+        fastest: orchestra_syntax::I_RATE,
         kdeep: 0,
         adeep: 0,
     };

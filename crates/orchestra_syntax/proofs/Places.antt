@@ -1,12 +1,12 @@
 -- Place and rate of a coded name are the declared ones.
-use Prim.Native.Nat.{ℕ, zero, suc, _+_, _*_, _/_, _%_, _≤_, _<_, max}
+use Prim.Native.Nat.{ℕ, suc, _+_, _*_, _≤_, _<_}
 use native.Mathlib.Omega.{arith}
 use mathlib.Core.Path.{_≡_, refl, sym, ap, _∙_, subst}
 use mathlib.Core.Bool.{Bool, true, false, not, _&&_, _||_, cond, true≢false}
-use mathlib.Core.List.{List, [], _∷_, _++_, map}
-use lib.ListN.{length, getD}
+use mathlib.Core.List.{List, [], _∷_, _++_}
+use lib.ListN.{length}
 use lib.Dec.{eqb, leb}
-use borrow.Author.Tests.{eqb-true, leb-true, eq-eqb}
+use borrow.Author.Tests.{eqb-true, leb-true, eq-eqb, not-true}
 use Rattle.base_laws.proofs.Choice.{both-true}
 use Rattle.orchestra_syntax.specs.Tree.{Instrument}
 use Rattle.orchestra_syntax.specs.Names.{Named, namesOf, symbols, has, apart, distinct, known, obeysNameRules}
@@ -85,10 +85,6 @@ has-end x n (m ∷ ns) e = go (eqb m x) (λ h. has-end x n ns h) e
         → ((b || has x ns) ≡ false) × (eqb n x ≡ false)
     go true h e = absurd (true≢false e)
     go false h e = h e
-
-not-true : (b : Bool) → not b ≡ true → b ≡ false
-not-true true e = sym e
-not-true false e = refl
 
 -- a name that comes later is none of those before
 later : (before us vs : List ℕ) (n : ℕ) → apart before (us ++ n ∷ vs) ≡ true → has n before ≡ false

@@ -1,6 +1,8 @@
-// The kinds of instruction in an orchestra's program; the trees and rules themselves stand in specs/.
+// The kinds of instruction in an orchestra's program, and its names by their places; the trees and rules themselves stand in specs/.
 ghost use mathlib.Core.Path.{_≡_};
+ghost use Prim.Native.Nat.{_≤_};
 ghost use Rattle.orchestra_syntax.specs.inside.Program.{opClassOf};
+ghost use Rattle.orchestra_syntax.specs.inside.Placed.{placedAs, rateOf, placeOf};
 
 // What an operation is to the passes over a program.
 pub enum OpClass {
@@ -25,6 +27,38 @@ pub const NEGATIVE: u8 = orchestra_signs::SIGNS + 1;
 
 // A field's declaration.
 pub const FIELD: u8 = 0;
+
+// Rates as numbers, i slowest.
+pub const I_RATE: u16 = 0;
+
+pub const K_RATE: u16 = 1;
+
+pub const A_RATE: u16 = 2;
+
+// How many names an instrument has at most, fields included.
+pub const MOST_NAMES: usize = 16;
+
+const PLACES: u16 = MOST_NAMES as u16;
+
+// A name by its place: its rate and its place among the instrument's names, as one number.
+pub fn placed_as(rate: u16, place: u16) -> u16
+    requires { ⌜ (rate ≤ 2) × (place ≤ 15) ⌝ }
+    ensures { λ r. ⌜ r ≡ placedAs rate place ⌝ }
+{
+    PLACES * rate + place
+}
+
+pub fn rate_of(name: u16) -> u16
+    ensures { λ r. ⌜ r ≡ rateOf name ⌝ }
+{
+    name / PLACES % 4
+}
+
+pub fn place_of(name: u16) -> u16
+    ensures { λ r. ⌜ r ≡ placeOf name ⌝ }
+{
+    name % PLACES
+}
 
 pub fn op_class(op: u8) -> OpClass
     ensures { λ r. ⌜ r ≡ opClassOf op ⌝ }

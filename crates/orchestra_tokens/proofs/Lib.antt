@@ -1,4 +1,3 @@
-mod Past
 mod HeldTokens
 mod Counting
 pub mod RoundTrip

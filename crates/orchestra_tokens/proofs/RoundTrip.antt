@@ -3,17 +3,19 @@ use Prim.Native.Nat.{ℕ, zero, suc, _+_, _*_, _/_, _%_, _^_, _<_}
 use native.Mathlib.Omega.{arith}
 use native.Mathlib.Nat.{mod-eq-of-lt}
 use mathlib.Core.Path.{_≡_, refl, sym, ap, _∙_, subst}
-use mathlib.Core.Bool.{Bool, true, false, not, _&&_}
+use mathlib.Core.Bool.{Bool, true, false, _&&_}
 use mathlib.Core.List.{List, [], _∷_, _++_, map}
 use lib.ListN.{length, take, drop, replicate, length-map}
 use lib.Seq.{take-at}
 use denote.Floats.{passes}
 use borrow.Table.Steps.{cases}
-use lib.Dec.{T, eqb, leb, ltb}
-use lib.Ieee.{Float, nan, inf, fin, binary32, ofBits, toBits, isNan, fits}
+use lib.Dec.{eqb, leb, ltb}
+use lib.Ieee.{Float, binary32, ofBits, toBits, fits}
 use lib.Ieee.Bits.{ofBits-toBits, toBits-ofBits, toBits-lt}
 use lib.Ieee.Scale.{finite}
 use borrow.Author.Tests.{ltb-true, leb-true, eqb-true, ne-eqb}
+use Rattle.base_timebase.proofs.RangesAndTicks.{finite-no-nan}
+use Rattle.base_laws.proofs.Choice.{both-true}
 use Rattle.orchestra_tokens.specs.inside.Token.{zeroF, tokenOf, toks}
 use Rattle.orchestra_tokens.specs.Encoding.{valid, allValid, two, four, encoded, bytesOf, Bytes, Encodes, OneDecoding}
 use Rattle.orchestra_tokens.specs.inside.Scanning.{more, tokenFrom, Scanned, none, some, with, ended, tokensAfter, tokensOf, EveryScan}
@@ -40,14 +42,6 @@ after-drop (suc n) [] = refl
 after-drop zero (b ∷ bs) = refl
 after-drop (suc n) (b ∷ bs) = after-drop n bs
 
-and-left : (a b : Bool) → (a && b) ≡ true → a ≡ true
-and-left true b e = refl
-and-left false b e = e
-
-and-right : (a b : Bool) → (a && b) ≡ true → b ≡ true
-and-right true b e = e
-and-right false b e = impossible (cc)
-
 -- ---- from tokens to bytes and back
 
 four-back : (w : ℕ) → w < 2 ^ 32 → 16777216 * (w / 16777216) + (65536 * (w / 65536 % 256) + (256 * (w / 256 % 256) + w % 256)) ≡ w
@@ -63,13 +57,13 @@ module _ (rest : List ℕ) where
   pub token-back : (t : Token) → valid t ≡ true → reads t
   unfolding tokensAfter encoded tokenFrom
   token-back (Number x) e =
-      let f = passes (fits binary32 x) (and-right (finite x) (fits binary32 x) e) in
+      let f = passes (fits binary32 x) (both-true (finite x) (fits binary32 x) e .1) in
       rw (four-back (toBits binary32 x) (toBits-lt binary32 x f), ofBits-toBits binary32 x f, e)
   token-back (Symbol s) e = rw (two-back s (ltb-true s 65536 e), e)
   token-back (Whole w) e = let h = ltb-true w 16777217 e in rw (four-back w (omega arith), e)
   token-back (Sign k) e =
-      let lo = ltb-true 0 k (and-left (ltb 0 k) (leb k 36) e) in
-      let hi = leb-true k 36 (and-right (ltb 0 k) (leb k 36) e) in
+      let lo = ltb-true 0 k (both-true (ltb 0 k) (leb k 36) e .0) in
+      let hi = leb-true k 36 (both-true (ltb 0 k) (leb k 36) e .1) in
       rw (ne-eqb k 0xff (λ q. omega arith), ne-eqb k 0xf0 (λ q. omega arith), ne-eqb k 0xf1 (λ q. omega arith), ne-eqb k 0xf2 (λ q. omega arith), e)
 
 -- the tokens of the bytes of valid tokens are those tokens
@@ -77,7 +71,7 @@ pub tokens-bytes : (ts : List Token) → allValid ts ≡ true → tokensOf (byte
 unfolding bytesOf allValid tokensAfter
 tokens-bytes [] e = refl
 tokens-bytes (t ∷ ts) e =
-    token-back (bytesOf ts) t (and-left (valid t) (allValid ts) e) ∙ ap (with t) (tokens-bytes ts (and-right (valid t) (allValid ts) e))
+    token-back (bytesOf ts) t (both-true (valid t) (allValid ts) e .0) ∙ ap (with t) (tokens-bytes ts (both-true (valid t) (allValid ts) e .1))
 
 -- ---- from bytes to tokens and back
 
@@ -104,12 +98,6 @@ four-encoded a b c d p q r s =
     let h : w % 256 ≡ d = omega arith in
     rw (e, f, g, h)
 
-finite-no-nan : (x : Float) → finite x ≡ true → T (not (isNan x))
-unfolding isNan
-finite-no-nan nan e = impossible (cc)
-finite-no-nan (inf s) e = impossible (cc)
-finite-no-nan (fin s m d) e = tt
-
 -- bytes that are left start with as many as belong to the token before
 after-none : (n : ℕ) (ts : List Token) → tokensAfter n [] ≡ some ts → _≡_ {A = ℕ} 0 1
 unfolding tokensAfter
@@ -131,7 +119,7 @@ module _ (ts : List Token) where
   number-encoded (a ∷ b ∷ c ∷ d ∷ bs) p l e =
       let w = 16777216 * a + (65536 * b + (256 * c + d)) in
       let h : w < 2 ^ 32 = omega (arith, p .0, p .1 .0, p .1 .1 .0, p .1 .1 .1 .0) in
-      let n = finite-no-nan (ofBits binary32 w) (and-left (finite (ofBits binary32 w)) (fits binary32 (ofBits binary32 w)) l) in
+      let n = finite-no-nan (ofBits binary32 w) (both-true (finite (ofBits binary32 w)) (fits binary32 (ofBits binary32 w)) l .0) in
       rw (toBits-ofBits binary32 w h n) (ap (λ m. 0xf1 ∷ (m ++ bs)) (four-encoded a b c d (p .0) (p .1 .0) (p .1 .1 .0) (p .1 .1 .1 .0)))
 
   whole-encoded : (bs : List ℕ) → Bytes bs → tokensAfter 4 bs ≡ some ts → encoded (tokenFrom 0xf2 bs) ++ drop 4 bs ≡ 0xf2 ∷ bs
@@ -257,14 +245,14 @@ stored-one (Number x) e = refl
 stored-one (Symbol s) e = ap Symbol (mod-eq-of-lt (ltb-true s 65536 e))
 stored-one (Whole w) e = refl
 stored-one (Sign k) e =
-    let hi = leb-true k 36 (and-right (ltb 0 k) (leb k 36) e) in
+    let hi = leb-true k 36 (both-true (ltb 0 k) (leb k 36) e .1) in
     rw (ne-eqb k 0xf0 (λ q. omega arith), ne-eqb k 0xf1 (λ q. omega arith), ne-eqb k 0xf2 (λ q. omega arith))
 
 stored-all : (ts : List Token) (ws : List ℕ) (xs : List Float) → allValid ts ≡ true → toks (map kindOf ts) (map wordOf ts ++ ws) (map realOf ts ++ xs) ≡ ts
 unfolding toks allValid
 stored-all [] ws xs e = refl
 stored-all (t ∷ ts) ws xs e =
-    rw (stored-one t (and-left (valid t) (allValid ts) e)) (ap (λ l. t ∷ l) (stored-all ts ws xs (and-right (valid t) (allValid ts) e)))
+    rw (stored-one t (both-true (valid t) (allValid ts) e .0)) (ap (λ l. t ∷ l) (stored-all ts ws xs (both-true (valid t) (allValid ts) e .1)))
 
 -- the three arrays hold the tokens that were put in
 pub stored-tokens : (ts : List Token) → allValid ts ≡ true

@@ -7,7 +7,7 @@ ghost use lib.Dec.{leb};
 ghost use lib.ListN.{getD};
 ghost use Rattle.base_answer.specs.declared.Answer.the-variants.{BadToken};
 ghost use Rattle.orchestra_tokens.specs.inside.Token.{tokenAt, zeroF};
-ghost use Rattle.orchestra_tokens.specs.Measures.{opened as openedOf, since as sinceOf};
+ghost use Rattle.orchestra_tokens.specs.Measures.{longest, opened as openedOf, since as sinceOf};
 ghost use Rattle.orchestra_tokens.specs.inside.Passes.{found, next as nextOf, closedOf};
 
 // The first bytes of tokens that are no signs.
@@ -78,7 +78,7 @@ pub fn token_at(kinds: &[u8], words: &[u32], reals: &[f32], at: usize) -> Token
 }
 
 // What is counted of the tokens so far: how many, how many brackets are open, how many since the last of ; { } or the
-// start; and whether the last two kept their limits.
+// start; and whether the last two kept their limits. There is at most a token to a byte, so that none of these passes the most bytes.
 pub struct Measure {
     pub count: usize,
     pub depth: usize,
@@ -87,7 +87,7 @@ pub struct Measure {
 }
 
 fn opened(n: usize, k: u8) -> usize
-    requires { ⌜ n ≤ 20000 ⌝ }
+    requires { ⌜ n ≤ longest ⌝ }
     ensures low { λ r. ⌜ r ≤ n + 1 ⌝ }
     ensures is { λ r. ⌜ r ≡ openedOf n k ⌝ }
 {
@@ -110,7 +110,7 @@ fn opened(n: usize, k: u8) -> usize
 }
 
 fn since(n: usize, k: u8) -> usize
-    requires { ⌜ n ≤ 20000 ⌝ }
+    requires { ⌜ n ≤ longest ⌝ }
     ensures low { λ r. ⌜ r ≤ n + 1 ⌝ }
     ensures is { λ r. ⌜ r ≡ sinceOf n k ⌝ }
 {
@@ -140,7 +140,7 @@ fn limited(fits: bool, depth: usize, run: usize) -> bool
 
 // The measures after one more token, of the kind k.
 pub fn next(m: Measure, k: u8) -> Measure
-    requires { ⌜ (m .count ≤ 20000) × (m .depth ≤ 20000) × (m .run ≤ 20000) ⌝ }
+    requires { ⌜ (m .count ≤ longest) × (m .depth ≤ longest) × (m .run ≤ longest) ⌝ }
     ensures { λ r. ⌜ r ≡ nextOf m k ⌝ }
 {
     let depth = opened(m.depth, k);

@@ -1,20 +1,23 @@
 -- One law for each call.
-use mathlib.Core.Path.{_≡_, ap, _∙_}
-use mathlib.Core.Bool.{Bool}
+use mathlib.Core.Path.{_≡_, sym, ap, _∙_}
+use mathlib.Core.Bool.{Bool, true, false}
 use mathlib.Core.List.{List}
 use Prim.Native.Nat.{ℕ}
 use Rattle.score_reader.specs.Score.{Score}
-use Rattle.player_model.specs.PlayerState.{defaultTempo}
+use Rattle.base_answer.specs.declared.Answer.the-variants.{Ended}
+use Rattle.settings_records.specs.Changes as records
+use Rattle.settings_records.specs.declared.InUse.{InUse}
+use Rattle.settings_records.specs.declared.Changed.{Changed}
+use Rattle.player_model.proofs.Lists.{cond-true, cond-false}
 use Rattle.player_model.specs.Calls.{Entrance, mustBeTimed, reads}
 use Rattle.player_start.specs.Starting.{startingOf}
 use Rattle.player_start.specs.declared.Start.{Start}
 use Rattle.entrance_readers.specs.Entrances.{entranceReadOf, scoreIn}
 use Rattle.entrance_readers.specs.declared.EntranceRead.{EntranceRead}
 use Rattle.entrance_admission.proofs.Pushing.{handed-timed, handed-brings}
-use Rattle.panel.specs.State.{tableOf, voicesOf, settingsIn, withState, panelAt}
-use Rattle.panel.specs.Calls.{freshOf, submittedOf, submitOf, receiveOf, playKeysOf, cycleOf}
+use Rattle.panel.specs.State.{tableOf, voicesOf, settingsIn, withState, withInUse, panelAt}
+use Rattle.panel.specs.Calls.{freshOf, submittedOf, submitOf, receiveOf, playKeysOf, changedIn, areaIn, undoneIn, changeOf, undoOf, cycleOf}
 use Rattle.panel.specs.declared.Panel.{Panel}
-use Rattle.panel.specs.declared.Fresh.{Fresh}
 use Rattle.entrance_admission.specs.declared.AdmissionResult.{AdmissionResult}
 use Rattle.panel.specs.declared.EntranceResult.{EntranceResult}
 use Rattle.score_bursts.specs.inside.Reading.{burstOf}
@@ -26,12 +29,31 @@ use Rattle.player_calls.specs.declared.BurstResult.{BurstResult as ReceivedIn}
 use Rattle.player_calls.specs.declared.CallResult.{CallResult}
 
 -- a fresh start, from what it starts with
-pub starts : (orchestra : List ℕ) (ceiling chosen : ℕ) (s : Start) → s ≡ startingOf defaultTempo orchestra ceiling chosen
-    → record { panel = panelAt s; answer = s .answer } ≡ freshOf orchestra ceiling chosen
+pub starts : (orchestra area first : List ℕ) (chosen : ℕ) (s : Start) → s ≡ startingOf orchestra area first chosen
+    → record { panel = panelAt s; answer = s .answer } ≡ freshOf orchestra area first chosen
 unfolding freshOf
-starts orchestra ceiling chosen s e = ap (λ (x : Start). record { panel = panelAt x; answer = x .answer }) e
+starts orchestra area first chosen s e = ap (λ (x : Start). record { panel = panelAt x; answer = x .answer }) e
 
--- a call on the panel, from the call on its state
+-- a change and an undo, 9 first
+module _ {ended : Bool} (k : InUse) (area : List ℕ) where
+  pub change-over : (handed : List ℕ) → ended ≡ true → (records.changed k Ended ≡ changedIn ended k area handed) × (area ≡ areaIn ended k area handed)
+  unfolding changedIn areaIn
+  change-over handed e = (sym (cond-true _ _ e), sym (cond-true _ _ e))
+
+  pub change-open : (handed : List ℕ) → ended ≡ false → {r : Changed} {left : List ℕ} → (r ≡ records.changeOf k area handed) × (left ≡ records.areaChanged (k .count) area handed)
+      → (r ≡ changedIn ended k area handed) × (left ≡ areaIn ended k area handed)
+  unfolding changedIn areaIn
+  change-open handed e q = (q .0 ∙ sym (cond-false _ _ e), q .1 ∙ sym (cond-false _ _ e))
+
+  pub undo-over : ended ≡ true → records.changed k Ended ≡ undoneIn ended k area
+  unfolding undoneIn
+  undo-over e = sym (cond-true _ _ e)
+
+  pub undo-open : ended ≡ false → {r : Changed} → r ≡ records.undoOf k area → r ≡ undoneIn ended k area
+  unfolding undoneIn
+  undo-open e q = q ∙ sym (cond-false _ _ e)
+
+-- a call on the panel, from the call on its state or its settings
 module _ (p : Panel) where
   pub brings-in : (timed : Bool) (s : Score) (r : BroughtIn) → r ≡ onState.submittedOf (tableOf (p .program)) (p .state) timed s
       → record { panel = withState p (r .state); answer = r .answer; line = r .line } ≡ submittedOf p timed s
@@ -46,6 +68,16 @@ module _ (p : Panel) where
   pub presses : (bytes : List ℕ) (r : CallResult) → r ≡ keyboardCallOf (p .state) bytes → record { panel = withState p (r .state); answer = r .answer } ≡ playKeysOf p bytes
   unfolding playKeysOf
   presses bytes r e = ap (λ (x : CallResult). record { panel = withState p (x .state); answer = x .answer }) e
+
+  pub changes : (area handed : List ℕ) (r : Changed) → r ≡ changedIn (p .state .playing .ended) (p .settings) area handed
+      → record { panel = withInUse p (r .settings); answer = r .answer } ≡ changeOf p area handed
+  unfolding changeOf
+  changes area handed r e = ap (λ (x : Changed). record { panel = withInUse p (x .settings); answer = x .answer }) e
+
+  pub undoes : (area : List ℕ) (r : Changed) → r ≡ undoneIn (p .state .playing .ended) (p .settings) area
+      → record { panel = withInUse p (r .settings); answer = r .answer } ≡ undoOf p area
+  unfolding undoOf
+  undoes area r e = ap (λ (x : Changed). record { panel = withInUse p (x .settings); answer = x .answer }) e
 
   pub cycles : (n : ℕ) (r : CallResult) → r ≡ cycledOf (voicesOf (p .program)) (settingsIn p) (p .state) n
       → record { panel = withState p (r .state); answer = r .answer } ≡ cycleOf p n

@@ -18,8 +18,8 @@ abbrev pub panelOf : Core → List ℕ → List Float → Panel
 panelOf c code vals =
     record {
       state = c .state;
-      ceiling = c .settings .ceiling;
-      chosen = c .settings .chosen;
+      settings = c .settings;
+      chosen = c .chosen;
       program = record { table = c .table; count = c .count; code = code; vals = vals };
     }
 

@@ -4,10 +4,13 @@ use Prim.Native.Nat.{ℕ}
 use lib.ListN.{take}
 use Rattle.player_queue.specs.declared.Queue.{Queue}
 use Rattle.player_model.specs.Cycle.{Voices}
-use Rattle.player_model.specs.PlayerState.{Settings, settingsOf, PlayerState}
+use Rattle.settings_records.specs.declared.InUse.{InUse}
+use Rattle.player_model.specs.PlayerState.{Settings, PlayerState}
 use Rattle.midi_queue.specs.declared.MessageQueue.{MessageQueue}
 use Rattle.voices_compiled.specs.Voices.{VoiceState, voices}
 use Rattle.code_program.specs.declared.Instrument.{Instrument}
+use Rattle.player_state.specs.Playing as playing
+use Rattle.player_state.specs.declared.Settings.{Settings as Now}
 use Rattle.player_state.specs.States as states
 use Rattle.player_state.specs.declared.State.{State}
 use Rattle.player_calls.specs.OnState as onState
@@ -27,13 +30,20 @@ voicesOf g = voices (tableOf g) (g .code) (g .vals)
 abbrev pub playerStateOf : Panel → PlayerState VoiceState
 playerStateOf p = states.playerStateOf (p .state)
 
--- what its fresh start fixed
-abbrev pub settingsIn : Panel → Settings
-settingsIn p = settingsOf (p .ceiling) (p .chosen)
+-- what a cycle goes by, for settings in use and a chosen instrument
+abbrev pub settingsNow : InUse → ℕ → Now
+settingsNow k chosen = record { ceiling = k .last .ceiling; notes = k .last .notes; chosen = chosen }
 
--- the panel in another state: its ceiling, its chosen instrument and its program stay
+abbrev pub settingsIn : Panel → Settings
+settingsIn p = playing.settingsIn (settingsNow (p .settings) (p .chosen))
+
+-- the panel in another state: its settings, its chosen instrument and its program stay
 abbrev pub withState : Panel → State → Panel
-withState p s = record { state = s; ceiling = p .ceiling; chosen = p .chosen; program = p .program }
+withState p s = record { state = s; settings = p .settings; chosen = p .chosen; program = p .program }
+
+-- the panel with other settings in use
+abbrev pub withInUse : Panel → InUse → Panel
+withInUse p k = record { state = p .state; settings = k; chosen = p .chosen; program = p .program }
 
 -- the panel with other waiting lines
 unfoldable pub withQueue : Panel → Queue → Panel
@@ -49,4 +59,4 @@ endedOf p = withState p (record { queue = p .state .queue; messages = p .state .
 
 -- the panel that a fresh start gives
 abbrev pub panelAt : Start → Panel
-panelAt s = record { state = s .state; ceiling = s .ceiling; chosen = s .chosen; program = s .program }
+panelAt s = record { state = s .state; settings = s .settings; chosen = s .chosen; program = s .program }

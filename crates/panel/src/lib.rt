@@ -7,17 +7,19 @@ use code_program::Program;
 use entrance_readers::EntranceRead;
 use player_state::Settings;
 use player_state::State;
+use settings_records::InUse;
+use settings_records::Setting;
 ghost use mathlib.Core.Path.{_≡_};
 ghost use lib.ListN.{length};
 ghost use Rattle.player_model.specs.Calls.{stick, unit, keypad, text};
 ghost use Rattle.entrance_readers.specs.Entrances.{scoreIn};
 ghost use Rattle.panel.specs.Core.{panelOf, SubmittedAs, ReceivedAs, AreaAs, PlayedAs, cycledWith};
-ghost use Rattle.panel.specs.Calls.{freshOf, submittedOf, submitOf, receiveOf, areaAfter, playKeysOf, cycleOf, blockAfter};
+ghost use Rattle.panel.specs.Calls.{freshOf, areaFresh, submittedOf, submitOf, receiveOf, areaAfter, playKeysOf, changedIn, areaIn, undoneIn, changeOf, areaChanged, undoOf, cycleOf, blockAfter};
 
-// What the calls change, beside what a fresh start fixes.
+// What the calls change, the settings in use among it, beside what a fresh start fixes.
 pub struct Panel {
     state: State,
-    ceiling: u16,
+    settings: InUse,
     chosen: u16,
     program: Program,
 }
@@ -41,7 +43,7 @@ pub struct BurstResult {
     pub units: usize,
 }
 
-// What a call at the keyboard leaves.
+// What a call at the keyboard, a change or an undo leaves.
 pub struct KeyboardResult {
     pub panel: Panel,
     pub answer: Answer,
@@ -55,7 +57,8 @@ pub struct CycleResult {
 // A panel without its code, which a host keeps and lends: what the calls change, beside what a fresh start fixes.
 pub struct Core {
     state: State,
-    settings: Settings,
+    settings: InUse,
+    chosen: u16,
     table: [Instrument; 8],
     count: usize,
 }
@@ -82,6 +85,38 @@ pub struct CoreBurstResult {
 pub struct CoreResult {
     pub core: Core,
     pub answer: Answer,
+}
+
+// A change: 9 first.
+fn change_unless_ended(
+    ended: bool,
+    settings: InUse,
+    area: &mut [u8],
+    handed: &[u8],
+) -> settings_records::Changed
+    ensures settings { λ r. ⌜ r ≡ changedIn ended settings (now (area .entry)) (now (handed .entry)) ⌝ }
+    ensures area { λ r. ⌜ now (area .exit) ≡ areaIn ended settings (now (area .entry)) (now (handed .entry)) ⌝ }
+{
+    if ended {
+        return settings_records::Changed {
+            settings: settings,
+            answer: Answer::Ended,
+        };
+    }
+    settings_records::change(settings, area, handed)
+}
+
+// An undo: 9 first.
+fn undo_unless_ended(ended: bool, settings: InUse, area: &[u8]) -> settings_records::Changed
+    ensures { λ r. ⌜ r ≡ undoneIn ended settings (now (area .entry)) ⌝ }
+{
+    if ended {
+        return settings_records::Changed {
+            settings: settings,
+            answer: Answer::Ended,
+        };
+    }
+    settings_records::undo(settings, area)
 }
 
 // What was handed in at an entrance, read, into the waiting lines.
@@ -158,13 +193,46 @@ impl Core {
         }
     }
 
+    pub fn change(mut self, area: &mut [u8], handed: &[u8]) -> CoreResult
+        ensures panel { λ r. ⌜ PlayedAs self r (λ p. changeOf p (now (area .entry)) (now (handed .entry))) ⌝ }
+        ensures area { λ r. ⌜ AreaAs self (now (area .exit)) (λ p. areaChanged p (now (area .entry)) (now (handed .entry))) ⌝ }
+    {
+        let settings = self.settings;
+        let r = change_unless_ended(self.state.playing.ended, settings, area, handed);
+        let left = r.settings;
+        let given = r.answer;
+        self.settings = left;
+        CoreResult {
+            core: self,
+            answer: given,
+        }
+    }
+
+    pub fn undo(mut self, area: &[u8]) -> CoreResult
+        ensures { λ r. ⌜ PlayedAs self r (λ p. undoOf p (now (area .entry))) ⌝ }
+    {
+        let settings = self.settings;
+        let r = undo_unless_ended(self.state.playing.ended, settings, area);
+        let left = r.settings;
+        let given = r.answer;
+        self.settings = left;
+        CoreResult {
+            core: self,
+            answer: given,
+        }
+    }
+
     pub fn cycle<'a>(mut self, code: &'a [u64], vals: &'a [f32], block: &mut [i16]) -> CoreResult
         ensures panel { λ r. ⌜ cycledWith (now (code .entry)) (now (vals .entry)) r ≡ cycleOf (panelOf self (now (code .entry)) (now (vals .entry))) (length (now (block .entry))) ⌝ }
         ensures block { λ r. ⌜ now (block .exit) ≡ blockAfter (panelOf self (now (code .entry)) (now (vals .entry))) (now (block .entry)) ⌝ }
     {
         let table = self.table;
         let state = self.state;
-        let settings = self.settings;
+        let settings = Settings {
+            ceiling: self.settings.last.ceiling,
+            notes: self.settings.last.notes,
+            chosen: self.chosen,
+        };
         let r = player_cycle::cycle_call(table, self.count, code, vals, state, settings, block);
         let left = r.state;
         let given = r.answer;
@@ -192,6 +260,20 @@ impl Core {
     {
         self.state.playing.notes.count
     }
+
+    // What the settings in use are: ceiling, notes and starting tempo of the last record.
+    pub fn settings_in_use(self) -> Setting
+        ensures { λ r. ⌜ r ≡ self .settings .last ⌝ }
+    {
+        self.settings.last
+    }
+
+    // How many settings records are in use.
+    pub fn records_in_use(self) -> usize
+        ensures { λ r. ⌜ r ≡ self .settings .count ⌝ }
+    {
+        self.settings.count
+    }
 }
 
 // What was handed in at an entrance, read, into the waiting lines.
@@ -212,21 +294,24 @@ fn submit(mut p: Panel, h: EntranceRead) -> EntranceResult
 }
 
 impl Panel {
-    pub const STARTING_TEMPO: f32 = 60.0;
+    // The tempo that a panel starts at where its first settings record is of version 1: it is the value that such a record is read with.
+    pub const STARTING_TEMPO: u16 = settings_records::STARTING_TEMPO;
 
-    // A fresh panel of an orchestra's bytes, with the instrument that is chosen for the keyboard. A refusal, of the ceiling, of the orchestra
-    // or of the choice, gives a panel that has ended.
-    pub fn fresh(orchestra: &[u8], ceiling: u32, chosen: u16) -> Fresh
-        ensures { λ r. ⌜ r ≡ freshOf (now (orchestra .entry)) ceiling chosen ⌝ }
+    // A fresh panel of an orchestra's bytes and a first settings record, which goes into the lent area, with the instrument that is chosen for
+    // the keyboard. A refusal, of the record, of the orchestra or of the choice, gives a panel that has ended and leaves the area.
+    pub fn fresh(orchestra: &[u8], area: &mut [u8], first: &[u8], chosen: u16) -> Fresh
+        ensures panel { λ r. ⌜ r ≡ freshOf (now (orchestra .entry)) (now (area .entry)) (now (first .entry)) chosen ⌝ }
+        ensures area { λ r. ⌜ now (area .exit) ≡ areaFresh (now (orchestra .entry)) (now (area .entry)) (now (first .entry)) chosen ⌝ }
     {
-        let s = player_start::fresh_start(Panel::STARTING_TEMPO, orchestra, ceiling, chosen);
+        let s = player_start::fresh_start(orchestra, area, first, chosen);
         let state = s.state;
+        let settings = s.settings;
         let program = s.program;
         let answer = s.answer;
         Fresh {
             panel: Panel {
                 state: state,
-                ceiling: s.ceiling,
+                settings: settings,
                 chosen: s.chosen,
                 program: program,
             },
@@ -296,6 +381,37 @@ impl Panel {
         }
     }
 
+    // A settings record behind those in use, in the lent area.
+    pub fn change(mut self, area: &mut [u8], handed: &[u8]) -> KeyboardResult
+        ensures panel { λ r. ⌜ r ≡ changeOf self (now (area .entry)) (now (handed .entry)) ⌝ }
+        ensures area { λ r. ⌜ now (area .exit) ≡ areaChanged self (now (area .entry)) (now (handed .entry)) ⌝ }
+    {
+        let settings = self.settings;
+        let r = change_unless_ended(self.state.playing.ended, settings, area, handed);
+        let left = r.settings;
+        let given = r.answer;
+        self.settings = left;
+        KeyboardResult {
+            panel: self,
+            answer: given,
+        }
+    }
+
+    // The last settings record out of use; its bytes stay.
+    pub fn undo(mut self, area: &[u8]) -> KeyboardResult
+        ensures { λ r. ⌜ r ≡ undoOf self (now (area .entry)) ⌝ }
+    {
+        let settings = self.settings;
+        let r = undo_unless_ended(self.state.playing.ended, settings, area);
+        let left = r.settings;
+        let given = r.answer;
+        self.settings = left;
+        KeyboardResult {
+            panel: self,
+            answer: given,
+        }
+    }
+
     // A cycle of sound into a block of 320 samples.
     pub fn cycle(mut self, block: &mut [i16]) -> CycleResult
         ensures panel { λ r. ⌜ r ≡ cycleOf self (length (now (block .entry))) ⌝ }
@@ -304,7 +420,8 @@ impl Panel {
         let table = self.program.table;
         let state = self.state;
         let settings = Settings {
-            ceiling: self.ceiling,
+            ceiling: self.settings.last.ceiling,
+            notes: self.settings.last.notes,
             chosen: self.chosen,
         };
         let r = player_cycle::cycle_call(
@@ -330,6 +447,7 @@ impl Panel {
         ensures { λ r. ⌜ panelOf (r .core) (r .code) (r .vals) ≡ self ⌝ }
     {
         let state = self.state;
+        let settings = self.settings;
         let program = self.program;
         let table = program.table;
         let code = program.code;
@@ -337,10 +455,8 @@ impl Panel {
         SplitPanel {
             core: Core {
                 state: state,
-                settings: Settings {
-                    ceiling: self.ceiling,
-                    chosen: self.chosen,
-                },
+                settings: settings,
+                chosen: self.chosen,
                 table: table,
                 count: program.count,
             },
@@ -371,6 +487,20 @@ impl Panel {
         ensures { λ r. ⌜ r ≡ self .state .playing .notes .count ⌝ }
     {
         self.state.playing.notes.count
+    }
+
+    // What the settings in use are: ceiling, notes and starting tempo of the last record.
+    pub fn settings_in_use(self) -> Setting
+        ensures { λ r. ⌜ r ≡ self .settings .last ⌝ }
+    {
+        self.settings.last
+    }
+
+    // How many settings records are in use.
+    pub fn records_in_use(self) -> usize
+        ensures { λ r. ⌜ r ≡ self .settings .count ⌝ }
+    {
+        self.settings.count
     }
 
     pub fn has_ended(self) -> bool

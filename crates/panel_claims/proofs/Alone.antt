@@ -9,7 +9,7 @@ use Rattle.score_line.specs.declared.Line.{Line}
 use Rattle.player_queue.specs.declared.Queue.{Queue}
 use Rattle.code_program.specs.declared.Instrument.{Instrument}
 use Rattle.player_model.specs.Lists.{each}
-use Rattle.player_model.specs.Calls.{Entrance, unit, mustBeTimed, hasTime, reads, Call, submit, burst, keyboard, cycle, After, afterAll, answersAll}
+use Rattle.player_model.specs.Calls.{Entrance, unit, mustBeTimed, hasTime, reads, Call, submit, burst, keyboard, cycle, change, undo, After, afterAll, answersAll}
 use Rattle.player_model.proofs.Lists.{cond-false}
 use Rattle.entrance_admission.specs.Submission.{lineAdmitted, admittedAll, submittedIn}
 use Rattle.entrance_admission.specs.declared.AdmissionResult.{AdmissionResult}
@@ -64,6 +64,8 @@ enters p (submit d handed) l h r = bring-enters p d handed l h (r .0) (r .1)
 enters p (burst bytes area) l h r = burst-enters p bytes area l h r
 enters p (keyboard bytes) l h r = absurd r
 enters p (cycle b) l h r = absurd r
+enters p (change area handed) l h r = absurd r
+enters p (undo area) l h r = absurd r
 
 pub entrances-alike : EntrancesAlike
 unfolding EntrancesAlike

@@ -1,13 +1,26 @@
 -- Each verdict is given: what a call answers, by its history.
-use mathlib.Core.Path.{_≡_, refl, ap, _∙_, subst⁻¹}
-use mathlib.Core.Bool.{true, false, cond}
+use mathlib.Core.Path.{_≡_, refl, sym, ap, _∙_, subst⁻¹}
+use mathlib.Core.Bool.{true, false, not, cond}
 use mathlib.Core.List.{List, [], _∷_, _++_, append-nil}
-use Prim.Native.Nat.{ℕ, _+_}
+use Prim.Native.Nat.{ℕ, _+_, _≤_}
 use native.Mathlib.Omega.{arith}
 use lib.IntN.{ℤ}
 use lib.ListN.{length}
 use lib.Dec.{eqb}
-use borrow.Author.Tests.{le-leb, lt-leb}
+use borrow.Author.Tests.{le-leb, lt-leb, eqb-true}
+use Rattle.settings_records.specs.Changes as records
+use Rattle.settings_records.specs.Changes.{changing}
+use Rattle.settings_records.specs.declared.InUse.{InUse}
+use Rattle.settings_records.specs.declared.Found.{Found}
+use Rattle.settings_records.specs.declared.Changed.{Changed}
+use Rattle.settings_records.proofs.Changing.{other-length, used-fault, new-fault, left-over, no-room, goes-in, undo-length, undo-fault, undo-nothing, undo-taken}
+use Rattle.settings_records.specs.Form.{ParsesRecords}
+use Rattle.settings_records.specs.inside.Reading.{recordsIn}
+use Rattle.settings_records.proofs.Meaning.{one-meaning as read-meaning}
+use Rattle.settings_records.proofs.Walk.{records-end}
+use Rattle.settings_records.proofs.Areas.{one-meaning-records}
+use Rattle.player_model.proofs.Lists.{by-test, cond-true, cond-false}
+use Rattle.panel_claims.specs.Fresh.{Setup}
 use Rattle.midi_queue.specs.Keyboard.{mostMessages, enqueuedIn}
 use Rattle.player_cycle.specs.CycleCall.{cycledOf}
 use Rattle.player_calls.specs.OnState.{keyboardCallOf}
@@ -21,20 +34,20 @@ use Rattle.orchestra_syntax.specs.Names.{has}
 use Rattle.voices_compiled.specs.Voices.{VoiceState}
 use Rattle.player_model.specs.Lists.{each}
 use Rattle.player_model.specs.PlayerState.{behind}
-use Rattle.player_model.specs.Calls.{Entrance, unit, mustBeTimed, reads, Call, submit, burst, cycle, Answer, one, After, keyboard}
+use Rattle.player_model.specs.Calls.{Entrance, unit, mustBeTimed, reads, Call, submit, burst, cycle, Answer, one, After, keyboard, change, undo}
 use Rattle.player_model.specs.History.{History}
 use Rattle.entrance_admission.specs.Submission.{admittedAll, submittedIn}
 use Rattle.player_calls.specs.OnState as onState
 use Rattle.panel.specs.State.{tableOf, withQueue}
-use Rattle.panel.specs.Calls.{submittedOf, submitOf, playKeysOf, cycleOf}
+use Rattle.panel.specs.Calls.{submittedOf, submitOf, playKeysOf, changedIn, undoneIn, changeOf, undoOf, cycleOf}
 use Rattle.panel.specs.declared.Panel.{Panel}
 use Rattle.code_loader_claims.specs.Claims.{StandsFor}
-use Rattle.panel_claims.specs.Verdict.{Verdict, AtEntrance, AtCycle, over, badText, cut, notCarried, outOfRange, tooManyValues, leftOver, faulty, taken, otherLength, overBefore, findsEnd, plays, AtKeyboard, keysOver, keysCut, keysNotCarried, keysFull, keysTaken, withLines, InTurn, none, next, AtBurst, burstCut, burstTooLong, burstNoRoom, burstTaken, once}
+use Rattle.panel_claims.specs.Verdict.{Verdict, AtEntrance, AtCycle, over, badText, cut, notCarried, outOfRange, tooManyValues, leftOver, faulty, taken, otherLength, overBefore, findsEnd, plays, AtKeyboard, keysOver, keysCut, keysNotCarried, keysFull, keysTaken, NotReached, setOver, areaLength, usedFault, Stand, AtChange, changeNot, newFault, newLeftOver, newNoRoom, changeTaken, AtUndo, undoNot, undoNothing, undoTaken, withLines, InTurn, none, next, AtBurst, burstCut, burstTooLong, burstNoRoom, burstTaken, once}
 use Rattle.panel_claims.specs.Claims.{unitAnswer, afterOf, BurstAsUnits, panelAfter, Given}
 use Rattle.panel_claims.proofs.Entrances.{Brings, takes, refuses, brings}
 use Rattle.panel_claims.proofs.Bursts.{first-number, unit-line, singly, singly-answers, burst-as-units}
 use Rattle.midi_messages.proofs.Meaning.{one-parse}
-use Rattle.panel_claims.proofs.Past.{own, stands, kept-after, past-is, placedPast}
+use Rattle.panel_claims.proofs.Past.{own, stands, invariant-after, past-is, placedPast}
 use Rattle.panel_claims.proofs.Pushing.{told, Has, all-fit, first-faulty}
 use Rattle.panel_claims.proofs.Readings.{reads-so}
 
@@ -133,19 +146,91 @@ at-burst-given is p r long bytes area _ (burstNoRoom us s h) = cc (burst-as-unit
 at-burst-given is p r long bytes area _ (burstTaken us given s h t) =
     cc (burst-as-units p bytes area .taken us s h, singly-answers us p, in-turn-given is us p r long given t)
 
+-- ---- a change and an undo
+
+-- a change's number is that of its judgement
+pub change-number : (k : InUse) (area handed : List ℕ) {f : Found} → f ≡ changing (k .count) area handed → numberOf (records.changeOf k area handed .answer) ≡ numberOf (f .answer)
+unfolding records.changeOf
+change-number k area handed {f} e =
+    by-test (isTaken (changing (k .count) area handed .answer))
+    (λ t. ap (λ (x : Changed). numberOf (x .answer)) (cond-true _ _ t) ∙ sym (ap (λ (x : Found). numberOf (x .answer)) e ∙ eqb-true (numberOf (changing (k .count) area handed .answer)) 0 t))
+    (λ t. ap (λ (x : Changed). numberOf (x .answer)) (cond-false _ _ t) ∙ sym (ap (λ (x : Found). numberOf (x .answer)) e))
+
+module _ (is : List Instrument) (p : Panel) (area : List ℕ) where
+  abbrev k : InUse
+  k = p .settings
+
+  in-use : {f : Found} → ParsesRecords (k .count) area f → f ≡ recordsIn (k .count) area
+  in-use r = sym (one-meaning-records (k .count) area _ r)
+
+  ends : {size : ℕ} → Stand is (own p) area size → size ≤ 4096
+  ends s =
+      omega (
+        arith,
+        s .whole,
+        ap (λ (f : Found). f .size) (in-use (s .valid)),
+        records-end (k .count) area (ap (λ (f : Found). isTaken (f .answer)) (sym (in-use (s .valid)))) .most,
+      )
+
+  open-change : (handed : List ℕ) {f : Found} → p .state .playing .ended ≡ false → f ≡ changing (k .count) area handed → afterOf p (change area handed) .answers ≡ one (numberOf (f .answer)) 0
+  unfolding afterOf changeOf changedIn
+  open-change handed e q = ap (λ (x : Changed). one (numberOf (x .answer)) 0) (cond-false _ _ e) ∙ ap (λ (n : ℕ). one n 0) (change-number k area handed q)
+
+  over-change : (handed : List ℕ) → p .state .playing .ended ≡ true → afterOf p (change area handed) .answers ≡ one 9 0
+  unfolding afterOf changeOf changedIn
+  over-change handed e = ap (λ (x : Changed). one (numberOf (x .answer)) 0) (cond-true _ _ e)
+
+  not-change : (handed : List ℕ) (n : ℕ) → NotReached is (own p) area n → afterOf p (change area handed) .answers ≡ one n 0
+  not-change handed _ (setOver e) = over-change handed e
+  not-change handed _ (areaLength e h) = open-change handed e (other-length (k .count) area handed h refl)
+  not-change handed _ (usedFault {a} e h r t) = open-change handed e (used-fault (k .count) area handed h (in-use r) refl (ap not t) refl)
+
+  at-change-given : (handed : List ℕ) (n l : ℕ) → AtChange is (own p) area handed n l → afterOf p (change area handed) .answers ≡ one n l
+  at-change-given handed n _ (changeNot v) = not-change handed n v
+  at-change-given handed _ _ (newFault {a} s x t) =
+      open-change handed (s .goesOn) (new-fault (k .count) area handed (s .whole) (in-use (s .valid)) refl refl (sym (read-meaning handed _ x)) refl (ap not t) refl)
+  at-change-given handed _ _ (newLeftOver s x m) =
+      open-change handed (s .goesOn) (left-over (k .count) area handed (s .whole) (in-use (s .valid)) refl refl (sym (read-meaning handed _ x)) refl refl m refl)
+  at-change-given handed _ _ (newNoRoom s x m) =
+      open-change handed (s .goesOn)
+      (no-room (k .count) area handed (s .whole) (in-use (s .valid)) refl refl (sym (read-meaning handed _ x)) refl refl (omega arith) (omega (arith, m, ends s)) refl)
+  at-change-given handed _ _ (changeTaken s x m) =
+      open-change handed (s .goesOn)
+      (goes-in (k .count) area handed (s .whole) (in-use (s .valid)) refl refl (sym (read-meaning handed _ x)) refl refl (omega arith) (omega (arith, m)))
+
+  open-undo : {c : Changed} → p .state .playing .ended ≡ false → c ≡ records.undoOf k area → afterOf p (undo area) .answers ≡ one (numberOf (c .answer)) 0
+  unfolding afterOf undoOf undoneIn
+  open-undo e q = ap (λ (x : Changed). one (numberOf (x .answer)) 0) (cond-false _ _ e ∙ sym q)
+
+  over-undo : p .state .playing .ended ≡ true → afterOf p (undo area) .answers ≡ one 9 0
+  unfolding afterOf undoOf undoneIn
+  over-undo e = ap (λ (x : Changed). one (numberOf (x .answer)) 0) (cond-true _ _ e)
+
+  not-undo : (n : ℕ) → NotReached is (own p) area n → afterOf p (undo area) .answers ≡ one n 0
+  not-undo _ (setOver e) = over-undo e
+  not-undo _ (areaLength e h) = open-undo e (undo-length k area h)
+  not-undo _ (usedFault e h r t) = open-undo e (undo-fault k area h (in-use r) refl (ap not t))
+
+  at-undo-given : (n l : ℕ) → AtUndo is (own p) area n l → afterOf p (undo area) .answers ≡ one n l
+  at-undo-given n _ (undoNot v) = not-undo n v
+  at-undo-given _ _ (undoNothing s m) = open-undo (s .goesOn) (undo-nothing k area (s .whole) (in-use (s .valid)) refl refl m)
+  at-undo-given _ _ (undoTaken s m) = open-undo (s .goesOn) (undo-taken k area (s .whole) (in-use (s .valid)) refl refl m refl)
+
 module _ (is : List Instrument) (p : Panel) (r : StandsFor is (p .program)) (long : length (p .state .queue .lines) ≡ 64) where
   given : (c : Call) (told : List Answer) → Verdict is (own p) c told → afterOf p c .answers ≡ told
   given (submit d b) _ (once v) = at-entrance-given is p r long d b _ _ v
   given (burst bytes area) told v = at-burst-given is p r long bytes area told v
   given (keyboard bytes) _ (once v) = at-keyboard-given is p r long bytes _ _ v
   given (cycle b) _ (once v) = at-cycle-given is p r long b _ _ v
+  given (change area handed) _ (once v) = at-change-given is p area handed _ _ v
+  given (undo area) _ (once v) = at-undo-given is p area _ _ v
 
 -- ---- the verdict by place, as it is given
 
-pub verdict-by-place : (orchestra : List ℕ) (is : List Instrument) (ceiling chosen : ℕ) → Given orchestra is ceiling chosen → (cs : List Call) (c : Call) (told : List Answer)
-    → Verdict is (placedPast orchestra is ceiling chosen cs) c told → afterOf (panelAfter orchestra is ceiling chosen cs) c .answers ≡ told
-verdict-by-place orchestra is ceiling chosen g cs c told x =
-    let p = panelAfter orchestra is ceiling chosen cs in
-    let k = kept-after orchestra is ceiling chosen g cs in
-    given is p (subst⁻¹ (StandsFor is) (k .has) (stands orchestra is ceiling chosen g)) (k .long) c told
-    (subst⁻¹ (λ (h : History VoiceState). Verdict is h c told) (past-is orchestra is ceiling chosen g cs) x)
+pub verdict-by-place : (u : Setup) (is : List Instrument) → Given u is → (cs : List Call) (c : Call) (told : List Answer)
+    → Verdict is (placedPast u is cs) c told → afterOf (panelAfter u is cs) c .answers ≡ told
+verdict-by-place u is g cs c told x =
+    let p = panelAfter u is cs in
+    let k = invariant-after u is g cs in
+    given is p (subst⁻¹ (StandsFor is) (k .has) (stands u is g)) (k .long) c told
+    (subst⁻¹ (λ (h : History VoiceState). Verdict is h c told) (past-is u is g cs) x)

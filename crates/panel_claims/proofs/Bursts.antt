@@ -18,7 +18,7 @@ use Rattle.score_line.specs.declared.LineRead.{LineRead}
 use Rattle.score_reader.specs.Score.{unitOf}
 use Rattle.base_bitstream.specs.Bits.{bitsOf}
 use Rattle.player_model.specs.Lists.{each, over}
-use Rattle.player_model.specs.Calls.{unit, mustBeTimed, single, reads, submit, burst, Answer, one, After, takenOf, afterAll, answersAll}
+use Rattle.player_model.specs.Calls.{unit, mustBeTimed, single, reads, submit, burst, Answer, one, onlyAnswers, After, takenOf, afterAll, answersAll}
 use Rattle.player_model.proofs.Lists.{by-test, either-way}
 use Rattle.player_queue.specs.Admission.{waitingIn}
 use Rattle.player_queue.specs.declared.Queue.{Queue}
@@ -31,7 +31,7 @@ use Rattle.player_calls.specs.OnState.{burstSubmittedOf}
 use Rattle.panel.specs.State.{tableOf, withState, withQueue}
 use Rattle.panel.specs.Calls.{submittedOf, submitOf, receiveOf, areaAfter}
 use Rattle.panel.specs.declared.Panel.{Panel}
-use Rattle.panel_claims.specs.Claims.{unitAnswer, afterOf, panel, refusedBurst, asUnits, BurstAsUnits}
+use Rattle.panel_claims.specs.Claims.{unitAnswer, afterOf, panel, unchanged, asUnits, BurstAsUnits}
 use Rattle.panel_claims.proofs.Entrances.{Behind, behind-more, Brings, takes, refuses, brings}
 
 -- ---- a unit's answer is about its only line
@@ -100,25 +100,25 @@ pub left : Panel → List ℕ → Burst → After Panel
 left p area b =
     let r = burstSubmittedOf (tableOf (p .program)) (p .state) (length area) b in
     let a = areaIn (p .state .playing .ended) (tableOf (p .program)) (p .state .queue) area b in
-    record { player = withState p (r .state); answers = one (numberOf (r .answer)) 0 ++ each unitAnswer (take (r .units) a); block = []; area = a }
+    record { player = withState p (r .state); answers = one (numberOf (r .answer)) 0 ++ each unitAnswer (take (r .units) a); buffers = onlyAnswers a }
 
 pub left-is : (p : Panel) (bytes area : List ℕ) (b : Burst) → burstOf bytes ≡ b → afterOf p (burst bytes area) ≡ left p area b
 unfolding afterOf receiveOf areaAfter left
 left-is p bytes area b e = ap (left p area) e
 
-pub left-fault : (p : Panel) (area : List ℕ) (a : kind.Answer) → left p area (fault a) ≡ refusedBurst p area (numberOf a)
+pub left-fault : (p : Panel) (bytes area : List ℕ) (a : kind.Answer) → left p area (fault a) ≡ unchanged p (burst bytes area) (numberOf a)
 unfolding left burstSubmittedOf burstSubmittedIn areaIn each
-left-fault p area a = refl
+left-fault p bytes area a = refl
 
 -- units with a place for each answer
 abbrev pub taken-burst : Panel → List ℕ → List (List ℕ) → After Panel
 taken-burst p area us =
-    record { player = singly p us .panel; answers = one 0 0 ++ each unitAnswer (singly p us .numbers); block = []; area = over (singly p us .numbers) area }
+    record { player = singly p us .panel; answers = one 0 0 ++ each unitAnswer (singly p us .numbers); buffers = onlyAnswers (over (singly p us .numbers) area) }
 
 module _ (p : Panel) (area : List ℕ) (us : List (List ℕ)) where
-  pub left-short : length area < length us → left p area (units us) ≡ refusedBurst p area 8
+  pub left-short : (bytes : List ℕ) → length area < length us → left p area (units us) ≡ unchanged p (burst bytes area) 8
   unfolding left burstSubmittedOf burstSubmittedIn areaIn each
-  left-short h = rw (lt-leb (length us) (length area) h)
+  left-short bytes h = rw (lt-leb (length us) (length area) h)
 
   pub left-taken : length us ≤ length area → left p area (units us) ≡ taken-burst p area us
   unfolding left burstSubmittedOf burstSubmittedIn areaIn withQueue
@@ -129,34 +129,32 @@ module _ (p : Panel) (area : List ℕ) (us : List (List ℕ)) where
       (ap (λ (x : Singly). record {
         player = x .panel;
         answers = one 0 0 ++ each unitAnswer (take (length us) (over (x .numbers) area));
-        block = [];
-        area = over (x .numbers) area;
+        buffers = onlyAnswers (over (x .numbers) area);
       }) (singly-is us p)
-      ∙ ap (λ (l : List ℕ). record { player = singly p us .panel; answers = one 0 0 ++ each unitAnswer l; block = []; area = over ns area }) first)
+      ∙ ap (λ (l : List ℕ). record { player = singly p us .panel; answers = one 0 0 ++ each unitAnswer l; buffers = onlyAnswers (over ns area) }) first)
 
   units-singly : taken-burst p area us ≡ asUnits p area us
   units-singly =
       λ i. record {
         player = singly-player us p i;
         answers = one 0 0 ++ singly-answers us p i;
-        block = [];
-        area = over ((sym (numbers-back (singly p us .numbers)) ∙ ap (each (λ (a : Answer). a .number)) (singly-answers us p)) i) area;
+        buffers = onlyAnswers (over ((sym (numbers-back (singly p us .numbers)) ∙ ap (each (λ (a : Answer). a .number)) (singly-answers us p)) i) area);
       }
 
 pub burst-as-units : BurstAsUnits
 unfolding BurstAsUnits
 burst-as-units p bytes area =
     record {
-      cut = λ s. left-is p bytes area _ (one-parse bytes _ s) ∙ left-fault p area answer.CutShort;
-      tooLong = λ s. left-is p bytes area _ (one-parse bytes _ s) ∙ left-fault p area answer.TooManyValues;
-      noRoom = λ us s h. left-is p bytes area _ (one-parse bytes _ s) ∙ left-short p area us h;
+      cut = λ s. left-is p bytes area _ (one-parse bytes _ s) ∙ left-fault p bytes area answer.CutShort;
+      tooLong = λ s. left-is p bytes area _ (one-parse bytes _ s) ∙ left-fault p bytes area answer.TooManyValues;
+      noRoom = λ us s h. left-is p bytes area _ (one-parse bytes _ s) ∙ left-short p area us bytes h;
       taken = λ us s h. left-is p bytes area _ (one-parse bytes _ s) ∙ left-taken p area us h ∙ units-singly p area us;
     }
 
 -- a burst is taken or refused
 pub data Receives (p : Panel) (bytes area : List ℕ) (a : After Panel) : Type 0 where
   received : (us : List (List ℕ)) → burstOf bytes ≡ units us → a ≡ taken-burst p area us → Receives p bytes area a
-  unreceived : (n : ℕ) → eqb n 0 ≡ false → a ≡ refusedBurst p area n → Receives p bytes area a
+  unreceived : (n : ℕ) → eqb n 0 ≡ false → a ≡ unchanged p (burst bytes area) n → Receives p bytes area a
 
 pub receives : (p : Panel) (bytes area : List ℕ) → Receives p bytes area (afterOf p (burst bytes area))
 receives p bytes area = go (every-kind bytes) refl
@@ -165,9 +163,9 @@ receives p bytes area = go (every-kind bytes) refl
     go (is-units us) q =
         by-test (leb (length us) (length area))
         (λ e. received us q (left-is p bytes area (units us) q ∙ left-taken p area us (leb-true (length us) (length area) e)))
-        (λ e. unreceived 8 refl (left-is p bytes area (units us) q ∙ left-short p area us (leb-false (length us) (length area) e)))
-    go is-cut q = unreceived 1 refl (left-is p bytes area _ q ∙ left-fault p area answer.CutShort)
-    go is-too-many q = unreceived 5 refl (left-is p bytes area _ q ∙ left-fault p area answer.TooManyValues)
+        (λ e. unreceived 8 refl (left-is p bytes area (units us) q ∙ left-short p area us bytes (leb-false (length us) (length area) e)))
+    go is-cut q = unreceived 1 refl (left-is p bytes area _ q ∙ left-fault p bytes area answer.CutShort)
+    go is-too-many q = unreceived 5 refl (left-is p bytes area _ q ∙ left-fault p bytes area answer.TooManyValues)
 
 -- ---- the lines taken of units that come singly wait behind the others, and nothing else of the panel changes
 

@@ -1,84 +1,161 @@
 -- The ceiling binds, on a panel and on a core whatever it is lent; and a core that is lent its panel's own code goes as the panel does.
 use mathlib.Core.Path.{_≡_, refl, sym, ap, _∙_, subst, subst⁻¹}
-use mathlib.Core.Bool.{true, false≢true}
+use mathlib.Core.Bool.{Bool, true, false, cond, true≢false, false≢true}
 use mathlib.Core.List.{List, [], _∷_, _++_}
-use Prim.Native.Nat.{ℕ, _≤_}
+use Prim.Native.Nat.{ℕ}
+use lib.IntN.{ℤ}
+use Rattle.settings_records.specs.Form.{Valid}
+use Rattle.settings_records.specs.declared.InUse.{InUse}
+use Rattle.voices_compiled.specs.Voices.{VoiceState}
+use Rattle.player_model.specs.History.{History}
+use Rattle.player_model.specs.Set.{setBy}
+use Rattle.player_model.proofs.Lists.{either-way, cond-false}
 use lib.Ieee.{Float}
 use lib.ListN.{take}
 use Rattle.base_answer.specs.Numbers.{numberOf}
 use Rattle.base_float32.specs.Limit.{Within}
 use Rattle.player_model.specs.Lists.{All, each}
 use Rattle.player_model.specs.PlayerState.{dueOf}
-use Rattle.player_model.specs.Calls.{Call, submit, burst, keyboard, cycle, one, After, isZero, Last, none, Transition, cyclesWith, lastWith, transitionOf, traceFrom, afterAll}
-use Rattle.player_model.specs.Condition3.{WithinCeiling}
-use Rattle.player_model.proofs.Ceiling.{block-within}
-use Rattle.panel.specs.State.{voicesOf, playerStateOf, settingsIn, withState}
-use Rattle.panel.specs.Calls.{submittedOf, submitOf, receiveOf, playKeysOf, cycleOf}
+use Rattle.player_model.specs.Calls.{Call, submit, burst, keyboard, cycle, change, undo, numbered, one, noBuffers, onlyBlock, onlyAnswers, onlySettings, After, isZero, Last, none, Transition, cyclesWith, lastWith, transitionOf, traceFrom, afterAll}
+use Rattle.player_model.proofs.Ceiling.{block-within, Counted, AllBound, bound-within}
+use Rattle.panel.specs.State.{voicesOf, playerStateOf, settingsIn, withState, withInUse}
+use Rattle.panel.specs.Calls.{submittedOf, submitOf, receiveOf, playKeysOf, changeOf, undoOf, cycleOf}
 use Rattle.panel.specs.Core.{panelOf}
 use Rattle.panel.specs.declared.Panel.{Panel}
 use Rattle.panel.specs.declared.Core.{Core}
-use Rattle.panel_claims.specs.Claims.{unitAnswer, afterOf, panel, settings, CeilingBinds}
+use Rattle.panel_claims.specs.Claims.{unitAnswer, afterOf, panel, firstInUse, fresh, CeilingBinds}
 use Rattle.panel_claims.specs.Core.{coreOf, core, CoreByContract, transitionOnCore, GoesAsPanel, CoreAsPanel, LentCall, lentFrom, CoreCeilingBinds}
 use Rattle.panel_claims.proofs.Cycles.{Cycles, off, over-before, ends, plays, cycles}
-use Rattle.panel_claims.proofs.Past.{fresh-kept}
+use Rattle.panel_claims.proofs.Settings.{Sets, set-taken, set-refused, changes, undoes}
+use Rattle.panel_claims.proofs.Past.{fresh-invariant, fresh-own}
 
--- no call changes more of a panel than its state
-stays : (p : Panel) (c : Call) → withState p (afterOf p c .player .state) ≡ afterOf p c .player
-unfolding afterOf submitOf submittedOf receiveOf playKeysOf cycleOf
+-- no call changes more of a panel than its state and its settings
+stays : (p : Panel) (c : Call) → withInUse (withState p (afterOf p c .player .state)) (afterOf p c .player .settings) ≡ afterOf p c .player
+unfolding afterOf submitOf submittedOf receiveOf playKeysOf cycleOf changeOf undoOf
 stays p (submit d handed) = refl
 stays p (burst bytes area) = refl
 stays p (keyboard bytes) = refl
 stays p (cycle b) = refl
+stays p (change area handed) = refl
+stays p (undo area) = refl
 
 -- ---- the ceiling
 
--- a call that answers 0 leaves no block, or a cycle's, within the panel's ceiling
-within : (p : Panel) → 1 ≤ p .ceiling → p .ceiling ≤ 32767 → (c : Call) → isZero (afterOf p c .answers) ≡ true → All (Within (p .ceiling)) (afterOf p c .block)
-unfolding afterOf
-within p low high (submit d handed) t = tt
-within p low high (burst bytes area) t = tt
-within p low high (keyboard bytes) t = tt
-within p low high (cycle b) t = go (cycles p b)
-  where
-    not-zero : {a : After Panel} → afterOf p (cycle b) ≡ a → isZero (a .answers) ≡ true
-    not-zero x = ap (λ (a : After Panel). isZero (a .answers)) (sym x) ∙ t
+-- a call that answers 0 leaves no block, or a cycle's, within the ceiling that is set
+module _ (p : Panel) (l : Valid (p .settings .last)) where
+  sound-within : (b : List ℤ) → isZero (afterOf p (cycle b) .answers) ≡ true → All (Within (p .settings .last .ceiling)) (afterOf p (cycle b) .buffers .block)
+  sound-within b t = go (cycles p b)
+    where
+      not-zero : {a : After Panel} → afterOf p (cycle b) ≡ a → isZero (a .answers) ≡ true
+      not-zero x = ap (λ (a : After Panel). isZero (a .answers)) (sym x) ∙ t
 
-    go : Cycles p b (afterOf p (cycle b)) → All (Within (p .ceiling)) (afterOf p (cycle b) .block)
-    go (off w x) = absurd (false≢true (not-zero x))
-    go (over-before w e x) = absurd (false≢true (not-zero x))
-    go (ends w e d x) = absurd (false≢true (not-zero x))
-    go (plays w e d x) =
-        subst⁻¹ (λ (a : After Panel). All (Within (p .ceiling)) (a .block)) x
-        (block-within (voicesOf (p .program)) (settingsIn p) low high (dueOf (playerStateOf p)) (playerStateOf p .plays))
+      go : Cycles p b (afterOf p (cycle b)) → All (Within (p .settings .last .ceiling)) (afterOf p (cycle b) .buffers .block)
+      go (off w x) = absurd (false≢true (not-zero x))
+      go (over-before w e x) = absurd (false≢true (not-zero x))
+      go (ends w e d x) = absurd (false≢true (not-zero x))
+      go (plays w e d x) =
+          subst⁻¹ (λ (a : After Panel). All (Within (p .settings .last .ceiling)) (a .buffers .block)) x
+          (block-within (voicesOf (p .program)) (settingsIn p) (l .ceiling .0) (l .ceiling .1) (dueOf (playerStateOf p)) (playerStateOf p .plays))
 
-module _ (ceiling chosen : ℕ) (low : 1 ≤ ceiling) (high : ceiling ≤ 32767) where
-  at-ceiling : (p : Panel) → p .ceiling ≡ ceiling → (c : Call) → isZero (afterOf p c .answers) ≡ true → All (Within ceiling) (afterOf p c .block)
-  at-ceiling p e c t =
-      subst (λ (n : ℕ). All (Within n) (afterOf p c .block)) e (within p (subst⁻¹ (λ (n : ℕ). 1 ≤ n) e low) (subst⁻¹ (λ (n : ℕ). n ≤ 32767) e high) c t)
+  -- a call that is no cycle of the list leaves none
+  no-sound : (c : Call) → numbered c ≡ false → isZero (afterOf p c .answers) ≡ true → afterOf p c .buffers .block ≡ []
+  unfolding afterOf
+  no-sound (submit d handed) w t = refl
+  no-sound (burst bytes area) w t = refl
+  no-sound (keyboard bytes) w t = refl
+  no-sound (change area handed) w t = refl
+  no-sound (undo area) w t = refl
+  no-sound (cycle b) w t = go (cycles p b)
+    where
+      go : Cycles p b (afterOf p (cycle b)) → afterOf p (cycle b) .buffers .block ≡ []
+      go (off v x) = absurd (false≢true (ap (λ (a : After Panel). isZero (a .answers)) (sym x) ∙ t))
+      go (over-before v e x) = absurd (true≢false (sym v ∙ w))
+      go (ends v e d x) = absurd (true≢false (sym v ∙ w))
+      go (plays v e d x) = absurd (true≢false (sym v ∙ w))
 
-  still : (p : Panel) (c : Call) → p .ceiling ≡ ceiling → afterOf p c .player .ceiling ≡ ceiling
-  still p c e = ap (λ (q : Panel). q .ceiling) (sym (stays p c)) ∙ e
+  heard : (c : Call) → numbered c ≡ true → isZero (afterOf p c .answers) ≡ true → All (Within (p .settings .last .ceiling)) (afterOf p c .buffers .block)
+  heard (submit d handed) w t = absurd (false≢true w)
+  heard (burst bytes area) w t = absurd (false≢true w)
+  heard (keyboard bytes) w t = absurd (false≢true w)
+  heard (change area handed) w t = absurd (false≢true w)
+  heard (undo area) w t = absurd (false≢true w)
+  heard (cycle b) w t = sound-within b t
 
-  panel-within : (cs : List Call) (n : ℕ) (z : Last) (p : Panel) → p .ceiling ≡ ceiling → All (WithinCeiling (settings ceiling chosen)) (traceFrom panel n z p cs)
-  unfolding traceFrom
-  panel-within [] n z p e = tt
-  panel-within (c ∷ cs) n z p e = ((λ t. at-ceiling p e c t), panel-within cs _ _ (afterOf p c .player) (still p c e))
+  -- what is set afterwards, and that it is valid
+  same-set : (b : Bool) → cond b (p .settings) (p .settings) ≡ p .settings
+  same-set b = either-way (λ (x : InUse). x ≡ p .settings) b refl refl
 
-  core-within : (ls : List LentCall) (n : ℕ) (z : Last) (c : Core) → c .settings .ceiling ≡ ceiling → All (WithinCeiling (settings ceiling chosen)) (lentFrom n z c ls)
-  unfolding lentFrom
-  core-within [] n z c e = tt
-  core-within (l ∷ ls) n z c e =
-      let p = panelOf c (l .code) (l .vals) in
-      ((λ t. at-ceiling p e (l .call) t), core-within ls _ _ (coreOf (afterOf p (l .call) .player)) (still p (l .call) e))
+  abbrev setAfter : Call → InUse
+  setAfter c = cond (numbered c) (p .settings) (cond (isZero (afterOf p c .answers)) (setBy (p .settings) c) (p .settings))
+
+  by-sets : (c : Call) {left : List ℕ} → numbered c ≡ false → Sets p c left (afterOf p c) → (afterOf p c .player .settings ≡ setAfter c) × Valid (afterOf p c .player .settings .last)
+  by-sets c w (set-taken e n x) = (
+    ap (λ (a : After Panel). a .player .settings) x
+        ∙ sym (cond-false _ _ w ∙ ap (λ (a : After Panel). cond (isZero (a .answers)) (setBy (p .settings) c) (p .settings)) x),
+    subst⁻¹ (λ (a : After Panel). Valid (a .player .settings .last)) x n,
+  )
+  by-sets c w (set-refused n z x) = (
+    ap (λ (a : After Panel). a .player .settings) x
+        ∙ sym (cond-false _ _ w ∙ ap (λ (a : After Panel). cond (isZero (a .answers)) (setBy (p .settings) c) (p .settings)) x ∙ cond-false _ _ z),
+    subst⁻¹ (λ (a : After Panel). Valid (a .player .settings .last)) x l,
+  )
+
+  set-so : (c : Call) → (afterOf p c .player .settings ≡ setAfter c) × Valid (afterOf p c .player .settings .last)
+  unfolding afterOf submitOf submittedOf receiveOf playKeysOf cycleOf
+  set-so (submit d handed) = (sym (same-set (isZero (afterOf p (submit d handed) .answers))), l)
+  set-so (burst bytes area) = (sym (same-set (isZero (afterOf p (burst bytes area) .answers))), l)
+  set-so (keyboard bytes) = (sym (same-set (isZero (afterOf p (keyboard bytes) .answers))), l)
+  set-so (cycle b) =
+      (sym (ap (λ (x : InUse). cond (numbered (cycle b)) (p .settings) x) (same-set (isZero (afterOf p (cycle b) .answers))) ∙ same-set (numbered (cycle b))), l)
+  set-so (change area handed) = by-sets (change area handed) refl (changes p area handed)
+  set-so (undo area) = by-sets (undo area) refl (undoes p area)
+
+counted : (cs : List Call) (n : ℕ) (z : Last) (p : Panel) → Counted n (traceFrom panel n z p cs)
+unfolding traceFrom
+counted [] n z p = tt
+counted (c ∷ cs) n z p = (refl, counted cs _ _ (afterOf p c .player))
+
+panel-bound : (cs : List Call) (n : ℕ) (z : Last) (p : Panel) → Valid (p .settings .last) → AllBound (p .settings) (traceFrom panel n z p cs)
+unfolding traceFrom
+panel-bound [] n z p l = tt
+panel-bound (c ∷ cs) n z p l =
+    let s = set-so p l c in (
+      record { block = heard p l c; none = no-sound p l c },
+      subst (λ (x : InUse). AllBound x (traceFrom panel (cyclesWith (transitionOf panel n z p c)) (lastWith (transitionOf panel n z p c)) (afterOf p c .player) cs)) (s .0)
+          (panel-bound cs _ _ (afterOf p c .player) (s .1)),
+    )
 
 pub ceiling-binds : CeilingBinds
 unfolding CeilingBinds
-ceiling-binds orchestra is ceiling chosen g cs = panel-within ceiling chosen (g .low) (g .high) cs 0 none _ (fresh-kept orchestra is ceiling chosen g .locked)
+ceiling-binds u is g cs =
+    bound-within (u .chosen) (firstInUse u) (traceFrom panel 0 none (fresh u) cs) (counted cs 0 none (fresh u))
+    (subst (λ (x : InUse). AllBound x (traceFrom panel 0 none (fresh u) cs)) (ap (λ (h : History VoiceState). h .set) (fresh-own u is g))
+    (panel-bound cs 0 none (fresh u) (fresh-invariant u is g .valid)))
+
+core-counted : (ls : List LentCall) (n : ℕ) (z : Last) (c : Core) → Counted n (lentFrom n z c ls)
+unfolding lentFrom
+core-counted [] n z c = tt
+core-counted (l ∷ ls) n z c = (refl, core-counted ls _ _ _)
+
+core-bound : (ls : List LentCall) (n : ℕ) (z : Last) (c : Core) → Valid (c .settings .last) → AllBound (c .settings) (lentFrom n z c ls)
+unfolding lentFrom
+core-bound [] n z c l = tt
+core-bound (x ∷ xs) n z c l =
+    let p = panelOf c (x .code) (x .vals) in
+    let m = transitionOf (core (x .code) (x .vals)) n z c (x .call) in
+    let s = set-so p l (x .call) in (
+      record { block = heard p l (x .call); none = no-sound p l (x .call) },
+      subst (λ (y : InUse). AllBound y (lentFrom (cyclesWith m) (lastWith m) (coreOf (afterOf p (x .call) .player)) xs)) (s .0)
+          (core-bound xs _ _ (coreOf (afterOf p (x .call) .player)) (s .1)),
+    )
 
 pub core-ceiling-binds : CoreCeilingBinds
 unfolding CoreCeilingBinds
-core-ceiling-binds orchestra is ceiling chosen g c code vals e ls =
-    core-within ceiling chosen (g .low) (g .high) ls 0 none c (ap (λ (p : Panel). p .ceiling) e ∙ fresh-kept orchestra is ceiling chosen g .locked)
+core-ceiling-binds u is g c code vals e ls =
+    let q : c .settings ≡ fresh u .settings = ap (λ (p : Panel). p .settings) e in
+    bound-within (u .chosen) (firstInUse u) (lentFrom 0 none c ls) (core-counted ls 0 none c)
+    (subst (λ (x : InUse). AllBound x (lentFrom 0 none c ls)) (q ∙ ap (λ (h : History VoiceState). h .set) (fresh-own u is g))
+    (core-bound ls 0 none c (subst⁻¹ (λ (x : InUse). Valid (x .last)) q (fresh-invariant u is g .valid))))
 
 -- ---- the panel in two
 
@@ -86,13 +163,16 @@ pub core-by-contract : CoreByContract
 unfolding CoreByContract afterOf
 core-by-contract c code vals =
     record {
-      entrance = λ d handed r e. λ i. let x = sym (e code vals) i in record { player = coreOf (x .panel); answers = one (numberOf (x .answer)) (x .line); block = []; area = [] };
+      entrance = λ d handed r e. λ i. let x = sym (e code vals) i in record { player = coreOf (x .panel); answers = one (numberOf (x .answer)) (x .line); buffers = noBuffers };
       units = λ bytes area left r e f. λ i.
           let x = sym (e code vals) i in
           let l = sym (f code vals) i in
-          record { player = coreOf (x .panel); answers = one (numberOf (x .answer)) 0 ++ each unitAnswer (take (x .units) l); block = []; area = l };
-      keys = λ bytes r e. λ i. let x = sym (e code vals) i in record { player = coreOf (x .panel); answers = one (numberOf (x .answer)) 0; block = []; area = [] };
-      sound = λ lent left r e f. λ i. let x = sym e i in record { player = coreOf (x .panel); answers = one (numberOf (x .answer)) 0; block = sym f i; area = [] };
+          record { player = coreOf (x .panel); answers = one (numberOf (x .answer)) 0 ++ each unitAnswer (take (x .units) l); buffers = onlyAnswers l };
+      keys = λ bytes r e. λ i. let x = sym (e code vals) i in record { player = coreOf (x .panel); answers = one (numberOf (x .answer)) 0; buffers = noBuffers };
+      settings = λ area handed left r e f. λ i.
+          let x = sym (e code vals) i in record { player = coreOf (x .panel); answers = one (numberOf (x .answer)) 0; buffers = onlySettings (sym (f code vals) i) };
+      back = λ area r e. λ i. let x = sym (e code vals) i in record { player = coreOf (x .panel); answers = one (numberOf (x .answer)) 0; buffers = onlySettings area };
+      sound = λ lent left r e f. λ i. let x = sym e i in record { player = coreOf (x .panel); answers = one (numberOf (x .answer)) 0; buffers = onlyBlock (sym f i) };
     }
 
 module _ (code : List ℕ) (vals : List Float) where

@@ -1,8 +1,7 @@
 -- What a cycle call leaves, of every panel.
 use mathlib.Core.Path.{_≡_, refl, ap, _∙_}
-use mathlib.Core.Bool.{Bool, true, false, not, cond, true≢false}
+use mathlib.Core.Bool.{Bool, true, false, not, cond}
 use mathlib.Core.List.{List, [], _∷_}
-use Prim.Native.Nat.{ℕ}
 use native.Mathlib.Omega.{arith}
 use lib.IntN.{ℤ}
 use lib.ListN.{length, drop, length-take}
@@ -17,7 +16,7 @@ use Rattle.player_model.specs.Cycle.{isDue, samples}
 use Rattle.player_model.specs.Cycle as cycle
 use Rattle.player_model.specs.PlayerState.{PlayingState, laterThan, dueOf, endsBy, blockOf, played}
 use Rattle.player_model.specs.inside.PlayerState.{capped}
-use Rattle.player_model.specs.Calls.{Call, submit, burst, keyboard, cycle as cycle-call, one, numbered, After}
+use Rattle.player_model.specs.Calls.{cycle as cycle-call, one, numbered, onlyBlock, After}
 use Rattle.player_model.specs.History.{at}
 use Rattle.player_model.proofs.Lists.{length-filter}
 use Rattle.player_model.proofs.Loops.{length-over}
@@ -36,10 +35,7 @@ use Rattle.player_calls.specs.declared.CallResult.{CallResult}
 use Rattle.panel.specs.State.{voicesOf, playerStateOf, settingsIn, withState, endedOf}
 use Rattle.panel.specs.Calls.{cycleOf, blockAfter}
 use Rattle.panel.specs.declared.Panel.{Panel}
-use Rattle.panel_claims.specs.Claims.{afterOf, reachedOf, findsEnd, blockIn, areaOf, Refused, RefusalsChangeNothing}
-use Rattle.panel_claims.proofs.Entrances.{Brings, takes, refuses, brings}
-use Rattle.panel_claims.proofs.Bursts.{Receives, received, unreceived, receives}
-use Rattle.panel_claims.proofs.Keyboard.{Presses, keys-over, keys-faulty, keys-full, keys-taken, presses}
+use Rattle.panel_claims.specs.Claims.{afterOf, reachedOf}
 
 -- ---- what is laid over an array is read back
 
@@ -91,12 +87,12 @@ played-long p h =
 -- ---- what the call leaves
 
 pub data Cycles (p : Panel) (b : List ℤ) (a : After Panel) : Type 0 where
-  off : numbered (cycle-call b) ≡ false → a ≡ record { player = p; answers = one 10 0; block = b; area = [] } → Cycles p b a
-  over-before : numbered (cycle-call b) ≡ true → p .state .playing .ended ≡ true → a ≡ record { player = p; answers = one 9 0; block = b; area = [] } → Cycles p b a
+  off : numbered (cycle-call b) ≡ false → a ≡ record { player = p; answers = one 10 0; buffers = onlyBlock b } → Cycles p b a
+  over-before : numbered (cycle-call b) ≡ true → p .state .playing .ended ≡ true → a ≡ record { player = p; answers = one 9 0; buffers = onlyBlock b } → Cycles p b a
   ends : numbered (cycle-call b) ≡ true → p .state .playing .ended ≡ false → endsBy (dueOf (playerStateOf p)) (playerStateOf p .plays) ≡ true
-      → a ≡ record { player = endedOf p; answers = one 9 0; block = b; area = [] } → Cycles p b a
+      → a ≡ record { player = endedOf p; answers = one 9 0; buffers = onlyBlock b } → Cycles p b a
   plays : numbered (cycle-call b) ≡ true → p .state .playing .ended ≡ false → endsBy (dueOf (playerStateOf p)) (playerStateOf p .plays) ≡ false
-      → a ≡ record { player = playedOf p; answers = one 0 0; block = blockOf (voicesOf (p .program)) (settingsIn p) (dueOf (playerStateOf p)) (playerStateOf p .plays); area = [] }
+      → a ≡ record { player = playedOf p; answers = one 0 0; buffers = onlyBlock (blockOf (voicesOf (p .program)) (settingsIn p) (dueOf (playerStateOf p)) (playerStateOf p .plays)) }
       → Cycles p b a
 
 pub cycles : (p : Panel) (b : List ℤ) → Cycles p b (afterOf p (cycle-call b))
@@ -114,41 +110,8 @@ cycles p b = go (eqb (length b) samples) (p .state .playing .ended) (endsBy (due
         (record { state = p .state; answer = answer.BlockLength })
 
     go : (w e d : Bool) → eqb (length b) samples ≡ w → p .state .playing .ended ≡ e → endsBy (dueOf (playerStateOf p)) (playerStateOf p .plays) ≡ d
-        → Cycles p b (record { player = withState p (out w e d .state); answers = one (numberOf (out w e d .answer)) 0; block = cond (isTaken (out w e d .answer)) sound b; area = [] })
+        → Cycles p b (record { player = withState p (out w e d .state); answers = one (numberOf (out w e d .answer)) 0; buffers = onlyBlock (cond (isTaken (out w e d .answer)) sound b) })
     go true true d hw he hd = over-before hw he refl
     go true false true hw he hd = ends hw he hd refl
     go true false false hw he hd = plays hw he hd refl
     go false e d hw he hd = off hw refl
-
--- ---- refusals
-
-refused-so : (p : Panel) (c : Call) {b : Bool} {n l : ℕ} → findsEnd p c ≡ b
-    → afterOf p c ≡ record { player = cond b (endedOf p) p; answers = one n l; block = blockIn c; area = areaOf c } → Refused p c
-refused-so p c f x = record { player = cc; block = cc; area = cc }
-
-pub refusals-change-nothing : RefusalsChangeNothing
-unfolding RefusalsChangeNothing
-refusals-change-nothing p (submit d handed) t = go (brings p d handed)
-  where
-    go : {ls : List Line} → Brings p ls (afterOf p (submit d handed)) → Refused p (submit d handed)
-    go (takes l q e f x) = absurd (true≢false (cc))
-    go (refuses n l z x) = refused-so p (submit d handed) refl x
-refusals-change-nothing p (burst bytes area) t = go (receives p bytes area)
-  where
-    go : Receives p bytes area (afterOf p (burst bytes area)) → Refused p (burst bytes area)
-    go (received us q x) = absurd (true≢false (cc))
-    go (unreceived n z x) = refused-so p (burst bytes area) refl x
-refusals-change-nothing p (keyboard bytes) t = go (presses p bytes)
-  where
-    go : Presses p bytes (afterOf p (keyboard bytes)) → Refused p (keyboard bytes)
-    go (keys-over e x) = refused-so p (keyboard bytes) refl x
-    go (keys-faulty n e f z x) = refused-so p (keyboard bytes) refl x
-    go (keys-full ms e f l x) = refused-so p (keyboard bytes) refl x
-    go (keys-taken ms e f l x) = absurd (true≢false (cc))
-refusals-change-nothing p (cycle-call b) t = go (cycles p b)
-  where
-    go : Cycles p b (afterOf p (cycle-call b)) → Refused p (cycle-call b)
-    go (off w x) = refused-so p (cycle-call b) {b = false} (cc) x
-    go (over-before w e x) = refused-so p (cycle-call b) {b = false} (cc) x
-    go (ends w e d x) = refused-so p (cycle-call b) {b = true} (cc) x
-    go (plays w e d x) = absurd (true≢false (cc))

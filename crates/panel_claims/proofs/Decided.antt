@@ -1,5 +1,5 @@
 -- Every call has a verdict, whatever was called before.
-use mathlib.Core.Path.{_≡_, refl, _∙_}
+use mathlib.Core.Path.{_≡_, refl, _∙_, subst}
 use mathlib.Core.Bool.{Bool, true, false, not, cond, _&&_}
 use mathlib.Core.List.{List, [], _∷_, _++_}
 use Prim.Native.Nat.{ℕ, suc, _+_}
@@ -7,7 +7,15 @@ use native.Mathlib.Omega.{arith}
 use lib.IntN.{ℤ}
 use lib.ListN.{length}
 use lib.Dec.{eqb, ltb, leb}
-use borrow.Author.Tests.{ltb-true, ltb-false, leb-true, leb-false, not-true, not-false}
+use borrow.Author.Tests.{ltb-true, ltb-false, leb-true, leb-false, eqb-true, eqb-false, not-true, not-false}
+use Rattle.base_answer.specs.Numbers.{numberOf, isTaken}
+use Rattle.settings_records.specs.Form as settings
+use Rattle.settings_records.specs.inside.Reading.{foundIn, recordsIn}
+use Rattle.settings_records.specs.Changes.{areaBytes}
+use Rattle.settings_records.specs.declared.Found as settings-found
+use Rattle.settings_records.proofs.Walk.{found-fits}
+use Rattle.settings_records.proofs.Meaning.{every-record}
+use Rattle.settings_records.proofs.Areas.{content-refused, all-valid, first-fault}
 use Rattle.base_laws.proofs.Choice.{both-true}
 use Rattle.base_answer.specs.declared.Answer as kind
 use Rattle.base_answer.specs.declared.Answer.the-variants as answer
@@ -15,14 +23,14 @@ use Rattle.score_line.specs.declared.Line.{Line}
 use Rattle.text_format.specs.inside.Reading.{lines}
 use Rattle.orchestra_syntax.specs.Tree.{Instrument}
 use Rattle.player_model.specs.PlayerState.{dueOf, endsBy}
-use Rattle.player_model.specs.Calls.{Entrance, unit, mustBeTimed, hasTime, reads, Call, submit, burst, cycle, Answer, one, numbered, keyboard}
+use Rattle.player_model.specs.Calls.{Entrance, unit, mustBeTimed, hasTime, reads, Call, submit, burst, cycle, Answer, one, numbered, keyboard, change, undo}
 use Rattle.player_model.specs.History.{History}
 use Rattle.player_model.proofs.Lists.{by-test}
 use Rattle.score_bursts.specs.Bursts as bursts
 use Rattle.score_bursts.specs.Bursts.{Burst, mostUnits}
 use Rattle.score_bursts.proofs.Meaning as burst-kinds
 use Rattle.score_bursts.proofs.Meaning.{every-burst, every-kind as every-kind-of-burst}
-use Rattle.panel_claims.specs.Verdict.{Playable, tooLate, mostLines, Fits, AllFit, Faulty, untimed, unplayable, late, full, Verdict, AtEntrance, AtCycle, over, badText, cut, notCarried, outOfRange, tooManyValues, leftOver, faulty, taken, otherLength, overBefore, findsEnd, plays, AtKeyboard, mostMessages, keysOver, keysCut, keysNotCarried, keysFull, keysTaken, withLines, InTurn, none, next, burstCut, burstTooLong, burstNoRoom, burstTaken, once}
+use Rattle.panel_claims.specs.Verdict.{Playable, tooLate, mostLines, Fits, AllFit, Faulty, untimed, unplayable, late, full, Verdict, AtEntrance, AtCycle, over, badText, cut, notCarried, outOfRange, tooManyValues, leftOver, faulty, taken, otherLength, overBefore, findsEnd, plays, AtKeyboard, mostMessages, keysOver, keysCut, keysNotCarried, keysFull, keysTaken, NotReached, setOver, areaLength, usedFault, Stand, AtChange, changeNot, newFault, newLeftOver, newNoRoom, changeTaken, AtUndo, undoNot, undoNothing, undoTaken, withLines, InTurn, none, next, burstCut, burstTooLong, burstNoRoom, burstTaken, once}
 use Rattle.midi_messages.specs.Message.{none as noStatus}
 use Rattle.midi_messages.specs.Writing as midi
 use Rattle.midi_messages.specs.Writing.{Parses}
@@ -111,6 +119,51 @@ module _ {S : Type 0} (is : List Instrument) (h : History S) where
       (λ x. record { number = 0; line = 0; verdict = plays w e x })))
       (λ w. record { number = 10; line = 0; verdict = otherLength w })
 
+-- a change and an undo
+module _ {S : Type 0} (is : List Instrument) (h : History S) (area : List ℕ) where
+  -- 9, 8 and the records in use, or what then is asked
+  abbrev found-there : settings-found.Found
+  found-there = recordsIn (h .set .count) area
+
+  reached-so : {P : ℕ → ℕ → Type 0} → ((n : ℕ) → NotReached is h area n → P n 0) → (Stand is h area (found-there .size) → Found is h P) → Found is h P
+  reached-so f g =
+      by-test (h .holds .plays .ended) (λ e. record { number = 9; line = 0; verdict = f 9 (setOver e) })
+      (λ e. by-test (eqb (length area) areaBytes)
+      (λ q. let whole = eqb-true (length area) areaBytes q in by-test (isTaken (found-there .answer))
+      (λ t. g (record { goesOn = e; whole = whole; last = found-there .setting; valid = all-valid (h .set .count) area t }))
+      (λ t. record { number = numberOf (found-there .answer); line = 0; verdict = f _ (usedFault e whole (first-fault (h .set .count) area t) t) }))
+      (λ q. record { number = 8; line = 0; verdict = f 8 (areaLength e (eqb-false (length area) areaBytes q)) }))
+
+  at-change : (handed : List ℕ) → Found is h (AtChange is h area handed)
+  at-change handed = reached-so (λ n v. changeNot v) (λ s. by-test (isTaken (foundIn handed .answer)) (whole s) (λ t. faulty-record s t))
+    where
+      new : settings.Parses handed (foundIn handed)
+      new = every-record handed
+
+      faulty-record : Stand is h area (found-there .size) → isTaken (foundIn handed .answer) ≡ false → Found is h (AtChange is h area handed)
+      faulty-record s t =
+          record { number = numberOf (foundIn handed .answer); line = 0; verdict = newFault s (subst (settings.Parses handed) (content-refused new t) new) t }
+
+      whole : Stand is h area (found-there .size) → isTaken (foundIn handed .answer) ≡ true → Found is h (AtChange is h area handed)
+      whole s t =
+          let fits = found-fits handed in
+          let size = foundIn handed .size in
+          let at = found-there .size in
+          let valid-record = subst (settings.Parses handed) (fits .shape t) new in
+          by-test (ltb size (length handed))
+          (λ q. record { number = 11; line = 0; verdict = newLeftOver s valid-record (ltb-true size (length handed) q) })
+          (λ q. let e : size ≡ length handed = omega (arith, ltb-false size (length handed) q, fits .most t) in
+          let exact = subst (λ (n : ℕ). settings.Parses handed (settings.found (foundIn handed .setting) n)) e valid-record in
+          by-test (leb (at + length handed) areaBytes)
+          (λ m. record { number = 0; line = 0; verdict = changeTaken s exact (leb-true (at + length handed) areaBytes m) })
+          (λ m. record { number = 8; line = 0; verdict = newNoRoom s exact (leb-false (at + length handed) areaBytes m) }))
+
+  at-undo : Found is h (AtUndo is h area)
+  at-undo =
+      reached-so (λ n v. undoNot v)
+      (λ s. by-test (ltb (h .set .count) 2) (λ q. record { number = 21; line = 0; verdict = undoNothing s (ltb-true (h .set .count) 2 q) })
+      (λ q. record { number = 0; line = 0; verdict = undoTaken s (ltb-false (h .set .count) 2 q) }))
+
 -- units in turn have answers
 record Answers {S : Type 0} (is : List Instrument) (h : History S) (us : List (List ℕ)) : Type 0 where
   told : List Answer
@@ -145,3 +198,5 @@ module _ {S : Type 0} (is : List Instrument) (h : History S) where
   decided (burst bytes area) = at-burst bytes area
   decided (keyboard bytes) = let x = at-keyboard is h bytes in record { answers = one (x .number) (x .line); verdict = once (x .verdict) }
   decided (cycle block) = let x = at-cycle is h block in record { answers = one (x .number) (x .line); verdict = once (x .verdict) }
+  decided (change area handed) = let x = at-change is h area handed in record { answers = one (x .number) (x .line); verdict = once (x .verdict) }
+  decided (undo area) = let x = at-undo is h area in record { answers = one (x .number) (x .line); verdict = once (x .verdict) }

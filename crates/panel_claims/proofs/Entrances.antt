@@ -16,7 +16,7 @@ use Rattle.code_program.specs.declared.FieldCount.{FieldCount}
 use Rattle.player_queue.proofs.Admission.{taken-pushed, taken-room, waiting-pushed, length-pushed}
 use Rattle.code_program.specs.InstrumentTable.{fieldCountIn}
 use Rattle.code_program.specs.declared.Instrument.{Instrument}
-use Rattle.player_model.specs.Calls.{Entrance, mustBeTimed, hasTime, reads, submit, one, After}
+use Rattle.player_model.specs.Calls.{Entrance, mustBeTimed, hasTime, reads, submit, one, noBuffers, After}
 use Rattle.player_model.proofs.Lists.{by-test, either-way}
 use Rattle.entrance_admission.specs.Submission.{lineAdmitted, admittedAll, submittedIn}
 use Rattle.entrance_admission.specs.declared.AdmissionResult.{AdmissionResult}
@@ -74,20 +74,20 @@ module _ (timed : Bool) (table : List Instrument) where
 
 pub data Brings (p : Panel) (ls : List Line) (a : After Panel) : Type 0 where
   takes : (l : ℕ) (q : Queue) → p .state .playing .ended ≡ false → (length (p .state .queue .lines) ≡ 64 → Behind (p .state .queue) ls q)
-      → a ≡ record { player = withQueue p q; answers = one 0 l; block = []; area = [] } → Brings p ls a
-  refuses : (n l : ℕ) → eqb n 0 ≡ false → a ≡ record { player = p; answers = one n l; block = []; area = [] } → Brings p ls a
+      → a ≡ record { player = withQueue p q; answers = one 0 l; buffers = noBuffers } → Brings p ls a
+  refuses : (n l : ℕ) → eqb n 0 ≡ false → a ≡ record { player = p; answers = one n l; buffers = noBuffers } → Brings p ls a
 
 pub brings : (p : Panel) (d : Entrance) (handed : List ℕ) → Brings p (reads d handed .lines) (afterOf p (submit d handed))
 unfolding afterOf submitOf submittedOf onState.submittedOf submittedIn withQueue
 brings p d handed = go (p .state .playing .ended) refl
   where
     left : AdmissionResult → After Panel
-    left r = record { player = withQueue p (r .queue); answers = one (numberOf (r .answer)) (r .line); block = []; area = [] }
+    left r = record { player = withQueue p (r .queue); answers = one (numberOf (r .answer)) (r .line); buffers = noBuffers }
 
     by-lines : p .state .playing .ended ≡ false → (r : AdmissionResult) → Went (mustBeTimed d) (tableOf (p .program)) (p .state .queue) (p .state .queue) (reads d handed .lines) r
         → Brings p (reads d handed .lines) (left r)
-    by-lines e r (in-all t f) = takes (r .line) (r .queue) e f (λ i. record { player = withQueue p (r .queue); answers = one (eqb-true (numberOf (r .answer)) 0 t i) (r .line); block = []; area = [] })
-    by-lines e r (in-none t s) = refuses (numberOf (r .answer)) (r .line) t (λ i. record { player = withQueue p (s i); answers = one (numberOf (r .answer)) (r .line); block = []; area = [] })
+    by-lines e r (in-all t f) = takes (r .line) (r .queue) e f (λ i. record { player = withQueue p (r .queue); answers = one (eqb-true (numberOf (r .answer)) 0 t i) (r .line); buffers = noBuffers })
+    by-lines e r (in-none t s) = refuses (numberOf (r .answer)) (r .line) t (λ i. record { player = withQueue p (s i); answers = one (numberOf (r .answer)) (r .line); buffers = noBuffers })
 
     go : (b : Bool) → p .state .playing .ended ≡ b
         → Brings p (reads d handed .lines) (left (submittedIn b (mustBeTimed d) (tableOf (p .program)) (p .state .queue) (reads d handed)))

@@ -1,7 +1,7 @@
 -- What a call at the keyboard leaves, of every panel.
 use mathlib.Core.Path.{_≡_, refl, _∙_}
 use mathlib.Core.Bool.{Bool, true, false, cond, true≢false}
-use mathlib.Core.List.{List, [], _++_}
+use mathlib.Core.List.{List, _++_}
 use Prim.Native.Nat.{ℕ, _+_, _≤_, _<_}
 use native.Mathlib.Omega.{arith}
 use lib.ListN.{length, drop, length-append}
@@ -16,7 +16,7 @@ use Rattle.midi_messages.specs.inside.Reading.{callOf}
 use Rattle.midi_messages.specs.declared.NoteMessage.{NoteMessage}
 use Rattle.midi_messages.proofs.Meaning.{one-parse}
 use Rattle.midi_messages.proofs.Faults.{Kind, is-whole, is-cut, is-not-carried, every-kind}
-use Rattle.player_model.specs.Calls.{keyboard, one, After}
+use Rattle.player_model.specs.Calls.{keyboard, one, noBuffers, After}
 use Rattle.player_model.proofs.Loops.{length-over}
 use Rattle.midi_queue.specs.Keyboard.{mostMessages, messagesIn, behind, enqueuedIn}
 use Rattle.midi_queue.specs.declared.MessageQueue.{MessageQueue}
@@ -42,13 +42,13 @@ length-behind w ms long h = length-over (messagesIn w ++ ms) (w .list) (omega (a
 -- ---- what the call leaves
 
 pub data Presses (p : Panel) (bytes : List ℕ) (a : After Panel) : Type 0 where
-  keys-over : p .state .playing .ended ≡ true → a ≡ record { player = p; answers = one 9 0; block = []; area = [] } → Presses p bytes a
+  keys-over : p .state .playing .ended ≡ true → a ≡ record { player = p; answers = one 9 0; buffers = noBuffers } → Presses p bytes a
   keys-faulty : (f : Answer) → p .state .playing .ended ≡ false → callOf bytes ≡ fault f → eqb (numberOf f) 0 ≡ false
-      → a ≡ record { player = p; answers = one (numberOf f) 0; block = []; area = [] } → Presses p bytes a
+      → a ≡ record { player = p; answers = one (numberOf f) 0; buffers = noBuffers } → Presses p bytes a
   keys-full : (ms : List NoteMessage) → p .state .playing .ended ≡ false → callOf bytes ≡ whole ms → mostMessages < length (messagesIn (p .state .messages)) + length ms
-      → a ≡ record { player = p; answers = one 8 0; block = []; area = [] } → Presses p bytes a
+      → a ≡ record { player = p; answers = one 8 0; buffers = noBuffers } → Presses p bytes a
   keys-taken : (ms : List NoteMessage) → p .state .playing .ended ≡ false → callOf bytes ≡ whole ms → length (messagesIn (p .state .messages)) + length ms ≤ mostMessages
-      → a ≡ record { player = withMessages p (behind (p .state .messages) ms); answers = one 0 0; block = []; area = [] } → Presses p bytes a
+      → a ≡ record { player = withMessages p (behind (p .state .messages) ms); answers = one 0 0; buffers = noBuffers } → Presses p bytes a
 
 pub presses : (p : Panel) (bytes : List ℕ) → Presses p bytes (afterOf p (keyboard bytes))
 unfolding afterOf playKeysOf keyboardCallOf enqueuedIn withMessages
@@ -61,7 +61,7 @@ presses p bytes = by-end (p .state .playing .ended) refl
     out e r = cond e (record { state = p .state; answer = answer.Ended }) (record { state = onState.withMessages (p .state) (r .messages); answer = r .answer })
 
     left : Bool → QueueResult → After Panel
-    left e r = record { player = withState p (out e r .state); answers = one (numberOf (out e r .answer)) 0; block = []; area = [] }
+    left e r = record { player = withState p (out e r .state); answers = one (numberOf (out e r .answer)) 0; buffers = noBuffers }
 
     by-room : (ms : List NoteMessage) → p .state .playing .ended ≡ false → callOf bytes ≡ whole ms → (b : Bool) → leb (length (messagesIn w) + length ms) mostMessages ≡ b
         → Presses p bytes (left false (cond b (record { messages = behind w ms; answer = answer.Taken }) (record { messages = w; answer = answer.NoRoom })))

@@ -5,6 +5,9 @@ pub mod Alone
 pub mod Keyboard
 pub mod Chosen
 pub mod Cycles
+pub mod Settings
+pub mod Refusals
+pub mod Starts
 pub mod Past
 pub mod Ceiling
 pub mod Fitting
@@ -15,3 +18,5 @@ pub mod Answers
 pub mod Written
 pub mod Verdicts
 pub mod Fresh
+pub mod Standing
+pub mod Told

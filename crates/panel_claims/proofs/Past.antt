@@ -1,13 +1,12 @@
 -- The panel holds what its history says, its cycle is the cycle of its history, and so it keeps condition 3, notes by place.
 use mathlib.Core.Path.{_≡_, refl, sym, ap, _∙_, subst, subst⁻¹}
-use mathlib.Core.Bool.{Bool, true, false, cond, _&&_, true≢false, false≢true}
+use mathlib.Core.Bool.{Bool, true, false, cond, true≢false, false≢true}
 use mathlib.Core.List.{List, [], _∷_, _++_, append-nil}
-use Prim.Native.Nat.{ℕ, _+_, _≤_}
+use Prim.Native.Nat.{ℕ, _+_, _≤_, min}
 use native.Mathlib.Omega.{arith}
 use lib.IntN.{ℤ}
 use lib.ListN.{length, length-take, length-replicate}
-use lib.Dec.{eqb, leb}
-use borrow.Author.Tests.{le-leb}
+use lib.Dec.{eqb}
 use Rattle.base_answer.specs.Numbers.{numberOf, isTaken}
 use Rattle.score_line.specs.declared.Line.{Line}
 use Rattle.orchestra_syntax.specs.Tree.{Instrument}
@@ -17,10 +16,13 @@ use Rattle.voices_resolved.proofs.Alike.{Alike, Notes, block-same, played-same,
 use Rattle.voices_compiled.specs.Voices.{VoiceState}
 use Rattle.player_model.specs.Lists.{each}
 use Rattle.player_model.specs.Cycle.{Voices, positionLimit}
-use Rattle.player_model.specs.PlayerState.{Settings, Due, settingsOf, defaultTempo, PlayerState, behind, withMessages, laterThan, dueOf, endsBy, markedEnded, answerOf, blockOf, played, cycled}
+use Rattle.settings_records.specs.Form.{Valid}
+use Rattle.settings_records.specs.declared.InUse.{InUse}
+use Rattle.player_model.specs.Set.{setBy, inForce}
+use Rattle.player_model.specs.PlayerState.{Settings, Due, settingsOf, PlayerState, behind, withMessages, laterThan, dueOf, endsBy, markedEnded, answerOf, blockOf, played, cycled}
 use Rattle.player_model.specs.inside.PlayerState.{capped}
 use Rattle.player_model.specs.Plain.{plainStart}
-use Rattle.player_model.specs.Calls.{Entrance, unit, reads, Call, submit, burst, keyboard, cycle, wholeMessages, messagesIn, Answer, one, After, numbered, linesOf, takenOf, isZero, Last, none, cyclesWith, lastWith, transitionOf, traceFrom, trace, afterAll}
+use Rattle.player_model.specs.Calls.{Entrance, unit, reads, Call, submit, burst, keyboard, cycle, change, undo, wholeMessages, messagesIn, Answer, one, noBuffers, onlyBlock, After, numbered, linesOf, takenOf, isZero, Last, none, cyclesWith, lastWith, transitionOf, traceFrom, trace, afterAll}
 use Rattle.player_model.specs.Condition3.{PlainAlike}
 use Rattle.player_model.specs.History.{at, History, unbegun, withCycle, withTransition, historyFrom, historyOf}
 use Rattle.player_model.proofs.Lists.{either-way, cond-true, cond-false, all-append, all-map}
@@ -31,20 +33,23 @@ use Rattle.midi_messages.specs.Writing as midi
 use Rattle.midi_messages.specs.inside.Reading.{blank, callOf}
 use Rattle.midi_messages.specs.declared.NoteMessage.{NoteMessage}
 use Rattle.midi_queue.specs.Keyboard.{noMessages, mostMessages, messagesIn as waitingMessages, behind as behindMessages}
-use Rattle.entrance_readers.specs.Entrances.{blankLine}
+use Rattle.score_line.specs.Reading.{blankLine}
 use Rattle.player_state.specs.States.{stopped}
 use Rattle.player_cycle.specs.OneCycle as oneCycle
 use Rattle.code_program.specs.declared.Program.{Program}
 use Rattle.code_loader.specs.Loading.{loadOf}
 use Rattle.code_loader_claims.specs.Claims.{StandsFor}
 use Rattle.code_loader_claims.proofs.Loaded.{loaded}
-use Rattle.panel.specs.State.{tableOf, voicesOf, playerStateOf, settingsIn, panelAt, withQueue, withMessages as panelWith, endedOf}
+use Rattle.panel.specs.State.{tableOf, voicesOf, playerStateOf, settingsIn, panelAt, withInUse, withQueue, withMessages as panelWith, endedOf}
 use Rattle.score_bursts.specs.Bursts.{Burst, unitsIn}
 use Rattle.score_bursts.specs.inside.Reading.{burstOf}
 use Rattle.panel.specs.Calls.{freshOf}
 use Rattle.player_start.specs.Starting.{startOf, startingOf}
 use Rattle.panel.specs.declared.Panel.{Panel}
-use Rattle.panel_claims.specs.Claims.{unitAnswer, afterOf, panel, reachedOf, Given, fresh, settings, panelAfter}
+use Rattle.panel_claims.specs.Claims.{unitAnswer, afterOf, panel, reachedOf, Given, firstInUse, fresh, panelAfter}
+use Rattle.panel_claims.specs.Fresh.{Setup}
+use Rattle.panel_claims.proofs.Settings.{Sets, set-taken, set-refused, changes, undoes}
+use Rattle.panel_claims.proofs.Starts.{first-taken}
 use Rattle.panel_claims.proofs.Ranged.{ranged, ranged-steady, reads-ranged}
 use Rattle.panel_claims.proofs.Entrances.{Behind, Brings, takes, refuses, brings}
 use Rattle.panel_claims.proofs.Bursts.{singly, Receives, received, unreceived, receives, taken-of, leaves}
@@ -54,7 +59,7 @@ use Rattle.panel_claims.proofs.Cycles.{playedOf, holds-played, reached-
 
 -- the history that a panel's own fields tell
 abbrev pub own : Panel → History VoiceState
-own p = record { holds = playerStateOf p; reached = reachedOf p }
+own p = record { holds = playerStateOf p; reached = reachedOf p; set = p .settings }
 
 -- every line read has a tempo of at least 1, if it is a tempo line
 reads-steady : (d : Entrance) (handed : List ℕ) → AllSteady (reads d handed .lines)
@@ -82,56 +87,61 @@ no-others n (l ∷ ls) = either-way (λ (l : List Line). l ++ [] ≡ []) (eqb n 
 
 -- ---- what the panel keeps true of itself
 
-module _ (program : Program) (ceiling chosen : ℕ) (is : List Instrument) (r : StandsFor is program) where
-  pub record Kept (p : Panel) : Type 0 where
+module _ (program : Program) (chosen : ℕ) (is : List Instrument) (r : StandsFor is program) where
+  pub record Invariant (p : Panel) : Type 0 where
     pub has : p .program ≡ program
-    pub locked : p .ceiling ≡ ceiling
+    pub valid : Valid (p .settings .last)
     pub choice : p .chosen ≡ chosen
     pub long : length (p .state .queue .lines) ≡ 64
     pub listed : length (p .state .messages .list) ≡ 64
     pub slow : Slow (playerStateOf p)
     pub good : Notes Sixteen (playerStateOf p .plays .notes)
 
-  -- the voices of the tree, and its settings
+  -- the voices of the tree, and the settings in force
   abbrev w : Voices VoiceState
   w = treeVoices is
 
-  abbrev s : Settings
-  s = settingsOf ceiling chosen
+  abbrev s : InUse → Settings
+  s k = inForce chosen k
+
+  settings-are : (p : Panel) → Invariant p → settingsIn p ≡ s (p .settings)
+  settings-are p k =
+      let m : min (p .settings .last .notes) 16 ≡ p .settings .last .notes = omega (arith, k .valid .notes .1) in
+      λ i. settingsOf (p .settings .last .ceiling) (m i) (k .choice i)
 
   same : Alike Sixteen (voicesOf program) w
   same = alike is (tableOf program) (program .code) (program .vals) r
 
-  few : (p : Panel) → Kept p → length (playerStateOf p .waits) ≤ 64
+  few : (p : Panel) → Invariant p → length (playerStateOf p .waits) ≤ 64
   few p k = omega (arith, length-take (p .state .queue .count) (p .state .queue .lines))
 
-  brief : (p : Panel) → Kept p → length (playerStateOf p .messages) ≤ 64
+  brief : (p : Panel) → Invariant p → length (playerStateOf p .messages) ≤ 64
   brief p k = omega (arith, length-take (p .state .messages .count) (p .state .messages .list))
 
   -- ---- lines and note messages behind
 
   -- what is held, with so many lines and note messages behind
   abbrev with : List Line → List NoteMessage → Panel → History VoiceState
-  with ls ms p = record { holds = withMessages ms (behind ls (playerStateOf p)); reached = reachedOf p }
+  with ls ms p = record { holds = withMessages ms (behind ls (playerStateOf p)); reached = reachedOf p; set = p .settings }
 
   own-takes : (p : Panel) (ls : List Line) (q : Queue) → Behind (p .state .queue) ls q
       → own (withQueue p q) ≡ with ls [] p
   unfolding behind withMessages withQueue
   own-takes p ls q b = rw (append-nil, b .waits, b .ran, b .last)
 
-  kept-takes : (p : Panel) (ls : List Line) (q : Queue) → Behind (p .state .queue) ls q → AllSteady ls → Kept p → Kept (withQueue p q)
+  invariant-takes : (p : Panel) (ls : List Line) (q : Queue) → Behind (p .state .queue) ls q → AllSteady ls → Invariant p → Invariant (withQueue p q)
   unfolding withQueue
-  kept-takes p ls q b t k =
+  invariant-takes p ls q b t k =
       let lines = subst⁻¹ AllSteady (b .waits) (all-append _ (playerStateOf p .waits) ls (k .slow .lines) t) in search
 
   own-presses : (p : Panel) (ms : List NoteMessage) → own (panelWith p (behindMessages (p .state .messages) ms)) ≡ with [] ms p
   unfolding behind withMessages panelWith
   own-presses p ms = rw (append-nil, waits-behind (p .state .messages) ms)
 
-  kept-presses : (p : Panel) (ms : List NoteMessage) → length (waitingMessages (p .state .messages)) + length ms ≤ mostMessages → Kept p
-      → Kept (panelWith p (behindMessages (p .state .messages) ms))
+  invariant-presses : (p : Panel) (ms : List NoteMessage) → length (waitingMessages (p .state .messages)) + length ms ≤ mostMessages → Invariant p
+      → Invariant (panelWith p (behindMessages (p .state .messages) ms))
   unfolding panelWith
-  kept-presses p ms l k =
+  invariant-presses p ms l k =
       let listed = length-behind (p .state .messages) ms (k .listed) l in search
 
   own-none : (p : Panel) → own p ≡ with [] [] p
@@ -140,120 +150,132 @@ module _ (program : Program) (ceiling chosen : ℕ) (is : List Instrument) (r : 
 
   -- ---- a cycle of a history
 
-  module _ (k : ℕ) (h : History VoiceState) where
+  module _ (h : History VoiceState) where
     -- its answer, and what it leaves
     record Turns (n : ℕ) (x : History VoiceState) : Type 0 where
       answers : answerOf (h .holds) ≡ n
-      leaves-so : x ≡ withCycle w (settings ceiling chosen) k h
+      leaves-so : x ≡ withCycle w chosen h
 
-    turns-so : {n : ℕ} {x : PlayerState VoiceState} → answerOf (h .holds) ≡ n → cycled w s (h .holds) ≡ x
-        → Turns n (record { holds = x; reached = cond (eqb n 0) (at (h .holds .plays .position)) (h .reached) })
+    turns-so : {n : ℕ} {x : PlayerState VoiceState} → answerOf (h .holds) ≡ n → cycled w (s (h .set)) (h .holds) ≡ x
+        → Turns n (record { holds = x; reached = cond (eqb n 0) (at (h .holds .plays .position)) (h .reached); set = h .set })
     turns-so n x =
-        record { answers = n; leaves-so = sym (λ i. record { holds = x i; reached = cond (eqb (n i) 0) (at (h .holds .plays .position)) (h .reached) }) }
+        record { answers = n; leaves-so = sym (λ i. record { holds = x i; reached = cond (eqb (n i) 0) (at (h .holds .plays .position)) (h .reached); set = h .set }) }
 
     over-cycle : h .holds .plays .ended ≡ true → Turns 9 h
     unfolding answerOf cycled
     over-cycle e = turns-so (cond-true _ _ e) (cond-true _ _ e)
 
     end-cycle : h .holds .plays .ended ≡ false → endsBy (dueOf (h .holds)) (h .holds .plays) ≡ true
-        → Turns 9 (record { holds = record { waits = h .holds .waits; messages = h .holds .messages; plays = markedEnded (h .holds .plays) }; reached = h .reached })
+        → Turns 9 (record { holds = record { waits = h .holds .waits; messages = h .holds .messages; plays = markedEnded (h .holds .plays) }; reached = h .reached; set = h .set })
     unfolding answerOf cycled
     end-cycle e d = turns-so (cond-false _ _ e ∙ cond-true _ _ d) (cond-false _ _ e ∙ cond-true _ _ d)
 
     play-cycle : h .holds .plays .ended ≡ false → endsBy (dueOf (h .holds)) (h .holds .plays) ≡ false
         → Turns 0 (record {
-          holds = record { waits = laterThan (h .holds .plays .position) (h .holds .waits); messages = []; plays = played w s (dueOf (h .holds)) (h .holds .plays) };
+          holds = record { waits = laterThan (h .holds .plays .position) (h .holds .waits); messages = []; plays = played w (s (h .set)) (dueOf (h .holds)) (h .holds .plays) };
           reached = at (h .holds .plays .position);
+          set = h .set;
         })
     unfolding answerOf cycled
     play-cycle e d = turns-so (cond-false _ _ e ∙ cond-false _ _ d) (cond-false _ _ e ∙ cond-false _ _ d)
 
   -- ---- the panel's cycle
 
-  module _ (p : Panel) (k : Kept p) where
+  module _ (p : Panel) (k : Invariant p) where
     abbrev due : Due
     due = dueOf (playerStateOf p)
 
-    block-is : blockOf (voicesOf (p .program)) (settingsIn p) due (playerStateOf p .plays) ≡ blockOf w s due (playerStateOf p .plays)
+    block-is : blockOf (voicesOf (p .program)) (settingsIn p) due (playerStateOf p .plays) ≡ blockOf w (s (p .settings)) due (playerStateOf p .plays)
     block-is =
-        (λ i. blockOf (voicesOf (k .has i)) (settingsOf (k .locked i) (k .choice i)) due (playerStateOf p .plays))
-        ∙ block-same Sixteen same s due (playerStateOf p .plays) (k .good)
+        (λ i. blockOf (voicesOf (k .has i)) (settings-are p k i) due (playerStateOf p .plays))
+        ∙ block-same Sixteen same (s (p .settings)) due (playerStateOf p .plays) (k .good)
 
     module _ (d : endsBy due (playerStateOf p .plays) ≡ false) where
       near : playerStateOf p .plays .position ≤ positionLimit
       near = within-limit due (playerStateOf p .plays) d
 
-      plays-is : capped (played (voicesOf (p .program)) (settingsIn p) due (playerStateOf p .plays)) ≡ played w s due (playerStateOf p .plays)
+      plays-is : capped (played (voicesOf (p .program)) (settingsIn p) due (playerStateOf p .plays)) ≡ played w (s (p .settings)) due (playerStateOf p .plays)
       plays-is =
-          (λ i. capped (played (voicesOf (k .has i)) (settingsOf (k .locked i) (k .choice i)) due (playerStateOf p .plays)))
-          ∙ cap-none (voicesOf program) s (playerStateOf p) (few p k) (brief p k) (k .slow) near
-          ∙ played-same Sixteen same s due (playerStateOf p .plays) (k .good)
+          (λ i. capped (played (voicesOf (k .has i)) (settings-are p k i) due (playerStateOf p .plays)))
+          ∙ cap-none (voicesOf program) (s (p .settings)) (playerStateOf p) (few p k) (brief p k) (k .slow) near
+          ∙ played-same Sixteen same (s (p .settings)) due (playerStateOf p .plays) (k .good)
 
       own-played : own (playedOf p)
           ≡ record {
-            holds = record { waits = laterThan (playerStateOf p .plays .position) (playerStateOf p .waits); messages = []; plays = played w s due (playerStateOf p .plays) };
+            holds = record { waits = laterThan (playerStateOf p .plays .position) (playerStateOf p .waits); messages = []; plays = played w (s (p .settings)) due (playerStateOf p .plays) };
             reached = at (playerStateOf p .plays .position);
+            set = p .settings;
           }
-      own-played = rw (holds-played p, reached-played p, plays-is)
+      own-played = let same-set : playedOf p .settings ≡ p .settings = unfold playedOf in refl in rw (holds-played p, reached-played p, plays-is, same-set)
 
-      kept-played : Kept (playedOf p)
-      kept-played =
+      invariant-played : Invariant (playedOf p)
+      invariant-played =
           let e = ap (λ (h : History VoiceState). h .holds) own-played in
           record {
             has = unfold playedOf in k .has;
-            locked = unfold playedOf in k .locked;
+            valid = unfold playedOf in k .valid;
             choice = unfold playedOf in k .choice;
             long = played-long p (k .long);
             listed = unfold playedOf oneCycle.playedOf in k .listed;
-            slow = subst⁻¹ Slow e (slow-played w s (playerStateOf p) (few p k) (brief p k) (k .slow) near);
-            good = subst⁻¹ (λ (h : PlayerState VoiceState). Notes Sixteen (h .plays .notes)) e (played-good Sixteen same s due (playerStateOf p .plays) (k .good));
+            slow = subst⁻¹ Slow e (slow-played w (s (p .settings)) (playerStateOf p) (few p k) (brief p k) (k .slow) near);
+            good = subst⁻¹ (λ (h : PlayerState VoiceState). Notes Sixteen (h .plays .notes)) e (played-good Sixteen same (s (p .settings)) due (playerStateOf p .plays) (k .good));
           }
 
-    own-ended : own (endedOf p) ≡ record { holds = record { waits = playerStateOf p .waits; messages = playerStateOf p .messages; plays = markedEnded (playerStateOf p .plays) }; reached = reachedOf p }
+    own-ended : own (endedOf p)
+        ≡ record {
+          holds = record { waits = playerStateOf p .waits; messages = playerStateOf p .messages; plays = markedEnded (playerStateOf p .plays) };
+          reached = reachedOf p;
+          set = p .settings;
+        }
     unfolding endedOf stopped markedEnded
     own-ended = refl
 
-    kept-ended : Kept (endedOf p)
+    invariant-ended : Invariant (endedOf p)
     unfolding endedOf stopped
-    kept-ended = search
+    invariant-ended = search
 
   -- ---- one call
 
   module _ (n : ℕ) (z : Last) (p : Panel) where
     record Step (c : Call) : Type 0 where
-      kept : Kept (afterOf p c .player)
-      next : own (afterOf p c .player) ≡ withTransition w (settings ceiling chosen) (own p) (transitionOf panel n z p c)
+      invariant : Invariant (afterOf p c .player)
+      next : own (afterOf p c .player) ≡ withTransition w chosen (own p) (transitionOf panel n z p c)
       answer : numbered c ≡ true → afterOf p c .answers ≡ one (answerOf (playerStateOf p)) 0
-      block : isZero (afterOf p c .answers) ≡ true → numbered c ≡ true → afterOf p c .block ≡ blockOf w s (dueOf (playerStateOf p)) (playerStateOf p .plays)
+      block : isZero (afterOf p c .answers) ≡ true → numbered c ≡ true → afterOf p c .buffers .block ≡ blockOf w (s (p .settings)) (dueOf (playerStateOf p)) (playerStateOf p .plays)
       over : playerStateOf p .plays .ended ≡ true → takenOf (linesOf c) (afterOf p c .answers) ≡ []
 
-    module _ (k : Kept p) where
+    module _ (k : Invariant p) where
       -- what the history says of a call with these answers
       abbrev told : Call → List Answer → History VoiceState
       told c given = with (takenOf (linesOf c) given) (cond (isZero given) (messagesIn c) []) p
 
       -- a call that plays nothing: what it takes stands behind
-      still : (c : Call) {a : After Panel} → numbered c ≡ false → afterOf p c ≡ a → Kept (a .player) → own (a .player) ≡ told c (a .answers)
+      still : (c : Call) {a : After Panel} → ((b : Bool) → cond b (setBy (p .settings) c) (p .settings) ≡ p .settings) → numbered c ≡ false → afterOf p c ≡ a
+          → Invariant (a .player) → own (a .player) ≡ told c (a .answers)
           → (playerStateOf p .plays .ended ≡ true → takenOf (linesOf c) (a .answers) ≡ []) → Step c
-      still c u x y own-is no-more =
+      still c unset u x y own-is no-more =
           record {
-            kept = subst⁻¹ (λ (a : After Panel). Kept (a .player)) x y;
-            next = ap (λ (a : After Panel). own (a .player)) x ∙ own-is ∙ ap (λ (a : After Panel). told c (a .answers)) (sym x) ∙ sym (cond-false _ _ u);
+            invariant = subst⁻¹ (λ (a : After Panel). Invariant (a .player)) x y;
+            next = ap (λ (a : After Panel). own (a .player)) x ∙ own-is ∙ ap (λ (a : After Panel). told c (a .answers)) (sym x)
+                ∙ (λ i. record { holds = told c (afterOf p c .answers) .holds; reached = reachedOf p; set = sym (unset (isZero (afterOf p c .answers))) i }) ∙ sym (cond-false _ _ u);
             answer = λ t. absurd (true≢false (sym t ∙ u));
             block = λ t. λ v. absurd (true≢false (sym v ∙ u));
             over = λ e. ap (λ (a : After Panel). takenOf (linesOf c) (a .answers)) x ∙ no-more e;
           }
+
+      unset-same : (b : Bool) → cond b (p .settings) (p .settings) ≡ p .settings
+      unset-same b = either-way (λ (x : InUse). x ≡ p .settings) b refl refl
 
       entrance-step : (d : Entrance) (handed : List ℕ) → Step (submit d handed)
       entrance-step d handed = go (brings p d handed)
         where
           go : Brings p (reads d handed .lines) (afterOf p (submit d handed)) → Step (submit d handed)
           go (takes l q e f x) =
-              still (submit d handed) refl x (kept-takes p (reads d handed .lines) q (f (k .long)) (reads-steady d handed) k)
+              still (submit d handed) unset-same refl x (invariant-takes p (reads d handed .lines) q (f (k .long)) (reads-steady d handed) k)
               (own-takes p (reads d handed .lines) q (f (k .long)) ∙ ap (λ (xs : List Line). with xs [] p) (sym (append-nil (reads d handed .lines))))
               (λ u. absurd (true≢false (sym u ∙ e)))
           go (refuses n l e x) =
-              still (submit d handed) refl x k (own-none p ∙ (λ i. with (cond (sym e i) (reads d handed .lines) [] ++ []) (cond (sym e i) [] []) p))
+              still (submit d handed) unset-same refl x k (own-none p ∙ (λ i. with (cond (sym e i) (reads d handed .lines) [] ++ []) (cond (sym e i) [] []) p))
               (λ u. ap (λ (x : List Line). x ++ []) (cond-false _ _ e))
 
       burst-step : (bytes area : List ℕ) → Step (burst bytes area)
@@ -264,37 +286,37 @@ module _ (program : Program) (ceiling chosen : ℕ) (is : List Instrument) (r : 
               let y = leaves us p (k .long) in
               let ls = taken-of us (singly p us .numbers) in
               let given = one 0 0 ++ each unitAnswer (singly p us .numbers) in
-              still (burst bytes area) refl x (subst⁻¹ Kept (y .same) (kept-takes p ls (y .queue) (y .behind) (units-steady us (singly p us .numbers)) k))
+              still (burst bytes area) unset-same refl x (subst⁻¹ Invariant (y .same) (invariant-takes p ls (y .queue) (y .behind) (units-steady us (singly p us .numbers)) k))
               (ap own (y .same) ∙ own-takes p ls (y .queue) (y .behind) ∙ ap (λ (b : Burst). with (takenOf ([] ∷ each (λ (u : List ℕ). reads unit u .lines) (unitsIn b)) given) [] p) (sym q))
               (λ u. ap (λ (b : Burst). takenOf ([] ∷ each (λ (u : List ℕ). reads unit u .lines) (unitsIn b)) given) q ∙ y .none u)
           go (unreceived n z x) =
               let nothing = no-others n (each (λ (u : List ℕ). reads unit u .lines) (unitsIn (burstOf bytes))) in
-              still (burst bytes area) refl x k (own-none p ∙ (λ i. with (sym nothing i) (cond (sym z i) [] []) p)) (λ u. nothing)
+              still (burst bytes area) unset-same refl x k (own-none p ∙ (λ i. with (sym nothing i) (cond (sym z i) [] []) p)) (λ u. nothing)
 
       keyboard-step : (bytes : List ℕ) → Step (keyboard bytes)
       keyboard-step bytes = go (presses p bytes)
         where
-          refused : (n : ℕ) → eqb n 0 ≡ false → afterOf p (keyboard bytes) ≡ record { player = p; answers = one n 0; block = []; area = [] } → Step (keyboard bytes)
+          refused : (n : ℕ) → eqb n 0 ≡ false → afterOf p (keyboard bytes) ≡ record { player = p; answers = one n 0; buffers = noBuffers } → Step (keyboard bytes)
           refused n e x =
-              still (keyboard bytes) refl x k (own-none p ∙ (λ i. with (sym (no-line (one n 0)) i) (cond (sym e i) (wholeMessages (callOf bytes)) []) p)) (λ u. no-line (one n 0))
+              still (keyboard bytes) unset-same refl x k (own-none p ∙ (λ i. with (sym (no-line (one n 0)) i) (cond (sym e i) (wholeMessages (callOf bytes)) []) p)) (λ u. no-line (one n 0))
 
           go : Presses p bytes (afterOf p (keyboard bytes)) → Step (keyboard bytes)
           go (keys-over e x) = refused 9 refl x
           go (keys-faulty f e q z x) = refused (numberOf f) z x
           go (keys-full ms e q l x) = refused 8 refl x
           go (keys-taken ms e q l x) =
-              still (keyboard bytes) refl x (kept-presses p ms l k) (own-presses p ms ∙ ap (λ (y : midi.Call). with [] (wholeMessages y) p) (sym q)) (λ u. refl)
+              still (keyboard bytes) unset-same refl x (invariant-presses p ms l k) (own-presses p ms ∙ ap (λ (y : midi.Call). with [] (wholeMessages y) p) (sym q)) (λ u. refl)
 
       -- a cycle of the list
       turns : (b : List ℤ) {q : Panel} {m : ℕ} {bs : List ℤ} {h : History VoiceState} → numbered (cycle b) ≡ true
-          → afterOf p (cycle b) ≡ record { player = q; answers = one m 0; block = bs; area = [] } → Kept q → own q ≡ h → Turns n (own p) m h
-          → (eqb m 0 ≡ true → bs ≡ blockOf w s (dueOf (playerStateOf p)) (playerStateOf p .plays)) → Step (cycle b)
+          → afterOf p (cycle b) ≡ record { player = q; answers = one m 0; buffers = onlyBlock bs } → Invariant q → own q ≡ h → Turns (own p) m h
+          → (eqb m 0 ≡ true → bs ≡ blockOf w (s (p .settings)) (dueOf (playerStateOf p)) (playerStateOf p .plays)) → Step (cycle b)
       turns b u x y own-is t sounds =
           record {
-            kept = subst⁻¹ (λ (a : After Panel). Kept (a .player)) x y;
+            invariant = subst⁻¹ (λ (a : After Panel). Invariant (a .player)) x y;
             next = ap (λ (a : After Panel). own (a .player)) x ∙ own-is ∙ t .leaves-so ∙ sym (cond-true _ _ u);
             answer = λ v. ap (λ (a : After Panel). a .answers) x ∙ ap (λ (m : ℕ). one m 0) (sym (t .answers));
-            block = λ v. λ w. ap (λ (a : After Panel). a .block) x ∙ sounds (ap (λ (a : After Panel). isZero (a .answers)) (sym x) ∙ v);
+            block = λ v. λ w. ap (λ (a : After Panel). a .buffers .block) x ∙ sounds (ap (λ (a : After Panel). isZero (a .answers)) (sym x) ∙ v);
             over = λ v. no-line (afterOf p (cycle b) .answers);
           }
 
@@ -302,12 +324,54 @@ module _ (program : Program) (ceiling chosen : ℕ) (is : List Instrument) (r : 
       cycle-step b = go (cycles p b)
         where
           go : Cycles p b (afterOf p (cycle b)) → Step (cycle b)
-          go (off u x) = still (cycle b) u x k (own-none p) (λ t. refl)
-          go (over-before u e x) = turns b u x k refl (over-cycle n (own p) e) (λ t. absurd (false≢true t))
-          go (ends u e d x) = turns b u x (kept-ended p k) (own-ended p k) (end-cycle n (own p) e d) (λ t. absurd (false≢true t))
-          go (plays u e d x) = turns b u x (kept-played p k d) (own-played p k d) (play-cycle n (own p) e d) (λ t. block-is p k)
+          go (off u x) = still (cycle b) unset-same u x k (own-none p) (λ t. refl)
+          go (over-before u e x) = turns b u x k refl (over-cycle (own p) e) (λ t. absurd (false≢true t))
+          go (ends u e d x) = turns b u x (invariant-ended p k) (own-ended p k) (end-cycle (own p) e d) (λ t. absurd (false≢true t))
+          go (plays u e d x) = turns b u x (invariant-played p k d) (own-played p k d) (play-cycle (own p) e d) (λ t. block-is p k)
+
+      -- a change or an undo: what it sets
+      invariant-sets : (x : InUse) → Valid (x .last) → Invariant (withInUse p x)
+      invariant-sets x l = record { has = k .has; valid = l; choice = k .choice; long = k .long; listed = k .listed; slow = k .slow; good = k .good }
+
+      setting-step : (c : Call) {left : List ℕ} → numbered c ≡ false → ((given : List Answer) → takenOf (linesOf c) given ≡ []) → ((b : Bool) → cond b (messagesIn c) [] ≡ [])
+          → Sets p c left (afterOf p c) → Step c
+      setting-step c u no-lines no-messages v =
+          record {
+            invariant = so v .0;
+            next = so v .1 ∙ own-so (afterOf p c .answers) ∙ sym (cond-false _ _ u);
+            answer = λ t. absurd (true≢false (sym t ∙ u));
+            block = λ t. λ q. absurd (true≢false (sym q ∙ u));
+            over = λ e. no-lines (afterOf p c .answers);
+          }
+        where
+          setNow : List Answer → InUse
+          setNow given = cond (isZero given) (setBy (p .settings) c) (p .settings)
+
+          held : InUse → History VoiceState
+          held x = record { holds = playerStateOf p; reached = reachedOf p; set = x }
+
+          so : {left : List ℕ} → Sets p c left (afterOf p c) → Invariant (afterOf p c .player) × (own (afterOf p c .player) ≡ held (setNow (afterOf p c .answers)))
+          so (set-taken e l x) = (
+            subst⁻¹ (λ (a : After Panel). Invariant (a .player)) x (invariant-sets (setBy (p .settings) c) l),
+            ap (λ (a : After Panel). own (a .player)) x ∙ ap (λ (a : After Panel). held (setNow (a .answers))) (sym x),
+          )
+          so (set-refused m q x) = (
+            subst⁻¹ (λ (a : After Panel). Invariant (a .player)) x k,
+            ap (λ (a : After Panel). own (a .player)) x ∙ ap held (sym (cond-false (setBy (p .settings) c) (p .settings) q)) ∙ ap (λ (a : After Panel). held (setNow (a .answers))) (sym x),
+          )
+
+          own-so : (given : List Answer) → held (setNow given)
+              ≡ record { holds = withMessages (cond (isZero given) (messagesIn c) []) (behind (takenOf (linesOf c) given) (playerStateOf p)); reached = reachedOf p; set = setNow given }
+          own-so given =
+              ap (λ (h : History VoiceState). record { holds = h .holds; reached = h .reached; set = setNow given }) (own-none p)
+              ∙ (λ i. record { holds = withMessages (sym (no-messages (isZero given)) i) (behind (sym (no-lines given) i) (playerStateOf p)); reached = reachedOf p; set = setNow given })
+
+      no-message : (b : Bool) → _≡_ {A = List NoteMessage} (cond b [] []) []
+      no-message b = either-way (λ (x : List NoteMessage). x ≡ []) b refl refl
 
       step : (c : Call) → Step c
+      step (change area handed) = setting-step (change area handed) refl no-line no-message (changes p area handed)
+      step (undo area) = setting-step (undo area) refl no-line no-message (undoes p area)
       step (submit d handed) = entrance-step d handed
       step (burst bytes area) = burst-step bytes area
       step (keyboard bytes) = keyboard-step bytes
@@ -315,22 +379,22 @@ module _ (program : Program) (ceiling chosen : ℕ) (is : List Instrument) (r : 
 
   -- ---- every list of calls
 
-  pub kept-all : (cs : List Call) (p : Panel) → Kept p → Kept (afterAll panel p cs)
+  pub invariant-all : (cs : List Call) (p : Panel) → Invariant p → Invariant (afterAll panel p cs)
   unfolding afterAll
-  kept-all [] p k = k
-  kept-all (c ∷ cs) p k = kept-all cs (afterOf p c .player) (step 0 none p k c .kept)
+  invariant-all [] p k = k
+  invariant-all (c ∷ cs) p k = invariant-all cs (afterOf p c .player) (step 0 none p k c .invariant)
 
-  pub own-all : (cs : List Call) (n : ℕ) (z : Last) (p : Panel) → Kept p
-      → own (afterAll panel p cs) ≡ historyFrom w (settings ceiling chosen) (own p) (traceFrom panel n z p cs)
+  pub own-all : (cs : List Call) (n : ℕ) (z : Last) (p : Panel) → Invariant p
+      → own (afterAll panel p cs) ≡ historyFrom w chosen (own p) (traceFrom panel n z p cs)
   unfolding afterAll historyFrom traceFrom
   own-all [] n z p k = refl
   own-all (c ∷ cs) n z p k =
       let m = transitionOf panel n z p c in
       let x = step n z p k c in
-      own-all cs (cyclesWith m) (lastWith m) (afterOf p c .player) (x .kept)
-      ∙ ap (λ (h : History VoiceState). historyFrom w (settings ceiling chosen) h (traceFrom panel (cyclesWith m) (lastWith m) (afterOf p c .player) cs)) (x .next)
+      own-all cs (cyclesWith m) (lastWith m) (afterOf p c .player) (x .invariant)
+      ∙ ap (λ (h : History VoiceState). historyFrom w chosen h (traceFrom panel (cyclesWith m) (lastWith m) (afterOf p c .player) cs)) (x .next)
 
-  follows : (cs : List Call) (n : ℕ) (z : Last) (p : Panel) → Kept p → AllFollow panel w (settings ceiling chosen) (own p) (traceFrom panel n z p cs)
+  follows : (cs : List Call) (n : ℕ) (z : Last) (p : Panel) → Invariant p → AllFollow panel w chosen (own p) (traceFrom panel n z p cs)
   unfolding traceFrom
   follows [] n z p k = tt
   follows (c ∷ cs) n z p k =
@@ -342,13 +406,13 @@ module _ (program : Program) (ceiling chosen : ℕ) (is : List Instrument) (r : 
           counts = ap (λ (h : History VoiceState). h .holds .plays .counts) (x .next);
           over = x .over;
         },
-        subst (λ (h : History VoiceState). AllFollow panel w (settings ceiling chosen) h (traceFrom panel (cyclesWith m) (lastWith m) (afterOf p c .player) cs)) (x .next)
-            (follows cs (cyclesWith m) (lastWith m) (afterOf p c .player) (x .kept)),
+        subst (λ (h : History VoiceState). AllFollow panel w chosen h (traceFrom panel (cyclesWith m) (lastWith m) (afterOf p c .player) cs)) (x .next)
+            (follows cs (cyclesWith m) (lastWith m) (afterOf p c .player) (x .invariant)),
       )
 
   -- a call that answers 0 leaves no block, or a cycle's
-  pub sounded : (p : Panel) → Kept p → (b : List ℤ) → isZero (afterOf p (cycle b) .answers) ≡ true
-      → afterOf p (cycle b) .block ≡ blockOf w s (dueOf (playerStateOf p)) (playerStateOf p .plays)
+  pub sounded : (p : Panel) → Invariant p → (b : List ℤ) → isZero (afterOf p (cycle b) .answers) ≡ true
+      → afterOf p (cycle b) .buffers .block ≡ blockOf w (s (p .settings)) (dueOf (playerStateOf p)) (playerStateOf p .plays)
   sounded p k b t = step 0 none p k (cycle b) .block t (is-numbered (cycles p b))
     where
       is-numbered : Cycles p b (afterOf p (cycle b)) → numbered (cycle b) ≡ true
@@ -360,63 +424,66 @@ module _ (program : Program) (ceiling chosen : ℕ) (is : List Instrument) (r : 
 -- ---- a fresh panel
 
 -- what a list of calls leaves by its history, the notes' values by place
-abbrev pub placedPast : List ℕ → List Instrument → ℕ → ℕ → List Call → History VoiceState
-placedPast orchestra is ceiling chosen cs = historyOf (treeVoices is) (settings ceiling chosen) (trace panel (fresh orchestra ceiling chosen) cs)
+abbrev pub placedPast : Setup → List Instrument → List Call → History VoiceState
+placedPast u is cs = historyOf (treeVoices is) (u .chosen) (firstInUse u) (trace panel (fresh u) cs)
 
-module _ (orchestra : List ℕ) (is : List Instrument) (ceiling chosen : ℕ) (g : Given orchestra is ceiling chosen) where
+module _ (u : Setup) (is : List Instrument) (g : Given u is) where
   abbrev program : Program
-  program = loadOf orchestra .program
+  program = loadOf (u .orchestra) .program
 
   pub stands : StandsFor is program
-  stands = loaded orchestra is (g .accepted) .stands
+  stands = loaded (u .orchestra) is (g .accepted) .stands
 
   -- what it starts with
   abbrev begin : Panel
-  begin = panelAt (startOf defaultTempo program ceiling chosen false (loadOf orchestra .answer))
+  begin = panelAt (startOf program (firstInUse u) (u .chosen) false (loadOf (u .orchestra) .answer))
 
-  fresh-is : fresh orchestra ceiling chosen ≡ begin
+  fresh-is : fresh u ≡ begin
   unfolding freshOf startingOf
   fresh-is =
+      let f = first-taken u is g in
       ap panelAt
-      (cond-true _ _ (ap (λ (t : Bool). t && leb ceiling 32767) (le-leb 1 ceiling (g .low)) ∙ le-leb ceiling 32767 (g .high))
-      ∙ cond-true _ _ (ap isTaken (loaded orchestra is (g .accepted) .taken))
-      ∙ cond-true _ _ (chosen-there is program stands chosen (g .there)))
+      (cond-true _ _ (f .taken)
+      ∙ cond-true _ _ (ap isTaken (loaded (u .orchestra) is (g .accepted) .taken))
+      ∙ cond-true _ _ (chosen-there is program stands (u .chosen) (g .there))
+      ∙ ap (λ (x : InUse). startOf program x (u .chosen) false (loadOf (u .orchestra) .answer)) (f .keeps))
 
-  start-own : own begin ≡ unbegun (settingsOf ceiling chosen)
+  start-own : own begin ≡ unbegun (firstInUse u)
   unfolding startOf plainStart each noMessages
   start-own = refl
 
-  start-kept : Kept program ceiling chosen is stands begin
+  start-invariant : Invariant program (u .chosen) is stands begin
   unfolding startOf each noMessages
-  start-kept =
-      let slow : Slow (playerStateOf begin) = record { few = omega arith; lines = tt; tempo = starting } in
-      record { has = refl; locked = refl; choice = refl; long = length-replicate 64 blankLine; listed = length-replicate 64 blank; slow = slow; good = tt }
+  start-invariant =
+      let l = first-taken u is g .valid in
+      let slow : Slow (playerStateOf begin) = record { few = omega arith; lines = tt; tempo = starting (firstInUse u) (l .tempo .0) (l .tempo .1) } in
+      record { has = refl; valid = l; choice = refl; long = length-replicate 64 blankLine; listed = length-replicate 64 blank; slow = slow; good = tt }
 
-  pub fresh-kept : Kept program ceiling chosen is stands (fresh orchestra ceiling chosen)
-  fresh-kept = subst⁻¹ (Kept program ceiling chosen is stands) fresh-is start-kept
+  pub fresh-invariant : Invariant program (u .chosen) is stands (fresh u)
+  fresh-invariant = subst⁻¹ (Invariant program (u .chosen) is stands) fresh-is start-invariant
 
-  fresh-own : own (fresh orchestra ceiling chosen) ≡ unbegun (settingsOf ceiling chosen)
+  pub fresh-own : own (fresh u) ≡ unbegun (firstInUse u)
   fresh-own = ap own fresh-is ∙ start-own
 
-  pub kept-after : (cs : List Call) → Kept program ceiling chosen is stands (panelAfter orchestra is ceiling chosen cs)
-  kept-after cs = kept-all program ceiling chosen is stands cs (fresh orchestra ceiling chosen) fresh-kept
+  pub invariant-after : (cs : List Call) → Invariant program (u .chosen) is stands (panelAfter u is cs)
+  invariant-after cs = invariant-all program (u .chosen) is stands cs (fresh u) fresh-invariant
 
-  pub past-is : (cs : List Call) → own (panelAfter orchestra is ceiling chosen cs) ≡ placedPast orchestra is ceiling chosen cs
+  pub past-is : (cs : List Call) → own (panelAfter u is cs) ≡ placedPast u is cs
   past-is cs =
-      own-all program ceiling chosen is stands cs 0 none (fresh orchestra ceiling chosen) fresh-kept
-      ∙ ap (λ (x : History VoiceState). historyFrom (treeVoices is) (settings ceiling chosen) x (trace panel (fresh orchestra ceiling chosen) cs)) fresh-own
+      own-all program (u .chosen) is stands cs 0 none (fresh u) fresh-invariant
+      ∙ ap (λ (x : History VoiceState). historyFrom (treeVoices is) (u .chosen) x (trace panel (fresh u) cs)) fresh-own
 
-  follows-past : (cs : List Call) → AllFollow panel (treeVoices is) (settings ceiling chosen) (unbegun (settingsOf ceiling chosen)) (trace panel (fresh orchestra ceiling chosen) cs)
+  follows-past : (cs : List Call) → AllFollow panel (treeVoices is) (u .chosen) (unbegun (firstInUse u)) (trace panel (fresh u) cs)
   follows-past cs =
-      rw fresh-own at (follows program ceiling chosen is stands cs 0 none (fresh orchestra ceiling chosen) fresh-kept)
+      rw fresh-own at (follows program (u .chosen) is stands cs 0 none (fresh u) fresh-invariant)
 
   -- what a cycle leaves, and condition 3, with the notes' values by place
-  pub block-by-place : (cs : List Call) (lent : List ℤ) → isZero (afterOf (panelAfter orchestra is ceiling chosen cs) (cycle lent) .answers) ≡ true
-      → afterOf (panelAfter orchestra is ceiling chosen cs) (cycle lent) .block
-      ≡ blockOf (treeVoices is) (settingsOf ceiling chosen) (dueOf (placedPast orchestra is ceiling chosen cs .holds)) (placedPast orchestra is ceiling chosen cs .holds .plays)
+  pub block-by-place : (cs : List Call) (lent : List ℤ) → isZero (afterOf (panelAfter u is cs) (cycle lent) .answers) ≡ true
+      → afterOf (panelAfter u is cs) (cycle lent) .buffers .block
+      ≡ blockOf (treeVoices is) (inForce (u .chosen) (placedPast u is cs .set)) (dueOf (placedPast u is cs .holds)) (placedPast u is cs .holds .plays)
   block-by-place cs lent t =
-      sounded program ceiling chosen is stands (panelAfter orchestra is ceiling chosen cs) (kept-after cs) lent t
-      ∙ ap (λ (h : History VoiceState). blockOf (treeVoices is) (settingsOf ceiling chosen) (dueOf (h .holds)) (h .holds .plays)) (past-is cs)
+      sounded program (u .chosen) is stands (panelAfter u is cs) (invariant-after cs) lent t
+      ∙ ap (λ (h : History VoiceState). blockOf (treeVoices is) (inForce (u .chosen) (h .set)) (dueOf (h .holds)) (h .holds .plays)) (past-is cs)
 
-  pub by-place : PlainAlike panel (treeVoices is) (settings ceiling chosen) (fresh orchestra ceiling chosen)
-  by-place = plain-alike panel (treeVoices is) (settings ceiling chosen) (fresh orchestra ceiling chosen) follows-past
+  pub by-place : PlainAlike panel (treeVoices is) (u .chosen) (firstInUse u) (fresh u)
+  by-place = plain-alike panel (treeVoices is) (u .chosen) (firstInUse u) (fresh u) follows-past

@@ -81,7 +81,8 @@ module _ (is : List Instrument) (g : Program) (r : StandsFor is g) (d : Entrance
         × (isTaken (lineAdmitted (mustBeTimed d) (tableOf g) q l .answer) ≡ isTaken (a .answer))
     told-as e = (ap (λ (a : Admitted). numberOf (a .answer)) e, ap (λ (a : Admitted). isTaken (a .answer)) e)
 
-    faulty-admits : (number : ℕ) → Faulty is d reached n l number → (numberOf (lineAdmitted (mustBeTimed d) (tableOf g) q l .answer) ≡ number) × (isTaken (lineAdmitted (mustBeTimed d) (tableOf g) q l .answer) ≡ false)
+    faulty-admits : (number : ℕ) → Faulty is d reached n l number
+        → (numberOf (lineAdmitted (mustBeTimed d) (tableOf g) q l .answer) ≡ number) × (isTaken (lineAdmitted (mustBeTimed d) (tableOf g) q l .answer) ≡ false)
     unfolding lineAdmitted f
     faulty-admits number (untimed m t) =
         told-as {a = record { queue = q; answer = answer.NoTime }} (cond-true _ _ (time-fails (mustBeTimed d) (hasTime (l .when)) m t))

@@ -1,17 +1,20 @@
 -- Each call has the verdict of its history, whose notes are those of the orchestra as it is written.
-use mathlib.Core.Path.{_≡_, _∙_}
+use mathlib.Core.Path.{_≡_, _∙_, subst⁻¹}
 use mathlib.Core.Bool.{_||_, cond}
 use mathlib.Core.List.{List, [], _++_}
-use Prim.Native.Nat.{ℕ, _+_}
+use Prim.Native.Nat.{ℕ, _<_, _≤_}
+use Rattle.settings_records.specs.Form.{ParsesRecords}
+use Rattle.settings_records.specs.declared.Found.{Found}
+use Rattle.settings_records.specs.declared.InUse.{InUse}
 use lib.IntN.{ℤ}
 use lib.Dec.{eqb, ltb}
 use Rattle.score_line.specs.declared.Line.{Line}
 use Rattle.orchestra_syntax.specs.Tree.{Instrument}
 use Rattle.player_model.specs.Cycle.{anyEnd, positionLimit}
 use Rattle.player_model.specs.PlayerState.{behind, dueAt, dueOf, endsBy}
-use Rattle.player_model.specs.Calls.{Entrance, unit, reads, Call, submit, burst, keyboard, cycle, Answer}
+use Rattle.player_model.specs.Calls.{Entrance, unit, reads, Call, submit, burst, keyboard, cycle, change, undo, Answer}
 use Rattle.player_model.specs.History.{History}
-use Rattle.panel_claims.specs.Verdict.{AtEntrance, over, badText, cut, notCarried, outOfRange, tooManyValues, leftOver, faulty, taken, AtKeyboard, keysOver, keysCut, keysNotCarried, keysFull, keysTaken, AtCycle, otherLength, overBefore, findsEnd, plays, withLines, InTurn, none, next, AtBurst, burstCut, burstTooLong, burstNoRoom, burstTaken, once, Verdict}
+use Rattle.panel_claims.specs.Verdict.{AtEntrance, over, badText, cut, notCarried, outOfRange, tooManyValues, leftOver, faulty, taken, AtKeyboard, keysOver, keysCut, keysNotCarried, keysFull, keysTaken, AtCycle, otherLength, overBefore, findsEnd, plays, NotReached, setOver, areaLength, usedFault, Stand, AtChange, changeNot, newFault, newLeftOver, newNoRoom, changeTaken, AtUndo, undoNot, undoNothing, undoTaken, withLines, InTurn, none, next, AtBurst, burstCut, burstTooLong, burstNoRoom, burstTaken, once, Verdict}
 use Rattle.panel_claims.specs.Claims.{past, VerdictGiven, CallVerdict}
 use Rattle.panel_claims.proofs.Past.{placedPast}
 use Rattle.panel_claims.proofs.Answers.{verdict-by-place}
@@ -27,6 +30,7 @@ module _ {S S′ : Type 0} (is : List Instrument) where
     messages : g .holds .messages ≡ h .holds .messages
     position : g .holds .plays .position ≡ h .holds .plays .position
     reached : g .reached ≡ h .reached
+    set : g .set ≡ h .set
 
   module _ (h : History S) (g : History S′) (a : Agree h g) where
     entrance-agrees : (d : Entrance) (handed : List ℕ) (n l : ℕ) → AtEntrance is h d handed n l → AtEntrance is g d handed n l
@@ -58,10 +62,34 @@ module _ {S S′ : Type 0} (is : List Instrument) where
     cycle-agrees block n l (findsEnd w e x) = findsEnd w (a .ended ∙ e) (ends-agree ∙ x)
     cycle-agrees block n l (plays w e x) = plays w (a .ended ∙ e) (ends-agree ∙ x)
 
+    -- a change and an undo
+    parses-agree : (area : List ℕ) {f : Found} → ParsesRecords (h .set .count) area f → ParsesRecords (g .set .count) area f
+    parses-agree area {f} r = subst⁻¹ (λ (k : InUse). ParsesRecords (k .count) area f) (a .set) r
+
+    stand-agrees : {area : List ℕ} {size : ℕ} → Stand is h area size → Stand is g area size
+    stand-agrees {area} s = record { goesOn = a .ended ∙ s .goesOn; whole = s .whole; last = s .last; valid = parses-agree area (s .valid) }
+
+    not-agrees : (area : List ℕ) (n : ℕ) → NotReached is h area n → NotReached is g area n
+    not-agrees area _ (setOver e) = setOver (a .ended ∙ e)
+    not-agrees area _ (areaLength e l) = areaLength (a .ended ∙ e) l
+    not-agrees area _ (usedFault e l r t) = usedFault (a .ended ∙ e) l (parses-agree area r) t
+
+    change-agrees : (area handed : List ℕ) (n l : ℕ) → AtChange is h area handed n l → AtChange is g area handed n l
+    change-agrees area handed n _ (changeNot v) = changeNot (not-agrees area n v)
+    change-agrees area handed _ _ (newFault s x t) = newFault (stand-agrees s) x t
+    change-agrees area handed _ _ (newLeftOver s x m) = newLeftOver (stand-agrees s) x m
+    change-agrees area handed _ _ (newNoRoom s x m) = newNoRoom (stand-agrees s) x m
+    change-agrees area handed _ _ (changeTaken s x m) = changeTaken (stand-agrees s) x m
+
+    undo-agrees : (area : List ℕ) (n l : ℕ) → AtUndo is h area n l → AtUndo is g area n l
+    undo-agrees area n _ (undoNot v) = undoNot (not-agrees area n v)
+    undo-agrees area _ _ (undoNothing s m) = undoNothing (stand-agrees s) (subst⁻¹ (λ (k : InUse). k .count < 2) (a .set) m)
+    undo-agrees area _ _ (undoTaken s m) = undoTaken (stand-agrees s) (subst⁻¹ (λ (k : InUse). 2 ≤ k .count) (a .set) m)
+
   lines-agree : (h : History S) (g : History S′) → Agree h g → (ls : List Line) → Agree (withLines h ls) (withLines g ls)
   unfolding behind
   lines-agree h g a ls =
-      record { ended = a .ended; waits = λ i. a .waits i ++ ls; messages = a .messages; position = a .position; reached = a .reached }
+      record { ended = a .ended; waits = λ i. a .waits i ++ ls; messages = a .messages; position = a .position; reached = a .reached; set = a .set }
 
   turn-agrees : (us : List (List ℕ)) (h : History S) (g : History S′) → Agree h g → (given : List Answer) → InTurn is h us given → InTurn is g us given
   turn-agrees us h g a given none = none
@@ -80,14 +108,16 @@ module _ {S S′ : Type 0} (is : List Instrument) where
   verdict-agrees h g a (burst bytes area) told x = burst-agrees h g a bytes area told x
   verdict-agrees h g a (keyboard bytes) told (once x) = once (keys-agree h g a bytes _ _ x)
   verdict-agrees h g a (cycle block) told (once x) = once (cycle-agrees h g a block _ _ x)
+  verdict-agrees h g a (change area handed) told (once x) = once (change-agrees h g a area handed _ _ x)
+  verdict-agrees h g a (undo area) told (once x) = once (undo-agrees h g a area _ _ x)
 
 pub call-verdict : CallVerdict
 unfolding CallVerdict
-call-verdict orchestra is ceiling chosen g cs c =
-    let w = written-past orchestra is ceiling chosen g cs in
-    let a : Agree is (past orchestra is ceiling chosen cs) (placedPast orchestra is ceiling chosen cs) =
-    record { ended = w .holds .ended; waits = w .holds .waits; messages = w .holds .messages; position = w .holds .position; reached = w .reached } in
-    let exactly : VerdictGiven orchestra is ceiling chosen cs c = λ told x.
-    verdict-by-place orchestra is ceiling chosen g cs c told (verdict-agrees is (past orchestra is ceiling chosen cs) (placedPast orchestra is ceiling chosen cs) a c told x) in
-    let x = decided is (past orchestra is ceiling chosen cs) c in
+call-verdict u is g cs c =
+    let w = written-past u is g cs in
+    let a : Agree is (past u is cs) (placedPast u is cs) =
+    record { ended = w .holds .ended; waits = w .holds .waits; messages = w .holds .messages; position = w .holds .position; reached = w .reached; set = w .set } in
+    let exactly : VerdictGiven u is cs c = λ told x.
+    verdict-by-place u is g cs c told (verdict-agrees is (past u is cs) (placedPast u is cs) a c told x) in
+    let x = decided is (past u is cs) c in
     (record { answers = x .answers; told = exactly (x .answers) (x .verdict); given = x .verdict }, exactly)

@@ -23,8 +23,12 @@ use Rattle.base_answer.specs.Numbers.{numberOf}
 use Rattle.score_bursts.specs.Bursts.{unitsIn}
 use Rattle.score_bursts.specs.inside.Reading.{burstOf}
 use Rattle.player_model.specs.Lists.{All, each}
-use Rattle.player_model.specs.PlayerState.{Settings, settingsOf}
-use Rattle.player_model.specs.Calls.{Entrance, unit, reads, Call, submit, burst, keyboard, cycle, one, linesOf, takenOf, Last, none, latest, Transition, takenIn, cyclesWith, lastWith, transitionOf, traceFrom, trace, allTaken, afterAll}
+use lib.Ieee.{Float}
+use Rattle.settings_records.specs.declared.InUse.{InUse}
+use Rattle.player_model.specs.Set.{inForce, startingTempo}
+use Rattle.player_model.specs.PlayerState.{Settings, dueOf, blockOf}
+use Rattle.panel_claims.specs.Fresh.{Setup}
+use Rattle.player_model.specs.Calls.{Entrance, unit, reads, Call, submit, burst, keyboard, cycle, change, undo, one, linesOf, takenOf, Last, none, latest, Transition, takenIn, cyclesWith, lastWith, transitionOf, traceFrom, trace, allTaken, afterAll}
 use Rattle.player_model.specs.Condition3.{above, inTime, InTime, AsPlain, PlainAlike}
 use Rattle.player_model.specs.History.{Reached, History}
 use Rattle.player_model.proofs.Lists.{all-append, all-map}
@@ -33,9 +37,9 @@ use Rattle.code_loader_claims.specs.Claims.{StandsFor}
 use Rattle.panel.specs.declared.Panel.{Panel}
 use Rattle.panel_claims.specs.Verdict.{HasFields, here, there, Playable, Fits, AllFit, Faulty, untimed, unplayable, late, full, AtEntrance, over, badText, cut, notCarried, outOfRange, tooManyValues, leftOver, faulty, taken}
 use Rattle.panel.specs.Calls.{submitOf}
-use Rattle.panel_claims.specs.Claims.{afterOf, panel, Given, fresh, settings, past, LinesFit, CycleByTree, Condition3}
+use Rattle.panel_claims.specs.Claims.{afterOf, panel, Given, firstInUse, fresh, settings, past, LinesFit, CycleByTree, Condition3}
 use Rattle.panel_claims.proofs.Ranged.{ranged, AllRanged, reads-ranged}
-use Rattle.panel_claims.proofs.Past.{no-line, no-others, Kept, own, kept-all, stands, fresh-kept, past-is, block-by-place, by-place}
+use Rattle.panel_claims.proofs.Past.{no-line, no-others, Invariant, own, invariant-all, stands, fresh-invariant, past-is, placedPast, block-by-place, by-place}
 use Rattle.panel_claims.proofs.Bursts.{singly, Receives, received, unreceived, receives, taken-of}
 use Rattle.panel_claims.proofs.Answers.{at-entrance-given, past-unit}
 use Rattle.panel_claims.proofs.Decided.{at-entrance}
@@ -97,7 +101,8 @@ module _ (is : List Instrument) where
   units-fit [] p r long = tt
   units-fit (u ∷ us) p r long =
       let y = past-unit p long u in
-      all-append (λ (l : Line). written.Fits is l (l .event)) (cond (eqb (numberOf (submitOf p unit u .answer)) 0) (reads unit u .lines) []) (taken-of us (singly (submitOf p unit u .panel) us .numbers))
+      all-append (λ (l : Line). written.Fits is l (l .event)) (cond (eqb (numberOf (submitOf p unit u .answer)) 0) (reads unit u .lines) [])
+      (taken-of us (singly (submitOf p unit u .panel) us .numbers))
       (rw append-nil at (bring-fits p r long unit u)) (units-fit us (submitOf p unit u .panel) (rw (y .has) r) (y .long))
 
   burst-fits : (p : Panel) → StandsFor is (p .program) → length (p .state .queue .lines) ≡ 64 → (bytes area : List ℕ)
@@ -114,55 +119,59 @@ module _ (is : List Instrument) where
   call-fits p r long (burst bytes area) = burst-fits p r long bytes area
   call-fits p r long (keyboard bytes) = rw (no-line (afterOf p (keyboard bytes) .answers)) tt
   call-fits p r long (cycle b) = rw (no-line (afterOf p (cycle b) .answers)) tt
+  call-fits p r long (change area handed) = rw (no-line (afterOf p (change area handed) .answers)) tt
+  call-fits p r long (undo area) = rw (no-line (afterOf p (undo area) .answers)) tt
 
 -- ---- every list of calls
 
-module _ (orchestra : List ℕ) (is : List Instrument) (ceiling chosen : ℕ) (g : Given orchestra is ceiling chosen) where
-  all-fitting : (cs : List Call) (n : ℕ) (z : Last) (p : Panel) → Kept (loadOf orchestra .program) ceiling chosen is (stands orchestra is ceiling chosen g) p
+module _ (u : Setup) (is : List Instrument) (g : Given u is) where
+  all-fitting : (cs : List Call) (n : ℕ) (z : Last) (p : Panel) → Invariant (loadOf (u .orchestra) .program) (u .chosen) is (stands u is g) p
       → AllTakable is (allTaken (traceFrom panel n z p cs))
   unfolding traceFrom allTaken afterAll
   all-fitting [] n z p k = tt
   all-fitting (c ∷ cs) n z p k =
       let m = transitionOf panel n z p c in
       all-append (λ (l : Line). written.Fits is l (l .event)) (takenIn m) (allTaken (traceFrom panel (cyclesWith m) (lastWith m) (afterOf p c .player) cs))
-      (call-fits is p (subst⁻¹ (StandsFor is) (k .has) (stands orchestra is ceiling chosen g)) (k .long) c)
-      (all-fitting cs (cyclesWith m) (lastWith m) (afterOf p c .player) (kept-all (loadOf orchestra .program) ceiling chosen is (stands orchestra is ceiling chosen g) (c ∷ []) p k))
+      (call-fits is p (subst⁻¹ (StandsFor is) (k .has) (stands u is g)) (k .long) c)
+      (all-fitting cs (cyclesWith m) (lastWith m) (afterOf p c .player) (invariant-all (loadOf (u .orchestra) .program) (u .chosen) is (stands u is g) (c ∷ []) p k))
 
 pub lines-fit : LinesFit
 unfolding LinesFit
-lines-fit orchestra is ceiling chosen g cs = all-fitting orchestra is ceiling chosen g cs 0 none (fresh orchestra ceiling chosen) (fresh-kept orchestra is ceiling chosen g)
+lines-fit u is g cs = all-fitting u is g cs 0 none (fresh u) (fresh-invariant u is g)
 
 -- ---- every cycle of sound
 
-pub written-past : (orchestra : List ℕ) (is : List Instrument) (ceiling chosen : ℕ) → Given orchestra is ceiling chosen → (cs : List Call)
-    → PastAsWritten is (settings ceiling chosen) (trace panel (fresh orchestra ceiling chosen) cs)
+pub written-past : (u : Setup) (is : List Instrument) → Given u is → (cs : List Call)
+    → PastAsWritten is (u .chosen) (firstInUse u) (trace panel (fresh u) cs)
 unfolding LinesFit
-written-past orchestra is ceiling chosen g cs =
-    every-past Panel is (settings ceiling chosen) (trace panel (fresh orchestra ceiling chosen) cs) (g .accepted .named) (lines-fit orchestra is ceiling chosen g cs)
+written-past u is g cs =
+    every-past Panel is (u .chosen) (firstInUse u) (trace panel (fresh u) cs) (g .accepted .named) (lines-fit u is g cs)
 
 pub cycle-by-tree : CycleByTree
 unfolding CycleByTree
-cycle-by-tree orchestra is ceiling chosen g cs =
-    let e = past-is orchestra is ceiling chosen g cs in
-    let w = written-past orchestra is ceiling chosen g cs in (
+cycle-by-tree u is g cs =
+    let e = past-is u is g cs in
+    let w = written-past u is g cs in (
       record {
-        holds = subst⁻¹ (λ (h : History byPlace.VoiceState). StateAs (HeldAs is) (h .holds) (past orchestra is ceiling chosen cs .holds)) e (w .holds);
+        holds = subst⁻¹ (λ (h : History byPlace.VoiceState). StateAs (HeldAs is) (h .holds) (past u is cs .holds)) e (w .holds);
         reached = ap (λ (h : History byPlace.VoiceState). h .reached) e ∙ w .reached;
+        set = ap (λ (h : History byPlace.VoiceState). h .set) e ∙ w .set;
       },
-      λ lent t. block-by-place orchestra is ceiling chosen g cs lent t ∙ w .block (settingsOf ceiling chosen),
+      λ lent t. block-by-place u is g cs lent t ∙ w .block (inForce (u .chosen) (placedPast u is cs .set))
+          ∙ ap (λ (k : InUse). blockOf (writtenVoices is) (inForce (u .chosen) k) (dueOf (past u is cs .holds)) (past u is cs .holds .plays)) (w .set),
     )
 
 -- ---- condition 3
 
-module _ (is : List Instrument) (s : ℕ → Settings) (ls : List Line) (w : (n : ℕ) → PlaysAsWritten is s ls n) where
-  line-timely : (z : Last) (l : Line) → inTime panel (writtenVoices is) s ls z l → inTime panel (treeVoices is) s ls z l
+module _ (is : List Instrument) (start : Float) (s : ℕ → Settings) (ls : List Line) (w : (n : ℕ) → PlaysAsWritten is start s ls n) where
+  line-timely : (z : Last) (l : Line) → inTime panel (writtenVoices is) start s ls z l → inTime panel (treeVoices is) start s ls z l
   line-timely none l h = h
   line-timely (latest n) l h = subst⁻¹ (λ (x : ℕ). above x (l .when)) (w n .position) h
 
-  timely : (m : Transition Panel) → InTime panel (writtenVoices is) s ls m → InTime panel (treeVoices is) s ls m
-  timely m h = all-map (inTime panel (writtenVoices is) s ls (m .last)) (inTime panel (treeVoices is) s ls (m .last)) (line-timely (m .last)) (takenIn m) h
+  timely : (m : Transition Panel) → InTime panel (writtenVoices is) start s ls m → InTime panel (treeVoices is) start s ls m
+  timely m h = all-map (inTime panel (writtenVoices is) start s ls (m .last)) (inTime panel (treeVoices is) start s ls (m .last)) (line-timely (m .last)) (takenIn m) h
 
-  as-written : (m : Transition Panel) → AsPlain panel (treeVoices is) s ls m → AsPlain panel (writtenVoices is) s ls m
+  as-written : (m : Transition Panel) → AsPlain panel (treeVoices is) start s ls m → AsPlain panel (writtenVoices is) start s ls m
   as-written m a =
       record {
         answer = λ q. a .answer q ∙ ap (λ (y : ℕ). one y 0) (w (m .cycles) .answers);
@@ -172,10 +181,11 @@ module _ (is : List Instrument) (s : ℕ → Settings) (ls : List Line) (w : (n 
 
 pub condition-3 : Condition3
 unfolding Condition3 PlainAlike LinesFit
-condition-3 orchestra is ceiling chosen g cs away i =
-    let ms = trace panel (fresh orchestra ceiling chosen) cs in
+condition-3 u is g cs away i =
+    let ms = trace panel (fresh u) cs in
     let ls = allTaken ms in
-    let s = settings ceiling chosen in
-    let w : (n : ℕ) → PlaysAsWritten is s ls n = λ n. every-piece is s ls n (g .accepted .named) (lines-fit orchestra is ceiling chosen g cs) in
-    all-map (AsPlain panel (treeVoices is) s ls) (AsPlain panel (writtenVoices is) s ls) (as-written is s ls w) ms
-    (by-place orchestra is ceiling chosen g cs away (all-map (InTime panel (writtenVoices is) s ls) (InTime panel (treeVoices is) s ls) (timely is s ls w) ms i))
+    let s = settings u ms in
+    let start = startingTempo (firstInUse u) in
+    let w : (n : ℕ) → PlaysAsWritten is start s ls n = λ n. every-piece is start s ls n (g .accepted .named) (lines-fit u is g cs) in
+    all-map (AsPlain panel (treeVoices is) start s ls) (AsPlain panel (writtenVoices is) start s ls) (as-written is start s ls w) ms
+    (by-place u is g cs away (all-map (InTime panel (writtenVoices is) start s ls) (InTime panel (treeVoices is) start s ls) (timely is start s ls w) ms i))

@@ -3,7 +3,7 @@
 use mathlib.Core.Path.{_≡_}
 use mathlib.Core.Bool.{Bool, true, false, not, cond, _&&_}
 use mathlib.Core.List.{List, [], _∷_, _++_}
-use Prim.Native.Nat.{ℕ, _≤_, _<_}
+use Prim.Native.Nat.{ℕ, _+_, _-_, _≤_, _<_}
 use lib.IntN.{ℤ}
 use lib.Dec.{leb}
 use lib.ListN.{length, take}
@@ -25,19 +25,26 @@ use Rattle.midi_messages.specs.Writing.{whole, Parses}
 use Rattle.midi_messages.specs.declared.NoteMessage.{NoteMessage}
 use Rattle.midi_queue.specs.Keyboard.{messagesIn}
 use Rattle.midi_queue.specs.declared.MessageQueue.{MessageQueue}
-use Rattle.player_model.specs.PlayerState.{Settings, settingsOf, dueOf, endsBy, blockOf}
+use Rattle.settings_records.specs.Form.{found, IsRecord, ParsesRecords}
+use Rattle.settings_records.specs.inside.Reading.{foundIn}
+use Rattle.settings_records.specs.Changes.{inUse, laidAt, areaBytes}
+use Rattle.settings_records.specs.declared.Setting.{Setting}
+use Rattle.settings_records.specs.declared.InUse.{InUse}
+use Rattle.player_model.specs.PlayerState.{Settings, dueOf, endsBy, blockOf}
 use Rattle.player_model.specs.Plain.{plainStart}
-use Rattle.player_model.specs.Calls.{Entrance, unit, hasTime, reads, Call, submit, burst, keyboard, cycle, numbered, Answer, one, After, Player, isZero, Transition, trace, allTaken, afterAll, answersAll}
+use Rattle.player_model.specs.Calls.{Entrance, unit, hasTime, reads, Call, submit, burst, keyboard, cycle, change, undo, numbered, Answer, one, noBuffers, onlyBlock, onlyAnswers, onlySettings, buffersOf, After, Player, isZero, Transition, trace, allTaken, afterAll, answersAll}
+use Rattle.player_model.specs.Set.{inForce, startingTempo, settingsBy}
 use Rattle.player_model.specs.Condition3.{PlainAlike, WithinCeiling}
 use Rattle.player_model.specs.History.{Reached, nowhere, at, History, historyOf}
 use Rattle.player_queue.specs.Admission.{waitingIn}
 use Rattle.player_queue.specs.declared.Queue.{Queue}
 use Rattle.code_loader_claims.specs.Claims.{StandsFor}
-use Rattle.panel.specs.State.{playerStateOf, withQueue, withMessages, endedOf}
-use Rattle.panel.specs.Calls.{freshOf, submitOf, receiveOf, areaAfter, playKeysOf, cycleOf, blockAfter}
+use Rattle.panel.specs.State.{playerStateOf, withInUse, withQueue, withMessages, endedOf}
+use Rattle.panel.specs.Calls.{freshOf, areaFresh, submitOf, receiveOf, areaAfter, playKeysOf, changeOf, areaChanged, undoOf, cycleOf, blockAfter}
 use Rattle.panel.specs.declared.Panel.{Panel}
+use Rattle.panel.specs.declared.Fresh.{Fresh}
 use Rattle.panel_claims.specs.Verdict.{Verdict}
-use Rattle.panel_claims.specs.Fresh.{First, checks}
+use Rattle.panel_claims.specs.Fresh.{Setup, First, checks}
 
 -- ---- the panel as a player
 
@@ -48,17 +55,23 @@ unitAnswer n = record { number = n; line = 0 }
 unfoldable pub afterOf : Panel → Call → After Panel
 afterOf p (submit d handed) =
     let r = submitOf p d handed in
-    record { player = r .panel; answers = one (numberOf (r .answer)) (r .line); block = []; area = [] }
+    record { player = r .panel; answers = one (numberOf (r .answer)) (r .line); buffers = noBuffers }
 afterOf p (burst bytes area) =
     let r = receiveOf p bytes (length area) in
     let left = areaAfter p bytes area in
-    record { player = r .panel; answers = one (numberOf (r .answer)) 0 ++ each unitAnswer (take (r .units) left); block = []; area = left }
+    record { player = r .panel; answers = one (numberOf (r .answer)) 0 ++ each unitAnswer (take (r .units) left); buffers = onlyAnswers left }
 afterOf p (keyboard bytes) =
     let r = playKeysOf p bytes in
-    record { player = r .panel; answers = one (numberOf (r .answer)) 0; block = []; area = [] }
+    record { player = r .panel; answers = one (numberOf (r .answer)) 0; buffers = noBuffers }
 afterOf p (cycle b) =
     let r = cycleOf p (length b) in
-    record { player = r .panel; answers = one (numberOf (r .answer)) 0; block = blockAfter p b; area = [] }
+    record { player = r .panel; answers = one (numberOf (r .answer)) 0; buffers = onlyBlock (blockAfter p b) }
+afterOf p (change area handed) =
+    let r = changeOf p area handed in
+    record { player = r .panel; answers = one (numberOf (r .answer)) 0; buffers = onlySettings (areaChanged p area handed) }
+afterOf p (undo area) =
+    let r = undoOf p area in
+    record { player = r .panel; answers = one (numberOf (r .answer)) 0; buffers = onlySettings area }
 
 -- the position at the start of the last cycle that answered 0
 abbrev pub reachedOf : Panel → Reached
@@ -69,49 +82,68 @@ panel = record { after = afterOf; counts = λ (p : Panel). playerStateOf p .play
 
 -- ---- a fresh start
 
--- the panel of an accepted orchestra: nothing waits, nothing plays, no cycle has run, its program stands for the tree, and the chosen
--- instrument is there
-pub record Begun (orchestra : List ℕ) (ceiling chosen : ℕ) (p : Panel) : Type 0 where
+-- what its first record sets: one record is in use (`FirstSets`: what its bytes say)
+abbrev pub firstInUse : Setup → InUse
+firstInUse u = inUse 1 (foundIn (u .first) .setting)
+
+-- the panel of an accepted orchestra: nothing waits, nothing plays, no cycle has run, its program stands for the tree, the chosen instrument is
+-- there, and its settings are those of the first record
+pub record Begun (u : Setup) (p : Panel) : Type 0 where
   pub tree : List Instrument
-  pub accepted : Accepted orchestra tree
+  pub accepted : Accepted (u .orchestra) tree
   pub stands : StandsFor tree (p .program)
-  pub there : Some (λ (i : Instrument). i .name ≡ chosen) tree
-  pub limit : p .ceiling ≡ ceiling
-  pub choice : p .chosen ≡ chosen
-  pub holds : playerStateOf p ≡ plainStart (settingsOf ceiling chosen) []
+  pub there : Some (λ (i : Instrument). i .name ≡ u .chosen) tree
+  pub setting : Setting
+  pub first : IsRecord (u .first) setting
+  pub set : p .settings ≡ inUse 1 setting
+  pub choice : p .chosen ≡ u .chosen
+  pub holds : playerStateOf p ≡ plainStart (startingTempo (inUse 1 setting)) []
   pub reached : reachedOf p ≡ nowhere
 
--- what a refused burst leaves: its number, and nothing changes
-abbrev pub refusedBurst : Panel → List ℕ → ℕ → After Panel
-refusedBurst p area number = record { player = p; answers = one number 0; block = []; area = area }
+-- what a refusal leaves: its number, and nothing changes
+abbrev pub unchanged : Panel → Call → ℕ → After Panel
+unchanged p c number = record { player = p; answers = one number 0; buffers = buffersOf c }
 
 -- what a burst leaves of a panel that has ended: each of its units answers 9
-abbrev pub endedBurst : Panel → List ℕ → Burst → After Panel
-endedBurst p area (fault a) = refusedBurst p area (numberOf a)
-endedBurst p area (units us) =
+abbrev pub endedBurst : Panel → List ℕ → List ℕ → Burst → After Panel
+endedBurst p bytes area (fault a) = unchanged p (burst bytes area) (numberOf a)
+endedBurst p bytes area (units us) =
     let nines = each {B = ℕ} (λ (u : List ℕ). 9) us in
-    cond (leb (length us) (length area)) (record { player = p; answers = one 0 0 ++ each unitAnswer nines; block = []; area = over nines area }) (refusedBurst p area 8)
+    cond (leb (length us) (length area)) (record { player = p; answers = one 0 0 ++ each unitAnswer nines; buffers = onlyAnswers (over nines area) })
+    (unchanged p (burst bytes area) 8)
 
 -- what a call leaves of a panel that has ended: 9, or 10 for a block of another length, and nothing changes
 abbrev pub endedAfter : Panel → Call → After Panel
-endedAfter p (submit d b) = record { player = p; answers = one 9 0; block = []; area = [] }
-endedAfter p (burst bytes area) = endedBurst p area (burstOf bytes)
-endedAfter p (keyboard b) = record { player = p; answers = one 9 0; block = []; area = [] }
-endedAfter p (cycle b) = record { player = p; answers = one (cond (numbered (cycle b)) 9 10) 0; block = b; area = [] }
+endedAfter p (submit d b) = unchanged p (submit d b) 9
+endedAfter p (burst bytes area) = endedBurst p bytes area (burstOf bytes)
+endedAfter p (keyboard b) = unchanged p (keyboard b) 9
+endedAfter p (cycle b) = unchanged p (cycle b) (cond (numbered (cycle b)) 9 10)
+endedAfter p (change area handed) = unchanged p (change area handed) 9
+endedAfter p (undo area) = unchanged p (undo area) 9
 
 abbrev pub AsEnded : Transition Panel → Type 0
 AsEnded m = m .after ≡ endedAfter (m .before) (m .call)
 
--- For all bytes, ceilings and choices: the number is that of the first check that fails, and of no other; 0 comes with a begun panel, and
--- every other number with a panel that no list of calls changes: each call is refused, and of a burst each unit.
-pub record FreshStart (orchestra : List ℕ) (ceiling chosen : ℕ) : Type 1 where
-  pub given : First (checks orchestra ceiling chosen) (numberOf (freshOf orchestra ceiling chosen .answer))
-  pub only : (n : ℕ) → First (checks orchestra ceiling chosen) n → numberOf (freshOf orchestra ceiling chosen .answer) ≡ n
-  pub begun : freshOf orchestra ceiling chosen .answer ≡ Taken → Begun orchestra ceiling chosen (freshOf orchestra ceiling chosen .panel)
-  pub noPanel : (freshOf orchestra ceiling chosen .answer ≡ Taken → ⊥) → (cs : List Call) → All AsEnded (trace panel (freshOf orchestra ceiling chosen .panel) cs)
+-- a fresh start's answer, panel and area
+abbrev pub freshBy : Setup → Fresh
+freshBy u = freshOf (u .orchestra) (u .area) (u .first) (u .chosen)
+
+abbrev pub areaBy : Setup → List ℕ
+areaBy u = areaFresh (u .orchestra) (u .area) (u .first) (u .chosen)
+
+-- For all bytes, areas, first records and choices: the number is that of the first check that fails, and of no other; 0 comes with a begun panel
+-- and the first record at the area's start, and every other number with the area as it was and a panel that no list of calls changes: each call
+-- is refused, and of a burst each unit.
+pub record FreshStart (u : Setup) : Type 1 where
+  pub given : First (checks u) (numberOf (freshBy u .answer))
+  pub only : (n : ℕ) → First (checks u) n → numberOf (freshBy u .answer) ≡ n
+  pub begun : freshBy u .answer ≡ Taken → Begun u (freshBy u .panel)
+  pub written : freshBy u .answer ≡ Taken → areaBy u ≡ laidAt 0 (u .first) (u .area)
+  pub noPanel : (freshBy u .answer ≡ Taken → ⊥) → (cs : List Call) → All AsEnded (trace panel (freshBy u .panel) cs)
+  pub unwritten : (freshBy u .answer ≡ Taken → ⊥) → areaBy u ≡ u .area
 
 abbrev pub FreshVerdict : Type 1
-FreshVerdict = (orchestra : List ℕ) (ceiling chosen : ℕ) → Bytes orchestra → FreshStart orchestra ceiling chosen
+FreshVerdict = (u : Setup) → Bytes (u .orchestra) → FreshStart u
 
 -- ---- every call on every panel
 
@@ -139,30 +171,44 @@ TakenKeys =
     (p : Panel) (bytes : List ℕ) (ms : List NoteMessage) → Parses noStatus bytes (whole ms) → isZero (afterOf p (keyboard bytes) .answers) ≡ true
     → TakesKeys p ms (afterOf p (keyboard bytes) .player)
 
+-- what a change or an undo that answers 0 leaves: other settings are in use, and nothing else of the panel changes
+abbrev pub settingsSet : Panel → InUse → List ℕ → After Panel
+settingsSet p k area = record { player = withInUse p k; answers = one 0 0; buffers = onlySettings area }
+
+-- a change: what its record says, one record more in use; its bytes stand in the area where those in use end
+pub record TakesChange (p : Panel) (area handed : List ℕ) : Type 0 where
+  pub setting : Setting
+  pub new : IsRecord handed setting
+  pub last : Setting
+  pub size : ℕ
+  pub valid : ParsesRecords (p .settings .count) area (found last size)
+  pub left : afterOf p (change area handed) ≡ settingsSet p (inUse (p .settings .count + 1) setting) (laidAt size handed area)
+
+-- an undo: what the last record says that is then in use, one record fewer; the bytes stay
+pub record TakesUndo (p : Panel) (area : List ℕ) : Type 0 where
+  pub setting : Setting
+  pub size : ℕ
+  pub valid : ParsesRecords (p .settings .count - 1) area (found setting size)
+  pub left : afterOf p (undo area) ≡ settingsSet p (inUse (p .settings .count - 1) setting) area
+
+unfoldable pub TakenSettings : Type 0
+TakenSettings =
+    (p : Panel) (area : List ℕ) → ((handed : List ℕ) → isZero (afterOf p (change area handed) .answers) ≡ true → TakesChange p area handed)
+    × (isZero (afterOf p (undo area) .answers) ≡ true → TakesUndo p area)
+
 -- a cycle call that finds the end
 abbrev pub findsEnd : Panel → Call → Bool
 findsEnd p (submit d handed) = false
 findsEnd p (burst bytes area) = false
 findsEnd p (keyboard bytes) = false
+findsEnd p (change area handed) = false
+findsEnd p (undo area) = false
 findsEnd p (cycle b) = numbered (cycle b) && not (p .state .playing .ended) && endsBy (dueOf (playerStateOf p)) (playerStateOf p .plays)
 
-abbrev pub blockIn : Call → List ℤ
-blockIn (submit d handed) = []
-blockIn (burst bytes area) = []
-blockIn (keyboard bytes) = []
-blockIn (cycle b) = b
-
-abbrev pub areaOf : Call → List ℕ
-areaOf (submit d handed) = []
-areaOf (burst bytes area) = area
-areaOf (keyboard bytes) = []
-areaOf (cycle b) = []
-
--- Condition 1: a refusal changes neither the panel nor a lent block nor a lent answer area, save that the cycle call that finds the end marks it.
+-- Condition 1: "A refusal leaves the panel and all lent memory unchanged", save that the cycle call that finds the end marks it.
 pub record Refused (p : Panel) (c : Call) : Type 0 where
   pub player : afterOf p c .player ≡ cond (findsEnd p c) (endedOf p) p
-  pub block : afterOf p c .block ≡ blockIn c
-  pub area : afterOf p c .area ≡ areaOf c
+  pub buffers : afterOf p c .buffers ≡ buffersOf c
 
 unfoldable pub RefusalsChangeNothing : Type 0
 RefusalsChangeNothing = (p : Panel) (c : Call) → isZero (afterOf p c .answers) ≡ false → Refused p c
@@ -172,14 +218,14 @@ abbrev pub asUnits : Panel → List ℕ → List (List ℕ) → After Panel
 asUnits p area us =
     let cs = each (submit unit) us in
     let given = answersAll panel p cs in
-    record { player = afterAll panel p cs; answers = one 0 0 ++ given; block = []; area = over (each (λ (a : Answer). a .number) given) area }
+    record { player = afterAll panel p cs; answers = one 0 0 ++ given; buffers = onlyAnswers (over (each (λ (a : Answer). a .number) given) area) }
 
 -- Document 02: "Answers and panel are as if the units came singly, in order, refused or not"; a burst that is cut, too long or without a
--- place for each answer takes and writes nothing. Its bytes say exactly one of these (`EveryBurst`, `OneParse`).
+-- place for each answer takes and writes nothing. Its bytes say exactly one of these (`EveryBurst`, `OneMeaning`).
 pub record BurstCall (p : Panel) (bytes area : List ℕ) : Type 0 where
-  pub cut : bursts.Parses mostUnits bytes (fault CutShort) → afterOf p (burst bytes area) ≡ refusedBurst p area 1
-  pub tooLong : bursts.Parses mostUnits bytes (fault TooManyValues) → afterOf p (burst bytes area) ≡ refusedBurst p area 5
-  pub noRoom : (us : List (List ℕ)) → bursts.Parses mostUnits bytes (units us) → length area < length us → afterOf p (burst bytes area) ≡ refusedBurst p area 8
+  pub cut : bursts.Parses mostUnits bytes (fault CutShort) → afterOf p (burst bytes area) ≡ unchanged p (burst bytes area) 1
+  pub tooLong : bursts.Parses mostUnits bytes (fault TooManyValues) → afterOf p (burst bytes area) ≡ unchanged p (burst bytes area) 5
+  pub noRoom : (us : List (List ℕ)) → bursts.Parses mostUnits bytes (units us) → length area < length us → afterOf p (burst bytes area) ≡ unchanged p (burst bytes area) 8
   pub taken : (us : List (List ℕ)) → bursts.Parses mostUnits bytes (units us) → length us ≤ length area → afterOf p (burst bytes area) ≡ asUnits p area us
 
 unfoldable pub BurstAsUnits : Type 0
@@ -194,6 +240,8 @@ ReadsAlone (burst bytes area) l =
     (u : List ℕ) × bursts.Parses mostUnits bytes (units (u ∷ [])) × (1 ≤ length area) × (reads unit u .answer ≡ Taken) × (reads unit u .lines ≡ l ∷ [])
 ReadsAlone (keyboard bytes) l = ⊥
 ReadsAlone (cycle b) l = ⊥
+ReadsAlone (change area handed) l = ⊥
+ReadsAlone (undo area) l = ⊥
 
 -- the line's answer is the last one: before it a burst has its own
 abbrev pub lastAnswer : List Answer → Answer
@@ -211,40 +259,46 @@ EntrancesAlike = (p : Panel) (c d : Call) (l : Line) → hasTime (l .when) ≡ t
 
 -- ---- every list of calls on a fresh panel
 
--- an accepted orchestra, as this tree, a valid ceiling, and a chosen instrument that is there
-pub record Given (orchestra : List ℕ) (is : List Instrument) (ceiling chosen : ℕ) : Type 0 where
-  pub accepted : Accepted orchestra is
-  pub low : 1 ≤ ceiling
-  pub high : ceiling ≤ 32767
-  pub there : Some (λ (i : Instrument). i .name ≡ chosen) is
+-- an accepted orchestra, as this tree, an area of 4,096 bytes, a valid first record and nothing behind it, and a chosen instrument that is there
+pub record Given (u : Setup) (is : List Instrument) : Type 0 where
+  pub accepted : Accepted (u .orchestra) is
+  pub whole : length (u .area) ≡ areaBytes
+  pub set : Setting
+  pub first : IsRecord (u .first) set
+  pub there : Some (λ (i : Instrument). i .name ≡ u .chosen) is
 
-abbrev pub fresh : List ℕ → ℕ → ℕ → Panel
-fresh orchestra ceiling chosen = freshOf orchestra ceiling chosen .panel
+abbrev pub fresh : Setup → Panel
+fresh u = freshBy u .panel
 
--- the settings of each cycle: constant until they can be changed
-abbrev pub settings : ℕ → ℕ → ℕ → Settings
-settings ceiling chosen k = settingsOf ceiling chosen
+-- the first record says what its bytes say
+abbrev pub FirstSets : Type 0
+FirstSets = (u : Setup) (is : List Instrument) (g : Given u is) → firstInUse u ≡ inUse 1 (g .set)
 
-module _ (orchestra : List ℕ) (is : List Instrument) (ceiling chosen : ℕ) where
+-- the settings of each cycle, by the calls
+abbrev pub settings : {P : Type 0} → Setup → List (Transition P) → ℕ → Settings
+settings u ms = settingsBy (u .chosen) (firstInUse u) ms
+
+module _ (u : Setup) (is : List Instrument) where
   -- what a list of calls leaves by its history, the notes being those of the orchestra as it is written, and the panel after it
   abbrev pub past : List Call → History VoiceState
-  past cs = historyOf (writtenVoices is) (settings ceiling chosen) (trace panel (fresh orchestra ceiling chosen) cs)
+  past cs = historyOf (writtenVoices is) (u .chosen) (firstInUse u) (trace panel (fresh u) cs)
 
   abbrev pub panelAfter : List Call → Panel
-  panelAfter cs = afterAll panel (fresh orchestra ceiling chosen) cs
+  panelAfter cs = afterAll panel (fresh u) cs
 
   -- Condition 2, every cycle of sound: whatever was handed in, timed or not, late or not, the panel holds what its history says, each note
-  -- the values of its names,
+  -- the values of its names, and its settings are those of its history,
   pub record StateByPast (cs : List Call) : Type 0 where
     pub holds : StateAs (HeldAs is) (playerStateOf (panelAfter cs)) (past cs .holds)
     pub reached : reachedOf (panelAfter cs) ≡ past cs .reached
+    pub set : panelAfter cs .settings ≡ past cs .set
 
   -- and a cycle call that answers 0 leaves the block of document 01's cycle.
   abbrev pub BlockByPast : List Call → List ℤ → Type 0
   BlockByPast cs lent =
       isZero (afterOf (panelAfter cs) (cycle lent) .answers) ≡ true
-      → afterOf (panelAfter cs) (cycle lent) .block
-      ≡ blockOf (writtenVoices is) (settingsOf ceiling chosen) (dueOf (past cs .holds)) (past cs .holds .plays)
+      → afterOf (panelAfter cs) (cycle lent) .buffers .block
+      ≡ blockOf (writtenVoices is) (inForce (u .chosen) (past cs .set)) (dueOf (past cs .holds)) (past cs .holds .plays)
 
   -- Each call gives the answers that its history gives, and is given them exactly then.
   pub record Answered (cs : List Call) (c : Call) : Type 0 where
@@ -257,27 +311,27 @@ module _ (orchestra : List ℕ) (is : List Instrument) (ceiling chosen : ℕ) wh
 
 unfoldable pub CycleByTree : Type 0
 CycleByTree =
-    (orchestra : List ℕ) (is : List Instrument) (ceiling chosen : ℕ) → Given orchestra is ceiling chosen → (cs : List Call) →
-    StateByPast orchestra is ceiling chosen cs × ((lent : List ℤ) → BlockByPast orchestra is ceiling chosen cs lent)
+    (u : Setup) (is : List Instrument) → Given u is → (cs : List Call) →
+    StateByPast u is cs × ((lent : List ℤ) → BlockByPast u is cs lent)
 
 unfoldable pub CallVerdict : Type 0
 CallVerdict =
-    (orchestra : List ℕ) (is : List Instrument) (ceiling chosen : ℕ) → Given orchestra is ceiling chosen → (cs : List Call) (c : Call) →
-    Answered orchestra is ceiling chosen cs c × VerdictGiven orchestra is ceiling chosen cs c
+    (u : Setup) (is : List Instrument) → Given u is → (cs : List Call) (c : Call) →
+    Answered u is cs c × VerdictGiven u is cs c
 
 -- Each line taken has no more values than its instrument has fields, and a control line's symbol has 16 bits.
 unfoldable pub LinesFit : Type 0
 LinesFit =
-    (orchestra : List ℕ) (is : List Instrument) (ceiling chosen : ℕ) → Given orchestra is ceiling chosen → (cs : List Call) →
-    All (λ (l : Line). Fits is l (l .event)) (allTaken (trace panel (fresh orchestra ceiling chosen) cs))
+    (u : Setup) (is : List Instrument) → Given u is → (cs : List Call) →
+    All (λ (l : Line). Fits is l (l .event)) (allTaken (trace panel (fresh u) cs))
 
 -- Condition 3, first half, which excludes the keyboard, and second half, which binds it: the plain player's notes are those of the orchestra as it is written, their values by symbol.
 unfoldable pub Condition3 : Type 0
 Condition3 =
-    (orchestra : List ℕ) (is : List Instrument) (ceiling chosen : ℕ) → Given orchestra is ceiling chosen →
-    PlainAlike panel (writtenVoices is) (settings ceiling chosen) (fresh orchestra ceiling chosen)
+    (u : Setup) (is : List Instrument) → Given u is →
+    PlainAlike panel (writtenVoices is) (u .chosen) (firstInUse u) (fresh u)
 
 unfoldable pub CeilingBinds : Type 0
 CeilingBinds =
-    (orchestra : List ℕ) (is : List Instrument) (ceiling chosen : ℕ) → Given orchestra is ceiling chosen → (cs : List Call) →
-    All (WithinCeiling (settings ceiling chosen)) (trace panel (fresh orchestra ceiling chosen) cs)
+    (u : Setup) (is : List Instrument) → Given u is → (cs : List Call) →
+    let ms = trace panel (fresh u) cs in All (WithinCeiling (settings u ms)) ms

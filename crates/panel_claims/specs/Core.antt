@@ -8,15 +8,16 @@ use lib.ListN.{length, take}
 use Rattle.base_answer.specs.Numbers.{numberOf}
 use Rattle.orchestra_syntax.specs.Tree.{Instrument}
 use Rattle.player_model.specs.Lists.{All, each}
-use Rattle.player_model.specs.Calls.{Entrance, Call, submit, burst, keyboard, cycle, one, After, Player, Last, none, Transition, cyclesWith, lastWith, transitionOf, trace, afterAll}
+use Rattle.player_model.specs.Calls.{Entrance, Call, submit, burst, keyboard, cycle, change, undo, one, noBuffers, onlyBlock, onlyAnswers, onlySettings, After, Player, Last, none, Transition, cyclesWith, lastWith, transitionOf, trace, afterAll}
 use Rattle.player_model.specs.Condition3.{WithinCeiling}
 use Rattle.panel.specs.Core.{panelOf, SubmittedAs, ReceivedAs, AreaAs, PlayedAs, cycledWith}
-use Rattle.panel.specs.Calls.{submitOf, receiveOf, areaAfter, playKeysOf, cycleOf, blockAfter}
+use Rattle.panel.specs.Calls.{submitOf, receiveOf, areaAfter, playKeysOf, changeOf, areaChanged, undoOf, cycleOf, blockAfter}
 use Rattle.panel.specs.declared.Panel.{Panel}
 use Rattle.panel.specs.declared.Core.{Core}
 use Rattle.panel.specs.declared.CoreEntranceResult.{CoreEntranceResult}
 use Rattle.panel.specs.declared.CoreBurstResult.{CoreBurstResult}
 use Rattle.panel.specs.declared.CoreResult.{CoreResult}
+use Rattle.panel_claims.specs.Fresh.{Setup}
 use Rattle.panel_claims.specs.Claims.{unitAnswer, afterOf, panel, Given, fresh, settings}
 
 -- ---- the core as a player
@@ -26,14 +27,15 @@ abbrev pub coreOf : Panel → Core
 coreOf p =
     record {
       state = p .state;
-      settings = record { ceiling = p .ceiling; chosen = p .chosen };
+      settings = p .settings;
+      chosen = p .chosen;
       table = p .program .table;
       count = p .program .count;
     }
 
 -- what a call leaves, of the panel its core alone
 abbrev pub onCore : After Panel → After Core
-onCore a = record { player = coreOf (a .player); answers = a .answers; block = a .block; area = a .area }
+onCore a = record { player = coreOf (a .player); answers = a .answers; buffers = a .buffers }
 
 -- a core that is lent this code and these numbers: a call on it is the call on the panel that they make
 abbrev pub core : List ℕ → List Float → Player Core
@@ -47,16 +49,20 @@ core code vals =
 -- reads code and numbers; of any other call it is so whatever they are.
 pub record ByContract (c : Core) (code : List ℕ) (vals : List Float) : Type 0 where
   pub entrance : (d : Entrance) (handed : List ℕ) (r : CoreEntranceResult) → SubmittedAs c r (λ (p : Panel). submitOf p d handed)
-      → core code vals .after c (submit d handed) ≡ record { player = r .core; answers = one (numberOf (r .answer)) (r .line); block = []; area = [] }
+      → core code vals .after c (submit d handed) ≡ record { player = r .core; answers = one (numberOf (r .answer)) (r .line); buffers = noBuffers }
   pub units : (bytes area left : List ℕ) (r : CoreBurstResult) → ReceivedAs c r (λ (p : Panel). receiveOf p bytes (length area))
       → AreaAs c left (λ (p : Panel). areaAfter p bytes area)
       → core code vals .after c (burst bytes area)
-      ≡ record { player = r .core; answers = one (numberOf (r .answer)) 0 ++ each unitAnswer (take (r .units) left); block = []; area = left }
+      ≡ record { player = r .core; answers = one (numberOf (r .answer)) 0 ++ each unitAnswer (take (r .units) left); buffers = onlyAnswers left }
   pub keys : (bytes : List ℕ) (r : CoreResult) → PlayedAs c r (λ (p : Panel). playKeysOf p bytes)
-      → core code vals .after c (keyboard bytes) ≡ record { player = r .core; answers = one (numberOf (r .answer)) 0; block = []; area = [] }
+      → core code vals .after c (keyboard bytes) ≡ record { player = r .core; answers = one (numberOf (r .answer)) 0; buffers = noBuffers }
+  pub settings : (area handed left : List ℕ) (r : CoreResult) → PlayedAs c r (λ (p : Panel). changeOf p area handed) → AreaAs c left (λ (p : Panel). areaChanged p area handed)
+      → core code vals .after c (change area handed) ≡ record { player = r .core; answers = one (numberOf (r .answer)) 0; buffers = onlySettings left }
+  pub back : (area : List ℕ) (r : CoreResult) → PlayedAs c r (λ (p : Panel). undoOf p area)
+      → core code vals .after c (undo area) ≡ record { player = r .core; answers = one (numberOf (r .answer)) 0; buffers = onlySettings area }
   pub sound : (lent left : List ℤ) (r : CoreResult) → cycledWith code vals r ≡ cycleOf (panelOf c code vals) (length lent)
       → left ≡ blockAfter (panelOf c code vals) lent
-      → core code vals .after c (cycle lent) ≡ record { player = r .core; answers = one (numberOf (r .answer)) 0; block = left; area = [] }
+      → core code vals .after c (cycle lent) ≡ record { player = r .core; answers = one (numberOf (r .answer)) 0; buffers = onlyBlock left }
 
 unfoldable pub CoreByContract : Type 0
 CoreByContract = (c : Core) (code : List ℕ) (vals : List Float) → ByContract c code vals
@@ -99,6 +105,6 @@ lentTrace c ls = lentFrom 0 none c ls
 -- sample that a cycle gives lies above the ceiling or below its negative.
 unfoldable pub CoreCeilingBinds : Type 0
 CoreCeilingBinds =
-    (orchestra : List ℕ) (is : List Instrument) (ceiling chosen : ℕ) → Given orchestra is ceiling chosen →
-    (c : Core) (code : List ℕ) (vals : List Float) → panelOf c code vals ≡ fresh orchestra ceiling chosen → (ls : List LentCall) →
-    All (WithinCeiling (settings ceiling chosen)) (lentTrace c ls)
+    (u : Setup) (is : List Instrument) → Given u is →
+    (c : Core) (code : List ℕ) (vals : List Float) → panelOf c code vals ≡ fresh u → (ls : List LentCall) →
+    All (WithinCeiling (settings u (lentTrace c ls))) (lentTrace c ls)

@@ -12,6 +12,10 @@ use Rattle.orchestra_syntax.specs.Names.{nameRules}
 use Rattle.orchestra_syntax.specs.Rates.{rateRules}
 use Rattle.orchestra_syntax.specs.Grammar.{Orchestra}
 use Rattle.player_model.specs.Lists.{Some}
+use Rattle.base_answer.specs.declared.Answer.the-variants.{CutShort, LeftOver, UnknownVersion, OutOfRange}
+use Rattle.settings_records.specs.Form.{Parses, IsRecord, refusedAs}
+use Rattle.settings_records.specs.Changes.{areaBytes}
+use Rattle.settings_records.specs.declared.Setting.{Setting}
 
 -- what is asked, and the number that is given where it does not hold
 pub record Check : Type 1 where
@@ -33,16 +37,35 @@ module _ (orchestra : List ℕ) where
   abbrev pub Tree : (List Instrument → Type 0) → Type 0
   Tree P = (ts : List Token) × (is : List Instrument) × Encodes orchestra ts × Orchestra is ts × P is
 
-  -- Document 01: "another gives refusal 3 and no panel, before the orchestra is looked at"; "An orchestra: length over 16,384 bytes (16);
-  -- 12; token measures (16); 13; 14; 15". Document 02: "A chosen instrument that is not there gives 4 at fresh start, after the orchestra's checks."
-  abbrev pub checks : ℕ → ℕ → List Check
-  checks ceiling chosen =
-      record { number = 3; asks = (1 ≤ ceiling) × (ceiling ≤ 32767) }
-      ∷ record { number = 16; asks = length orchestra ≤ longest }
-      ∷ record { number = 12; asks = Tokens (λ ts. Unit {0}) }
-      ∷ record { number = 16; asks = Tokens (λ ts. measured ts ≡ true) }
-      ∷ record { number = 13; asks = Tree (λ is. Unit {0}) }
-      ∷ record { number = 14; asks = Tree (λ is. nameRules is ≡ true) }
-      ∷ record { number = 15; asks = Tree (λ is. rateRules is ≡ true) }
-      ∷ record { number = 4; asks = Tree (λ is. Some (λ (i : Instrument). i .name ≡ chosen) is) }
-      ∷ []
+-- what a fresh start is given: the orchestra's bytes, the settings area as it is lent, the first settings record, and the instrument of the
+-- keyboard's notes
+pub record Setup : Type 0 where
+  pub orchestra : List ℕ
+  pub area : List ℕ
+  pub first : List ℕ
+  pub chosen : ℕ
+
+-- Document 01: "An orchestra: length over 16,384 bytes (16); 12; token measures (16); 13; 14; 15". Document 02: "A chosen instrument that is not
+-- there gives 4 at fresh start, after the orchestra's checks."
+abbrev pub orchestraChecks : Setup → List Check
+orchestraChecks u =
+    record { number = 16; asks = length (u .orchestra) ≤ longest }
+    ∷ record { number = 12; asks = Tokens (u .orchestra) (λ ts. Unit {0}) }
+    ∷ record { number = 16; asks = Tokens (u .orchestra) (λ ts. measured ts ≡ true) }
+    ∷ record { number = 13; asks = Tree (u .orchestra) (λ is. Unit {0}) }
+    ∷ record { number = 14; asks = Tree (u .orchestra) (λ is. nameRules is ≡ true) }
+    ∷ record { number = 15; asks = Tree (u .orchestra) (λ is. rateRules is ≡ true) }
+    ∷ record { number = 4; asks = Tree (u .orchestra) (λ is. Some (λ (i : Instrument). i .name ≡ u .chosen) is) }
+    ∷ []
+
+-- Document 02: "A fresh start does the same, without 9, before the orchestra's checks": an area of another length 8, the record cut 1, length
+-- zero or wrong 11, another version 17, a bad number 3, bytes left over 11. (Its bytes say one of these at most.)
+abbrev pub checks : Setup → List Check
+checks u =
+    record { number = 8; asks = length (u .area) ≡ areaBytes }
+    ∷ record { number = 1; asks = Parses (u .first) (refusedAs CutShort) → ⊥ }
+    ∷ record { number = 11; asks = Parses (u .first) (refusedAs LeftOver) → ⊥ }
+    ∷ record { number = 17; asks = Parses (u .first) (refusedAs UnknownVersion) → ⊥ }
+    ∷ record { number = 3; asks = Parses (u .first) (refusedAs OutOfRange) → ⊥ }
+    ∷ record { number = 11; asks = (s : Setting) × IsRecord (u .first) s }
+    ∷ orchestraChecks u

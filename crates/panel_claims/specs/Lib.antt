@@ -2,3 +2,5 @@ pub mod Verdict
 pub mod Fresh
 pub mod Claims
 pub mod Core
+pub mod Standing
+pub mod Told

@@ -6,6 +6,11 @@ use Prim.Native.Nat.{ℕ, suc, _+_, _≤_, _<_}
 use lib.IntN.{ℤ}
 use lib.ListN.{length}
 use lib.Dec.{leb, eqb}
+use Rattle.base_answer.specs.Numbers.{numberOf, isTaken}
+use Rattle.settings_records.specs.Form as settings
+use Rattle.settings_records.specs.Changes.{areaBytes}
+use Rattle.settings_records.specs.declared.Setting.{Setting}
+use Rattle.base_answer.specs.declared.Answer as answer-type
 use Rattle.base_answer.specs.declared.Answer.the-variants as answer
 use Rattle.base_timebase.specs.Time.{ticksIn}
 use Rattle.score_line.specs.declared.When.{When}
@@ -21,7 +26,7 @@ use Rattle.midi_messages.specs.Writing.{Parses}
 use Rattle.midi_messages.specs.Writing as midi
 use Rattle.midi_messages.specs.declared.NoteMessage.{NoteMessage}
 use Rattle.player_model.specs.PlayerState.{behind, dueOf, endsBy}
-use Rattle.player_model.specs.Calls.{Entrance, unit, mustBeTimed, hasTime, reads, Call, submit, burst, keyboard, cycle, Answer, one, numbered}
+use Rattle.player_model.specs.Calls.{Entrance, unit, mustBeTimed, hasTime, reads, Call, submit, burst, keyboard, cycle, change, undo, Answer, one, numbered}
 use Rattle.player_model.specs.History.{Reached, nowhere, at, History}
 
 -- ---- one line
@@ -128,11 +133,43 @@ module _ {S : Type 0} (is : List Instrument) (h : History S) where
     findsEnd : numbered (cycle block) ≡ true → ended ≡ false → endsBy (dueOf (h .holds)) (h .holds .plays) ≡ true → AtCycle block 9 0
     plays : numbered (cycle block) ≡ true → ended ≡ false → endsBy (dueOf (h .holds)) (h .holds .plays) ≡ false → AtCycle block 0 0
 
+-- ---- a change and an undo, by the records in use
+
+module _ {S : Type 0} (is : List Instrument) (h : History S) where
+  -- 9; 8 for an area of another length; the first fault in the records in use
+  pub data NotReached (area : List ℕ) : ℕ → Type 0 where
+    setOver : ended is h ≡ true → NotReached area 9
+    areaLength : ended is h ≡ false → (length area ≡ areaBytes → ⊥) → NotReached area 8
+    usedFault : {a : answer-type.Answer} → ended is h ≡ false → length area ≡ areaBytes → settings.ParsesRecords (h .set .count) area (settings.refusedAs a)
+        → isTaken a ≡ false → NotReached area (numberOf a)
+
+  -- all records in use are valid, and end there
+  pub record Stand (area : List ℕ) (size : ℕ) : Type 0 where
+    pub goesOn : ended is h ≡ false
+    pub whole : length area ≡ areaBytes
+    pub last : Setting
+    pub valid : settings.ParsesRecords (h .set .count) area (settings.found last size)
+
+  -- the answers to a change: then the new record's first fault, 11 for bytes left over, 8 without room
+  pub data AtChange (area handed : List ℕ) : ℕ → ℕ → Type 0 where
+    changeNot : {n : ℕ} → NotReached area n → AtChange area handed n 0
+    newFault : {size : ℕ} {a : answer-type.Answer} → Stand area size → settings.Parses handed (settings.refusedAs a) → isTaken a ≡ false
+        → AtChange area handed (numberOf a) 0
+    newLeftOver : {size own : ℕ} {s : Setting} → Stand area size → settings.Parses handed (settings.found s own) → own < length handed → AtChange area handed 11 0
+    newNoRoom : {size : ℕ} {s : Setting} → Stand area size → settings.IsRecord handed s → areaBytes < size + length handed → AtChange area handed 8 0
+    changeTaken : {size : ℕ} {s : Setting} → Stand area size → settings.IsRecord handed s → size + length handed ≤ areaBytes → AtChange area handed 0 0
+
+  -- the answers to an undo: then 21 where one record is in use
+  pub data AtUndo (area : List ℕ) : ℕ → ℕ → Type 0 where
+    undoNot : {n : ℕ} → NotReached area n → AtUndo area n 0
+    undoNothing : {size : ℕ} → Stand area size → h .set .count < 2 → AtUndo area 21 0
+    undoTaken : {size : ℕ} → Stand area size → 2 ≤ h .set .count → AtUndo area 0 0
+
 -- ---- a burst: a unit is answered by what is taken by then
 
 -- more lines are taken
 abbrev pub withLines : {S : Type 0} → History S → List Line → History S
-withLines h ls = record { holds = behind ls (h .holds); reached = h .reached }
+withLines h ls = record { holds = behind ls (h .holds); reached = h .reached; set = h .set }
 
 -- the answers to units, in order: each by the history so far, and its line, where it is taken, waits for the next
 pub data InTurn {S : Type 0} (is : List Instrument) : History S → List (List ℕ) → List Answer → Type 0 where
@@ -160,3 +197,5 @@ module _ {S : Type 0} (is : List Instrument) (h : History S) where
   Verdict (burst bytes area) = AtBurst bytes area
   Verdict (keyboard bytes) = Once (AtKeyboard is h bytes)
   Verdict (cycle block) = Once (AtCycle is h block)
+  Verdict (change area handed) = Once (AtChange is h area handed)
+  Verdict (undo area) = Once (AtUndo is h area)

@@ -6,7 +6,7 @@ use native.Mathlib.Omega.{arith}
 use Prim.Native.Nat.{ℕ, _≤_, _<_}
 use lib.IntN.{ℤ}
 use lib.Dec.{eqb}
-use lib.Ieee.{ofBits, le}
+use lib.Ieee.{Float, ofBits, le}
 use Rattle.base_answer.specs.declared.Answer.the-variants.{Taken}
 use Rattle.base_bitstream.specs.Bits.{bitsOf}
 use Rattle.score_line.specs.declared.Line.{Line}
@@ -28,18 +28,21 @@ use Rattle.player_model.specs.History.{historyFrom}
 use Rattle.voices_source.specs.Voices.{writtenVoices}
 use Rattle.panel.specs.declared.Panel.{Panel}
 use Rattle.panel_claims.specs.Verdict.{here, taken, once, Verdict}
-use Rattle.panel_claims.specs.Claims.{afterOf, panel, Given, settings, Condition3}
+use Rattle.player_model.specs.Set.{startingTempo}
+use Rattle.player_model.specs.PlayerState.{Settings}
+use Rattle.panel_claims.specs.Claims.{afterOf, panel, firstInUse, Given, settings, Condition3}
 use Rattle.panel_claims.proofs.Written.{condition-3}
 use Rattle.panel_claims.proofs.Past.{placedPast}
 use Rattle.panel_claims.proofs.Answers.{verdict-by-place}
-use Rattle.panel_witness.specs.Growing.{ceiling, chosen, bytes, tree, line}
-use Rattle.panel_witness.specs.Calls.{score, lent, calls, started, loaded, cycled, transitions, Heard}
+use Rattle.panel_witness.specs.Growing.{ceiling, start, fixed, bytes, tree, line}
+use Rattle.panel_witness.specs.Calls.{u, score, lent, calls, started, loaded, cycled, transitions, Heard}
+use Rattle.panel_witness.proofs.Unchanged.{whole, first-says, SetsNothing, by-calls, as-fixed}
 use Rattle.panel_witness.proofs.Sounding.{growing-sounds}
 use Rattle.base_bitstream.specs.inside.Fields as bitstream-fields-inside
 use Rattle.score_reader.specs.inside.Walk as score-score-inside
 
-given : Given bytes tree ceiling chosen
-given = record { accepted = growing-sounds .accepted; low = omega arith; high = omega arith; there = some-here refl }
+given : Given u tree
+given = record { accepted = growing-sounds .accepted; whole = whole; set = _; first = first-says; there = some-here refl }
 
 -- what the score holds, computed
 abbrev read-as : Score
@@ -57,7 +60,7 @@ room : 0 < 64
 room = omega arith
 
 -- its line fits: it is timed, its instrument is there, it is not late, and there is room
-verdict : Verdict tree (placedPast bytes tree ceiling chosen []) (submit stick score) (one 0 0)
+verdict : Verdict tree (placedPast u tree []) (submit stick score) (one 0 0)
 unfolding historyFrom traceFrom plainStart
 verdict =
     once (taken (line ∷ []) (refl, score-read .0, score-read .1)
@@ -65,7 +68,7 @@ verdict =
 
 taken-whole : afterOf started (submit stick score) .answers ≡ one 0 0
 unfolding afterAll
-taken-whole = verdict-by-place bytes tree ceiling chosen given [] (submit stick score) (one 0 0) verdict
+taken-whole = verdict-by-place u tree given [] (submit stick score) (one 0 0) verdict
 
 -- no line comes by a cycle call
 pub no-line : (given : List Answer) → takenOf ([] ∷ []) given ≡ []
@@ -84,28 +87,42 @@ unfolding allTaken traceFrom
 lines-taken =
     λ i. stick-line i ++ (no-line (afterOf loaded (cycle lent) .answers) i ++ (no-line (afterOf cycled (cycle lent) .answers) i ++ []))
 
--- the line came before any cycle, and it is timed
-in-time : All (InTime panel (writtenVoices tree) (settings ceiling chosen) (line ∷ [])) transitions
+-- none of the calls sets anything
+unset : All SetsNothing transitions
 unfolding traceFrom
-in-time = (
-  subst⁻¹ (All (inTime panel (writtenVoices tree) (settings ceiling chosen) (line ∷ []) none)) stick-line (tt, tt),
+unset = (λ k. refl, (λ k. refl, (λ k. refl, tt)))
+
+abbrev AllInTime : List Line → Float → (ℕ → Settings) → Type 0
+AllInTime ls t s = All (InTime panel (writtenVoices tree) t s ls) transitions
+
+abbrev AllAsPlain : List Line → Float → (ℕ → Settings) → Type 0
+AllAsPlain ls t s = All (AsPlain panel (writtenVoices tree) t s ls) transitions
+
+-- the line came before any cycle, and it is timed
+in-time-fixed : AllInTime (line ∷ []) start (fixed ceiling)
+unfolding traceFrom
+in-time-fixed = (
+  subst⁻¹ (All (inTime panel (writtenVoices tree) start (fixed ceiling) (line ∷ []) none)) stick-line (tt, tt),
   (
-    subst⁻¹ (All (inTime panel (writtenVoices tree) (settings ceiling chosen) (line ∷ []) none)) (no-line (afterOf loaded (cycle lent) .answers)) tt,
-    (subst⁻¹ (All (inTime panel (writtenVoices tree) (settings ceiling chosen) (line ∷ []) (lastWith (transitionOf panel 0 none loaded (cycle lent))))) (no-line (afterOf cycled (cycle lent) .answers)) tt, tt),
+    subst⁻¹ (All (inTime panel (writtenVoices tree) start (fixed ceiling) (line ∷ []) none)) (no-line (afterOf loaded (cycle lent) .answers)) tt,
+    (subst⁻¹ (All (inTime panel (writtenVoices tree) start (fixed ceiling) (line ∷ []) (lastWith (transitionOf panel 0 none loaded (cycle lent))))) (no-line (afterOf cycled (cycle lent) .answers)) tt, tt),
   ),
 )
 
+in-time : AllInTime (line ∷ []) (startingTempo (firstInUse u)) (settings u transitions)
+in-time = by-calls bytes transitions unset (AllInTime (line ∷ [])) in-time-fixed
+
 -- the claims of condition 3, of these calls
-as-plain : All (AsPlain panel (writtenVoices tree) (settings ceiling chosen) (line ∷ [])) transitions
+as-plain : AllAsPlain (line ∷ []) start (fixed ceiling)
 unfolding Condition3 PlainAlike
 as-plain =
-    subst (λ (ls : List Line). All (AsPlain panel (writtenVoices tree) (settings ceiling chosen) ls) transitions) lines-taken
-    (condition-3 bytes tree ceiling chosen given calls (tt, (tt, (tt, tt))) (subst⁻¹ (λ (ls : List Line). All (InTime panel (writtenVoices tree) (settings ceiling chosen) ls) transitions) lines-taken in-time))
+    as-fixed bytes transitions unset (AllAsPlain (line ∷ [])) (subst (λ (ls : List Line). AllAsPlain ls (startingTempo (firstInUse u)) (settings u transitions)) lines-taken
+    (condition-3 u tree given calls (tt, (tt, (tt, tt))) (subst⁻¹ (λ (ls : List Line). AllInTime ls (startingTempo (firstInUse u)) (settings u transitions)) lines-taken in-time)))
 
 -- a cycle's answer and block are the plain player's
-module _ {b : List ℤ} (m : Transition Panel) (a : AsPlain panel (writtenVoices tree) (settings ceiling chosen) (line ∷ []) m) where
-  sounds : numbered (m .call) ≡ true → answerAt (writtenVoices tree) (settings ceiling chosen) (line ∷ []) (m .cycles) ≡ 0
-      → blockAt (writtenVoices tree) (settings ceiling chosen) (line ∷ []) (m .cycles) ≡ b → (m .after .answers ≡ one 0 0) × (m .after .block ≡ b)
+module _ {b : List ℤ} (m : Transition Panel) (a : AsPlain panel (writtenVoices tree) start (fixed ceiling) (line ∷ []) m) where
+  sounds : numbered (m .call) ≡ true → answerAt (writtenVoices tree) start (fixed ceiling) (line ∷ []) (m .cycles) ≡ 0
+      → blockAt (writtenVoices tree) start (fixed ceiling) (line ∷ []) (m .cycles) ≡ b → (m .after .answers ≡ one 0 0) × (m .after .buffers .block ≡ b)
   sounds n e f =
       let x : m .after .answers ≡ one 0 0 = a .answer n ∙ ap (λ (y : ℕ). one y 0) e in
       (x, a .block n (ap isZero x) ∙ f)

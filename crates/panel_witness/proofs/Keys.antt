@@ -25,22 +25,24 @@ use Rattle.midi_messages.specs.declared.NoteMessage.{NoteMessage}
 use Rattle.midi_messages.proofs.Meaning.{every-call}
 use Rattle.player_model.specs.Lists.{filter, fold, each, here as some-here}
 use Rattle.player_model.specs.Cycle.{isDue, insert, ordered, anyEnd, lastTempo, samples, limited, joinedBy, goesOn, isHeld, releaseOldest, started, controlled, pressed as born, afterMessage, afterMessages, runFrom, runAll}
-use Rattle.player_model.specs.PlayerState.{behind, withMessages, defaultTempo, dueAt, laterThan, dueOf, endsBy, answerOf, startedOf, notesToRun, renderedOf, blockOf, played, cycled, settingsOf}
+use Rattle.player_model.specs.PlayerState.{behind, withMessages, dueAt, laterThan, dueOf, endsBy, answerOf, startedOf, notesToRun, renderedOf, blockOf, played, cycled}
 use Rattle.player_model.specs.Plain.{plainStart}
 use Rattle.base_float32.specs.Limit.{held, sampleOf}
 use Rattle.base_timebase.specs.Time.{cycleOf, cycleIn}
 use Rattle.orchestra_semantics.specs.Meaning.{silent, instrumentOf}
 use Rattle.voices_resolved.specs.Tree.{importsOf, treeVoices}
 use Rattle.player_model.specs.Calls.{Call, keyboard, cycle, wholeMessages, Answer, one, isZero, takenOf, traceFrom, afterAll}
-use Rattle.player_model.specs.History.{History, nowhere, withCycle, historyFrom}
+use Rattle.player_model.specs.History.{History, unbegun, withCycle, historyFrom}
 use Rattle.panel_claims.specs.Verdict.{keysTaken, plays, once, Verdict}
-use Rattle.panel_claims.specs.Claims.{afterOf, panelAfter, Given, settings}
+use Rattle.player_model.specs.Set.{inForce, startingTempo}
+use Rattle.panel_claims.specs.Claims.{afterOf, panelAfter, Given}
 use Rattle.panel_claims.proofs.Answers.{verdict-by-place}
 use Rattle.panel_claims.proofs.Past.{placedPast, block-by-place}
 use Rattle.voices_compiled.specs.Voices.{VoiceState}
-use Rattle.panel_witness.specs.Growing.{ceiling, chosen}
+use Rattle.panel_witness.specs.Growing.{ceiling, chosen, setAtStart}
 use Rattle.panel_witness.specs.Calls.{lent}
-use Rattle.panel_witness.specs.Keys.{bytes, tree, pressed, release, p0, p2, Pressed}
+use Rattle.panel_witness.proofs.Unchanged.{whole, first-says, kept-is}
+use Rattle.panel_witness.specs.Keys.{bytes, tree, u, pressed, release, p0, p2, Pressed}
 
 tokens : List Token
 tokens =
@@ -58,8 +60,8 @@ accepted : Accepted bytes tree
 unfolding named namedBy has apart knownIn known allObeyNameRules rateOf rate obeysRateRules rateRules
 accepted = record { tokens = tokens; sized = sized; derived = derived; named = refl; rated = refl }
 
-given : Given bytes tree ceiling chosen
-given = record { accepted = accepted; low = omega arith; high = omega arith; there = some-here refl }
+given : Given u tree
+given = record { accepted = accepted; whole = whole; set = _; first = first-says; there = some-here refl }
 
 -- ---- the two messages
 
@@ -83,26 +85,26 @@ content-off = subst (midi.Parses message.none release) (messages-are .1) (every-
 
 -- one message behind
 after-message : NoteMessage → History VoiceState → History VoiceState
-after-message m h = record { holds = withMessages (m ∷ []) (behind [] (h .holds)); reached = h .reached }
+after-message m h = record { holds = withMessages (m ∷ []) (behind [] (h .holds)); reached = h .reached; set = h .set }
 
 begin : History VoiceState
-begin = record { holds = plainStart (settings ceiling chosen 0) []; reached = nowhere }
+begin = unbegun (setAtStart ceiling)
 
 h1 : History VoiceState
 h1 = after-message on begin
 
 h2 : History VoiceState
-h2 = withCycle (treeVoices tree) (settings ceiling chosen) 0 h1
+h2 = withCycle (treeVoices tree) chosen h1
 
 h3 : History VoiceState
 h3 = after-message off h2
 
 h4 : History VoiceState
-h4 = withCycle (treeVoices tree) (settings ceiling chosen) 1 h3
+h4 = withCycle (treeVoices tree) chosen h3
 
 -- the block of the next cycle
 abbrev block : History VoiceState → List ℤ
-block h = blockOf (treeVoices tree) (settingsOf ceiling chosen) (dueOf (h .holds)) (h .holds .plays)
+block h = blockOf (treeVoices tree) (inForce chosen (h .set)) (dueOf (h .holds)) (h .holds .plays)
 
 one-more : 1 ≤ 64
 one-more = omega arith
@@ -118,7 +120,7 @@ record Computed : Type 0 where
   gone-block : block h4 ≡ replicate samples (pos 0)
 
 computed : Computed
-unfolding h4 h3 h2 h1 begin after-message behind withMessages answerOf blockOf limited renderedOf notesToRun startedOf afterMessages afterMessage born runAll runFrom started controlled dueAt laterThan cycled plainStart defaultTempo endsBy anyEnd played goesOn isHeld releaseOldest lastTempo cycleIn cycleOf filter fold each isDue insert ordered joinedBy shared normalizedVelocity treeVoices instrumentOf importsOf silent sampleOf held noteCycle kPass aPasses pass outputs assigned value freshValues birth put putIn namedBy named placeFrom add mul div round ofBits ofInt lt le eq
+unfolding h4 h3 h2 h1 begin after-message behind withMessages answerOf blockOf limited renderedOf notesToRun startedOf afterMessages afterMessage born runAll runFrom started controlled dueAt laterThan cycled plainStart startingTempo endsBy anyEnd played goesOn isHeld releaseOldest lastTempo cycleIn cycleOf filter fold each isDue insert ordered joinedBy shared normalizedVelocity treeVoices instrumentOf importsOf silent sampleOf held noteCycle kPass aPasses pass outputs assigned value freshValues birth put putIn namedBy named placeFrom add mul div round ofBits ofInt lt le eq
 computed =
     record {
       on = once (keysTaken (on ∷ []) refl content-on one-more);
@@ -133,32 +135,32 @@ computed =
 
 -- a keyboard call that is taken, in its history
 presses : {h h′ : History VoiceState} → h ≡ h′ → {given : List Answer} → given ≡ one 0 0 → {c : midi.Call} {m : NoteMessage} → c ≡ midi.whole (m ∷ [])
-    → record { holds = withMessages (cond (isZero given) (wholeMessages c) []) (behind (takenOf ([] ∷ []) given) (h .holds)); reached = h .reached } ≡ after-message m h′
+    → record { holds = withMessages (cond (isZero given) (wholeMessages c) []) (behind (takenOf ([] ∷ []) given) (h .holds)); reached = h .reached; set = cond (isZero given) (h .set) (h .set) } ≡ after-message m h′
 unfolding after-message
 presses e a q =
-    (λ i. record { holds = withMessages (cond (isZero (a i)) (wholeMessages (q i)) []) (behind (takenOf ([] ∷ []) (a i)) (e i .holds)); reached = e i .reached })
+    λ i. record { holds = withMessages (cond (isZero (a i)) (wholeMessages (q i)) []) (behind (takenOf ([] ∷ []) (a i)) (e i .holds)); reached = e i .reached; set = cond (isZero (a i)) (e i .set) (e i .set) }
 
 -- ---- one call after the other
 
 -- what a call answers, and the block that it leaves, by the history before it
-module _ (cs : List Call) {h : History VoiceState} (e : placedPast bytes tree ceiling chosen cs ≡ h) where
-  answers : (c : Call) → Verdict tree h c (one 0 0) → afterOf (panelAfter bytes tree ceiling chosen cs) c .answers ≡ one 0 0
-  answers c v = verdict-by-place bytes tree ceiling chosen given cs c (one 0 0) (subst⁻¹ (λ (h : History VoiceState). Verdict tree h c (one 0 0)) e v)
+module _ (cs : List Call) {h : History VoiceState} (e : placedPast u tree cs ≡ h) where
+  answers : (c : Call) → Verdict tree h c (one 0 0) → afterOf (panelAfter u tree cs) c .answers ≡ one 0 0
+  answers c v = verdict-by-place u tree given cs c (one 0 0) (subst⁻¹ (λ (h : History VoiceState). Verdict tree h c (one 0 0)) e v)
 
-  sounds : Verdict tree h (cycle lent) (one 0 0) → {b : List ℤ} → block h ≡ b → afterOf (panelAfter bytes tree ceiling chosen cs) (cycle lent) .block ≡ b
-  sounds v f = block-by-place bytes tree ceiling chosen given cs lent (ap isZero (answers (cycle lent) v)) ∙ ap block e ∙ f
+  sounds : Verdict tree h (cycle lent) (one 0 0) → {b : List ℤ} → block h ≡ b → afterOf (panelAfter u tree cs) (cycle lent) .buffers .block ≡ b
+  sounds v f = block-by-place u tree given cs lent (ap isZero (answers (cycle lent) v)) ∙ ap block e ∙ f
 
 on-answer : afterOf p0 (keyboard pressed) .answers ≡ one 0 0
 unfolding afterAll historyFrom traceFrom begin
-on-answer = answers [] refl (keyboard pressed) (computed .on)
+on-answer = answers [] (ap unbegun (kept-is bytes)) (keyboard pressed) (computed .on)
 
-past-on : placedPast bytes tree ceiling chosen (keyboard pressed ∷ []) ≡ h1
+past-on : placedPast u tree (keyboard pressed ∷ []) ≡ h1
 unfolding historyFrom traceFrom h1 begin
-past-on = presses refl on-answer (messages-are .0)
+past-on = presses (ap unbegun (kept-is bytes)) on-answer (messages-are .0)
 
-past-first : placedPast bytes tree ceiling chosen (keyboard pressed ∷ cycle lent ∷ []) ≡ h2
+past-first : placedPast u tree (keyboard pressed ∷ cycle lent ∷ []) ≡ h2
 unfolding historyFrom traceFrom h2
-past-first = ap (withCycle (treeVoices tree) (settings ceiling chosen) 0) past-on
+past-first = ap (withCycle (treeVoices tree) chosen) past-on
 
 off-answer : afterOf p2 (keyboard release) .answers ≡ one 0 0
 unfolding afterAll
@@ -167,17 +169,17 @@ off-answer = answers (keyboard pressed ∷ cycle lent ∷ []) past-first (keyboa
 abbrev calls : List Call
 calls = keyboard pressed ∷ cycle lent ∷ keyboard release ∷ []
 
-past-off : placedPast bytes tree ceiling chosen calls ≡ h3
+past-off : placedPast u tree calls ≡ h3
 unfolding historyFrom traceFrom h3
 past-off = presses past-first off-answer (messages-are .1)
 
-past-last : placedPast bytes tree ceiling chosen (keyboard pressed ∷ cycle lent ∷ keyboard release ∷ cycle lent ∷ []) ≡ h4
+past-last : placedPast u tree (keyboard pressed ∷ cycle lent ∷ keyboard release ∷ cycle lent ∷ []) ≡ h4
 unfolding historyFrom traceFrom h4
-past-last = ap (withCycle (treeVoices tree) (settings ceiling chosen) 1) past-off
+past-last = ap (withCycle (treeVoices tree) chosen) past-off
 
 -- a cycle's answer and block
-heard : (cs : List Call) {h : History VoiceState} → placedPast bytes tree ceiling chosen cs ≡ h → Verdict tree h (cycle lent) (one 0 0) → {b : List ℤ} → block h ≡ b
-    → (afterOf (panelAfter bytes tree ceiling chosen cs) (cycle lent) .answers ≡ one 0 0) × (afterOf (panelAfter bytes tree ceiling chosen cs) (cycle lent) .block ≡ b)
+heard : (cs : List Call) {h : History VoiceState} → placedPast u tree cs ≡ h → Verdict tree h (cycle lent) (one 0 0) → {b : List ℤ} → block h ≡ b
+    → (afterOf (panelAfter u tree cs) (cycle lent) .answers ≡ one 0 0) × (afterOf (panelAfter u tree cs) (cycle lent) .buffers .block ≡ b)
 heard cs e v f = (answers cs e (cycle lent) v, sounds cs e v f)
 
 pub key-heard : Pressed

@@ -1,3 +1,4 @@
+pub mod Unchanged
 pub mod Sounding
 pub mod Hearing
 pub mod Rich

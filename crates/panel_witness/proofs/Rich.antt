@@ -5,7 +5,7 @@ use lib.IntN.{ℤ, pos}
 use lib.ListN.{replicate}
 use mathlib.Core.List.{List, [], _∷_}
 use native.Mathlib.Omega.{arith}
-use lib.Ieee.{ofBits, toBits, fits, size, add, mul, round, lt, le, eq, ne}
+use lib.Ieee.{ofBits, ofInt, toBits, fits, size, add, mul, round, lt, le, eq, ne}
 use Rattle.base_bitstream.specs.Bits as bitstream-bits
 use Rattle.base_bitstream.specs.Fields as bitstream-fields
 use Rattle.base_bitstream.specs.Filling as bitstream-filling
@@ -33,7 +33,7 @@ use Rattle.score_line.specs.declared.Line.{Line}
 use Rattle.player_model.specs.Lists.{filter, fold, each, All}
 use Rattle.player_model.proofs.Lists.{all-append}
 use Rattle.player_model.specs.Cycle.{Voices, isDue, insert, ordered, anyEnd, lastTempo, limited, joinedBy, goesOn, born, started, controlledBy, controlled, afterMessages, runFrom, runAll}
-use Rattle.player_model.specs.PlayerState.{defaultTempo, dueAt, laterThan, endsBy, answerOf, startedOf, notesToRun, renderedOf, blockOf, played, cycled}
+use Rattle.player_model.specs.PlayerState.{dueAt, laterThan, endsBy, answerOf, startedOf, notesToRun, renderedOf, blockOf, played, cycled}
 use Rattle.player_model.specs.Plain.{plainStart, plainAt, answerAt, blockAt}
 use Rattle.player_model.specs.Calls.{stick, unit, keypad, text}
 use Rattle.base_float32.specs.Limit.{held, sampleOf}
@@ -45,8 +45,8 @@ use Rattle.voices_resolved.specs.Tree.{importsOf, treeVoices}
 use Rattle.voices_source.specs.Voices.{writtenVoices, Fits}
 use Rattle.voices_source.specs.inside.Translation.{PlaysAsWritten}
 use Rattle.voices_source.proofs.Written.{every-piece}
-use Rattle.panel_claims.specs.Claims.{settings}
-use Rattle.panel_witness.specs.Growing.{ceiling, chosen}
+use Rattle.player_model.specs.Set.{startingTempo}
+use Rattle.panel_witness.specs.Growing.{ceiling, start, fixed}
 use Rattle.panel_witness.specs.Rich.{bytes, tree, rest, onStick, asText, inUnit, onKeypad, before, control, end, lines, IsRead, Later, Gives, Rich}
 use Rattle.base_bitstream.specs.inside.Fields as bitstream-fields-inside
 use Rattle.score_reader.specs.inside.Walk as score-score-inside
@@ -92,9 +92,9 @@ unfolding plainAt plainStart ticksIn ofBits le lt eq
 in-time v = (omega arith, omega arith)
 
 -- the cycles of the plain player
-played-out : Gives (treeVoices tree) 0 (pos 8192) × Gives (treeVoices tree) 1 (pos 16384) × (plainAt (treeVoices tree) (settings ceiling chosen) lines 1 .plays .counts .missed ≡ 1)
-    × (answerAt (treeVoices tree) (settings ceiling chosen) lines 2 ≡ 9)
-unfolding answerAt answerOf blockAt blockOf limited renderedOf notesToRun startedOf afterMessages runAll runFrom started controlled dueAt laterThan plainAt cycled plainStart defaultTempo endsBy anyEnd played goesOn lastTempo cycleIn cycleOf filter fold each isDue insert ordered joinedBy born controlledBy ticksIn treeVoices instrumentOf importsOf silent sampleOf held cycle kPass aPasses pass outputs assigned value fresh birth put putIn namedBy named placeFrom add mul round ofBits lt le eq code.named truth ne
+played-out : Gives (treeVoices tree) 0 (pos 8192) × Gives (treeVoices tree) 1 (pos 16384) × (plainAt (treeVoices tree) start (fixed ceiling) lines 1 .plays .counts .missed ≡ 1)
+    × (answerAt (treeVoices tree) start (fixed ceiling) lines 2 ≡ 9)
+unfolding answerAt answerOf blockAt blockOf limited renderedOf notesToRun startedOf afterMessages runAll runFrom started controlled dueAt laterThan plainAt cycled plainStart startingTempo endsBy anyEnd played goesOn lastTempo cycleIn cycleOf filter fold each isDue insert ordered joinedBy born controlledBy ticksIn treeVoices instrumentOf importsOf silent sampleOf held cycle kPass aPasses pass outputs assigned value fresh birth put putIn namedBy named placeFrom add mul round ofBits ofInt lt le eq code.named truth ne
 played-out = ((refl, refl), (refl, refl), refl, refl)
 
 -- with the notes' values by place
@@ -136,8 +136,8 @@ fitting : AllFits lines
 unfolding instrumentOf
 fitting = all-append (λ (l : Line). Fits tree l (l .event)) before (control ∷ end ∷ []) (one-value, rests-fitting 16) (sixteen-bits, (tt, tt))
 
-as-written : (n : ℕ) → PlaysAsWritten tree (settings ceiling chosen) lines n
-as-written n = every-piece tree (settings ceiling chosen) lines n (accepted .named) fitting
+as-written : (n : ℕ) → PlaysAsWritten tree start (fixed ceiling) lines n
+as-written n = every-piece tree start (fixed ceiling) lines n (accepted .named) fitting
 
 gives : (k : ℕ) (x : ℤ) → Gives (treeVoices tree) k x → Gives (writtenVoices tree) k x
 gives k x h = (sym (as-written k .answers) ∙ h .0, sym (as-written k .blocks) ∙ h .1)

@@ -3,7 +3,7 @@ use mathlib.Core.Path.{refl, sym, _∙_}
 use mathlib.Core.List.{List, [], _∷_}
 use Prim.Native.Nat.{ℕ, _≤_}
 use native.Mathlib.Omega.{arith}
-use lib.Ieee.{binary32, ofBits, toBits, fits, size, add, mul, round, lt, le, eq}
+use lib.Ieee.{binary32, ofBits, ofInt, toBits, fits, size, add, mul, round, lt, le, eq}
 use Rattle.orchestra_tokens.specs.declared.Token.{Token}
 use Rattle.orchestra_tokens.specs.declared.Token.the-variants.{Number, Symbol, Sign}
 use Rattle.orchestra_tokens.specs.Encoding.{allValid, encoded, bytesOf}
@@ -17,7 +17,7 @@ use Rattle.orchestra_semantics.specs.inside.Placed.{value, assigned, outputs, p
 use Rattle.score_line.specs.declared.Line.{Line}
 use Rattle.player_model.specs.Lists.{filter, fold, each, All}
 use Rattle.player_model.specs.Cycle.{isDue, insert, ordered, anyEnd, lastTempo, limited, joinedBy, goesOn, born, started, controlledBy, controlled, afterMessages, runFrom, runAll}
-use Rattle.player_model.specs.PlayerState.{defaultTempo, dueAt, laterThan, endsBy, answerOf, startedOf, notesToRun, renderedOf, blockOf, played, cycled}
+use Rattle.player_model.specs.PlayerState.{dueAt, laterThan, endsBy, answerOf, startedOf, notesToRun, renderedOf, blockOf, played, cycled}
 use Rattle.player_model.specs.Plain.{plainStart, plainAt, answerAt, blockAt}
 use Rattle.base_float32.specs.Limit.{held, sampleOf}
 use Rattle.base_timebase.specs.Time.{ticksIn, cycleOf, cycleIn}
@@ -26,8 +26,8 @@ use Rattle.voices_resolved.specs.Tree.{importsOf, treeVoices}
 use Rattle.voices_source.specs.Voices.{writtenVoices, Fits}
 use Rattle.voices_source.specs.inside.Translation.{PlaysAsWritten}
 use Rattle.voices_source.proofs.Written.{every-piece}
-use Rattle.panel_claims.specs.Claims.{settings}
-use Rattle.panel_witness.specs.Growing.{bytes, tree, line, ceiling, chosen, low, Sounds}
+use Rattle.player_model.specs.Set.{startingTempo}
+use Rattle.panel_witness.specs.Growing.{bytes, tree, line, ceiling, low, start, fixed, Sounds}
 
 -- instr s1 ( ) { ksig s2 ; s2 = s2 + 0.25 ; output ( s2 ) ; }
 abbrev tokens : List Token
@@ -50,7 +50,7 @@ accepted = record { tokens = tokens; sized = sized; derived = derived; named = r
 
 -- with the notes' values by place
 by-place : Sounds (treeVoices tree)
-unfolding answerAt answerOf blockAt blockOf limited renderedOf notesToRun startedOf afterMessages runAll runFrom started controlled dueAt laterThan plainAt cycled plainStart defaultTempo endsBy anyEnd played goesOn lastTempo cycleIn cycleOf filter fold each isDue insert ordered joinedBy born controlledBy ticksIn treeVoices instrumentOf importsOf silent sampleOf held cycle kPass aPasses pass outputs assigned value fresh birth put putIn namedBy named placeFrom add mul round ofBits lt le eq
+unfolding answerAt answerOf blockAt blockOf limited renderedOf notesToRun startedOf afterMessages runAll runFrom started controlled dueAt laterThan plainAt cycled plainStart startingTempo endsBy anyEnd played goesOn lastTempo cycleIn cycleOf filter fold each isDue insert ordered joinedBy born controlledBy ticksIn treeVoices instrumentOf importsOf silent sampleOf held cycle kPass aPasses pass outputs assigned value fresh birth put putIn namedBy named placeFrom add mul round ofBits ofInt lt le eq
 by-place = record { accepted = accepted; first = (refl, refl); second = (refl, refl); held = refl }
 
 no-values : 0 ≤ 0
@@ -60,8 +60,8 @@ fitting : All (λ (l : Line). Fits tree l (l .event)) (line ∷ [])
 unfolding instrumentOf
 fitting = (no-values, tt)
 
-as-written : (c n : ℕ) → PlaysAsWritten tree (settings c chosen) (line ∷ []) n
-as-written c n = every-piece tree (settings c chosen) (line ∷ []) n (accepted .named) fitting
+as-written : (c n : ℕ) → PlaysAsWritten tree start (fixed c) (line ∷ []) n
+as-written c n = every-piece tree start (fixed c) (line ∷ []) n (accepted .named) fitting
 
 pub growing-sounds : Sounds (writtenVoices tree)
 growing-sounds =

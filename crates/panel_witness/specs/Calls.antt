@@ -10,8 +10,10 @@ use Rattle.player_model.specs.Calls.{stick, Call, submit, cycle, one, Transitio
 use Rattle.player_model.specs.Condition3.{InTime}
 use Rattle.voices_source.specs.Voices.{writtenVoices}
 use Rattle.panel.specs.declared.Panel.{Panel}
-use Rattle.panel_claims.specs.Claims.{afterOf, panel, fresh, settings}
-use Rattle.panel_witness.specs.Growing.{ceiling, chosen, bytes, tree, line}
+use Rattle.player_model.specs.Set.{startingTempo}
+use Rattle.panel_claims.specs.Fresh.{Setup}
+use Rattle.panel_claims.specs.Claims.{afterOf, panel, firstInUse, fresh, settings}
+use Rattle.panel_witness.specs.Growing.{setup, bytes, tree, line}
 
 -- the score with that one line
 abbrev pub score : List ℕ
@@ -25,8 +27,11 @@ abbrev pub calls : List Call
 calls = submit stick score ∷ cycle lent ∷ cycle lent ∷ []
 
 -- the panel at its fresh start, after the stick, and after the first cycle
+abbrev pub u : Setup
+u = setup bytes
+
 abbrev pub started : Panel
-started = fresh bytes ceiling chosen
+started = fresh u
 
 abbrev pub loaded : Panel
 loaded = afterOf started (submit stick score) .player
@@ -41,6 +46,6 @@ transitions = trace panel started calls
 pub record Heard : Type 0 where
   pub taken-whole : afterOf started (submit stick score) .answers ≡ one 0 0
   pub lines : allTaken transitions ≡ line ∷ []
-  pub in-time : All (InTime panel (writtenVoices tree) (settings ceiling chosen) (line ∷ [])) transitions
-  pub first : (afterOf loaded (cycle lent) .answers ≡ one 0 0) × (afterOf loaded (cycle lent) .block ≡ replicate samples (pos 8192))
-  pub second : (afterOf cycled (cycle lent) .answers ≡ one 0 0) × (afterOf cycled (cycle lent) .block ≡ replicate samples (pos 16384))
+  pub in-time : All (InTime panel (writtenVoices tree) (startingTempo (firstInUse u)) (settings u transitions) (line ∷ [])) transitions
+  pub first : (afterOf loaded (cycle lent) .answers ≡ one 0 0) × (afterOf loaded (cycle lent) .buffers .block ≡ replicate samples (pos 8192))
+  pub second : (afterOf cycled (cycle lent) .answers ≡ one 0 0) × (afterOf cycled (cycle lent) .buffers .block ≡ replicate samples (pos 16384))

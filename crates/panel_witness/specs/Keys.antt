@@ -9,8 +9,9 @@ use Rattle.orchestra_reader.specs.Verdict.{Accepted}
 use Rattle.player_model.specs.Cycle.{samples}
 use Rattle.player_model.specs.Calls.{Call, keyboard, cycle, one}
 use Rattle.panel.specs.declared.Panel.{Panel}
+use Rattle.panel_claims.specs.Fresh.{Setup}
 use Rattle.panel_claims.specs.Claims.{afterOf, fresh}
-use Rattle.panel_witness.specs.Growing.{ceiling, chosen}
+use Rattle.panel_witness.specs.Growing.{setup}
 use Rattle.panel_witness.specs.Calls.{lent}
 
 -- instr s1 ( s2 , s3 ) { output ( s3 ) ; }
@@ -27,9 +28,12 @@ pressed = 0x90 ∷ 69 ∷ 64 ∷ []
 abbrev pub release : List ℕ
 release = 0x80 ∷ 69 ∷ 0 ∷ []
 
+abbrev pub u : Setup
+u = setup bytes
+
 -- the panel before each call
 abbrev pub p0 : Panel
-p0 = fresh bytes ceiling chosen
+p0 = fresh u
 
 abbrev pub p1 : Panel
 p1 = afterOf p0 (keyboard pressed) .player
@@ -45,7 +49,7 @@ p4 = afterOf p3 (cycle lent) .player
 
 -- a call that is taken, and the block that it leaves
 abbrev pub Sounds : Panel → ℤ → Type 0
-Sounds p x = (afterOf p (cycle lent) .answers ≡ one 0 0) × (afterOf p (cycle lent) .block ≡ replicate samples x)
+Sounds p x = (afterOf p (cycle lent) .answers ≡ one 0 0) × (afterOf p (cycle lent) .buffers .block ≡ replicate samples x)
 
 pub record Pressed : Type 0 where
   pub accepted : Accepted bytes tree

@@ -24,8 +24,10 @@ use Rattle.player_model.specs.Condition3.{above, InTime}
 use Rattle.voices_source.specs.Voices.{writtenVoices}
 use Rattle.panel.specs.State.{playerStateOf}
 use Rattle.panel.specs.declared.Panel.{Panel}
-use Rattle.panel_claims.specs.Claims.{afterOf, panel, fresh, settings}
-use Rattle.panel_witness.specs.Growing.{ceiling, chosen}
+use Rattle.player_model.specs.Set.{startingTempo}
+use Rattle.panel_claims.specs.Fresh.{Setup}
+use Rattle.panel_claims.specs.Claims.{afterOf, panel, firstInUse, fresh, settings}
+use Rattle.panel_witness.specs.Growing.{ceiling, setup, start, fixed}
 use Rattle.panel_witness.specs.Calls.{lent}
 
 -- instr s1 ( s2 ) { ivar s3 ; asig s4 ; imports ksig s5 ;
@@ -122,11 +124,11 @@ IsRead d handed ls = (reads d handed .answer ≡ Taken) × (reads d handed .line
 
 -- above the plain player's position at the start of cycle 0, which has answered 0 when these lines come
 abbrev pub Later : {S : Type 0} → Voices S → Line → Type 0
-Later v l = above (plainAt v (settings ceiling chosen) lines 0 .plays .position) (l .when)
+Later v l = above (plainAt v start (fixed ceiling) lines 0 .plays .position) (l .when)
 
 -- a cycle of the plain player: its answer and its block
 abbrev pub Gives : {S : Type 0} → Voices S → ℕ → ℤ → Type 0
-Gives v k x = (answerAt v (settings ceiling chosen) lines k ≡ 0) × (blockAt v (settings ceiling chosen) lines k ≡ replicate samples x)
+Gives v k x = (answerAt v start (fixed ceiling) lines k ≡ 0) × (blockAt v start (fixed ceiling) lines k ≡ replicate samples x)
 
 -- the piece, and what its plain player does with these notes
 pub record Rich {S : Type 0} (v : Voices S) : Type 0 where
@@ -141,24 +143,27 @@ pub record Rich {S : Type 0} (v : Voices S) : Type 0 where
   pub first : Gives v 0 (pos 8192)
   pub second : Gives v 1 (pos 16384)
   -- the seventeenth note
-  pub missed : plainAt v (settings ceiling chosen) lines 1 .plays .counts .missed ≡ 1
+  pub missed : plainAt v start (fixed ceiling) lines 1 .plays .counts .missed ≡ 1
   -- the end is found in cycle 2
-  pub over : answerAt v (settings ceiling chosen) lines 2 ≡ 9
+  pub over : answerAt v start (fixed ceiling) lines 2 ≡ 9
 
 -- ---- by the panel's own calls
 
 abbrev pub calls : List Call
 calls = submit stick onStick ∷ cycle lent ∷ submit unit inUnit ∷ submit keypad onKeypad ∷ cycle lent ∷ cycle lent ∷ []
 
+abbrev pub u : Setup
+u = setup bytes
+
 abbrev pub transitions : List (Transition Panel)
-transitions = trace panel (fresh bytes ceiling chosen) calls
+transitions = trace panel (fresh u) calls
 
 abbrev pub answersOf : List (Transition Panel) → List (List Answer)
 answersOf ms = each (λ (m : Transition Panel). m .after .answers) ms
 
 -- the panel after some of them
 abbrev pub p1 : Panel
-p1 = afterOf (fresh bytes ceiling chosen) (submit stick onStick) .player
+p1 = afterOf (fresh u) (submit stick onStick) .player
 
 abbrev pub p2 : Panel
 p2 = afterOf p1 (cycle lent) .player
@@ -172,8 +177,8 @@ p4 = afterOf p3 (submit keypad onKeypad) .player
 -- Condition 3's premise is met with lines that come behind a cycle, and so each cycle is the plain player's.
 pub record Walked : Type 0 where
   pub taken : allTaken transitions ≡ lines
-  pub inTime : All (InTime panel (writtenVoices tree) (settings ceiling chosen) lines) transitions
+  pub inTime : All (InTime panel (writtenVoices tree) (startingTempo (firstInUse u)) (settings u transitions) lines) transitions
   pub answers : answersOf transitions ≡ one 0 0 ∷ one 0 0 ∷ one 0 0 ∷ one 0 0 ∷ one 0 0 ∷ one 9 0 ∷ []
-  pub first : afterOf p1 (cycle lent) .block ≡ replicate samples (pos 8192)
+  pub first : afterOf p1 (cycle lent) .buffers .block ≡ replicate samples (pos 8192)
   pub missed : playerStateOf p2 .plays .counts .missed ≡ 1
-  pub second : afterOf p4 (cycle lent) .block ≡ replicate samples (pos 16384)
+  pub second : afterOf p4 (cycle lent) .buffers .block ≡ replicate samples (pos 16384)

@@ -93,9 +93,17 @@ fn with_score<'a>(core: Core, code: &'a [u64], vals: &'a [f32], path: &[u8], out
     with_buffer(core, code, vals, path, &buffer, n, out);
 }
 
-// A fresh start refuses a number outside its range only of the ceiling. No keyboard plays here: the first instrument is chosen.
+// The settings are one record of version 1: this ceiling, and 16 notes. A fresh start refuses a number outside its range only of the ceiling. No
+// keyboard plays here: the first instrument is chosen.
 fn with_orchestra(bytes: &[u8], ceiling: u32, path: &[u8], score: &[u8], out: &[u8]) {
-    let f = Panel::fresh(bytes, ceiling, program_io::first_instrument(bytes));
+    let mut area = [0u8; settings_records::AREA];
+    let first = program_io::settings_record(ceiling);
+    let f = Panel::fresh(
+        bytes,
+        &mut area,
+        &first,
+        program_io::first_instrument(bytes),
+    );
     let a = f.answer;
     if base_answer::is_taken(a) {
         let panel = f.panel;

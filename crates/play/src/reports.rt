@@ -47,8 +47,10 @@ fn meaning(a: Answer) {
         Answer::BadNames => say(b"name rules or name counts broken"),
         Answer::BadRates => say(b"rate rules broken"),
         Answer::TooLarge => say(b"orchestra too large"),
+        Answer::UnknownVersion => say(b"settings of another version"),
         Answer::BadText => say(b"no score line, or one line too many"),
         Answer::NoText => say(b"a line that text cannot say"),
+        Answer::NothingToUndo => say(b"one settings record left"),
     }
 }
 

@@ -11,7 +11,7 @@ use Rattle.score_line.specs.declared.Line.{Line}
 use Rattle.note_state.specs.declared.Note.{Note}
 use Rattle.score_bursts.specs.Bursts.{Burst}
 use Rattle.player_model.proofs.Lists.{cond-true, cond-false}
-use Rattle.entrance_readers.specs.Entrances.{blankLine}
+use Rattle.score_line.specs.Reading.{blankLine}
 use Rattle.entrance_burst.specs.Singly.{burstSubmittedIn}
 use Rattle.entrance_admission.specs.Submission.{submittedIn}
 use Rattle.entrance_admission.specs.declared.AdmissionResult.{AdmissionResult}

@@ -10,7 +10,7 @@ use Rattle.score_bursts.specs.Bursts.{Burst}
 use Rattle.player_queue.specs.declared.Queue.{Queue}
 use Rattle.note_state.specs.Notes.{newNote}
 use Rattle.note_state.specs.declared.Note.{Note}
-use Rattle.entrance_readers.specs.Entrances.{blankLine}
+use Rattle.score_line.specs.Reading.{blankLine}
 use Rattle.entrance_burst.specs.Singly.{burstSubmittedIn}
 use Rattle.entrance_admission.specs.Submission.{submittedIn}
 use Rattle.midi_messages.specs.inside.Reading.{callOf}

@@ -40,7 +40,7 @@ pub struct CallResult {
 pub fn initial_state(tempo: f32, ended: bool) -> State
     ensures { λ r. ⌜ r ≡ startState tempo ended ⌝ }
 {
-    let line = entrance_readers::blank_line();
+    let line = score_line::blank_line();
     let silence = [0.0f32; 16];
     let label = NoteLabel {
         given: false,
@@ -58,8 +58,8 @@ pub fn initial_state(tempo: f32, ended: bool) -> State
     };
     let note = note_state::new_note(silence, label, 0, end, false, origin);
     let messages = midi_queue::no_messages();
-    let lines = [line; 64];
-    let notes = [note; 16];
+    let lines = [line; player_queue::MOST_LINES];
+    let notes = [note; note_pool::MOST_NOTES];
     State {
         queue: Queue {
             lines: lines,

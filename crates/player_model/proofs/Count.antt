@@ -1,15 +1,20 @@
 -- The count of missed notes never comes near 64 bits: at most 64 lines and 64 note messages a cycle, at least 1,024 ticks a cycle, and a limit on
 -- position.
 use mathlib.Core.Path.{_≡_, refl, ap}
-use mathlib.Core.Bool.{false, _&&_}
+use mathlib.Core.Bool.{Bool, true, false, _&&_}
+use mathlib.Core.Logic.{by-cases}
 use mathlib.Core.List.{List, [], _∷_}
 use mathlib.Mathlib.Data.Bool.Basic.{or-eq-false-eq-eq-false-and-eq-false}
-use Prim.Native.Nat.{ℕ, suc, _+_, _*_, _≤_, min}
+use Prim.Native.Nat.{ℕ, zero, suc, _+_, _*_, _≤_, min}
+use native.Mathlib.Decide.{decLe}
+use lib.IntN.{pos as whole}
 use native.Mathlib.Omega.{arith}
-use lib.Dec.{ltb}
-use lib.Ieee.{Float, ofBits, ofFields, le, lt, eq, span, climb, size, odd}
+use lib.Dec.{ltb, eqb}
+use lib.Ieee.{Float, binary32, ofInt, round, units, ofFields, le, lt, eq, span, climb, size, odd}
 use lib.ListN.{length}
-use borrow.Author.Tests.{ltb-false}
+use borrow.Author.Tests.{ltb-false, eqb-true}
+use Rattle.base_laws.proofs.Choice.{both-true}
+use Rattle.settings_records.specs.declared.InUse.{InUse}
 use Rattle.base_timebase.specs.Time.{cycleIn, cycleOf}
 use Rattle.score_line.specs.declared.Event.{Event}
 use Rattle.score_line.specs.declared.Event.the-variants.{Instr, Control, End, Tempo}
@@ -17,8 +22,9 @@ use Rattle.score_line.specs.declared.Line.{Line}
 use Rattle.midi_messages.specs.declared.NoteMessage.{NoteMessage}
 use Rattle.player_model.specs.Lists.{filter, fold, All}
 use Rattle.player_model.specs.Cycle.{Voices, Note, Started, isDue, earlier, insert, ordered, positionLimit, anyEnd, tempoFrom, lastTempo, canCut, joinedBy, startedBy, started, born, controlled, pressed, afterMessage, afterMessages}
-use Rattle.player_model.specs.PlayerState.{Settings, PlayingState, PlayerState, Due, defaultTempo, dueAt, laterThan, dueOf, endsBy, startedOf, notesToRun, played}
+use Rattle.player_model.specs.PlayerState.{Settings, PlayingState, PlayerState, Due, dueAt, laterThan, dueOf, endsBy, startedOf, notesToRun, played}
 use Rattle.player_model.specs.inside.PlayerState.{capped}
+use Rattle.player_model.specs.Set.{startingTempo}
 use Rattle.player_model.proofs.Lists.{either-way, fold-keeps, length-filter, all-filter}
 
 -- a tempo of at least 1: 1,024 ticks a cycle or more
@@ -135,7 +141,27 @@ module _ {S : Type 0} (v : Voices S) (s : Settings) (h : PlayerState S) (short :
       let t = last-steady (h .plays .tempo) (dueOf h .lines) (slow .tempo) (due-all h _ (slow .lines)) in
       record { few = omega (arith, missed-least v s h, t); lines = all-filter _ _ (h .waits) (slow .lines); tempo = t }
 
+-- every whole tempo has 1,024 times as many ticks a cycle: one test for all of them, computed
+wholeUpTo : ℕ → Bool
+wholeUpTo zero = true
+wholeUpTo (suc n) = eqb (cycleIn (ofInt binary32 (whole (suc n)))) (suc n * 1024) && wholeUpTo n
+
+all-whole : wholeUpTo 960 ≡ true
+unfolding wholeUpTo cycleIn cycleOf ofInt round units ofFields le lt eq span climb size odd
+all-whole = refl
+
+below-whole : (most n : ℕ) → wholeUpTo most ≡ true → 1 ≤ n → n ≤ most → cycleIn (ofInt binary32 (whole n)) ≡ n * 1024
+unfolding wholeUpTo
+below-whole zero n e low high = absurd (omega arith)
+below-whole (suc most) n e low high =
+    let b = both-true (eqb (cycleIn (ofInt binary32 (whole (suc most)))) (suc most * 1024)) (wholeUpTo most) e in
+    by-cases (decLe n most) (λ h. below-whole most n (b .1) low h)
+    (λ h. let q : n ≡ suc most = omega arith in rw q (eqb-true (cycleIn (ofInt binary32 (whole (suc most)))) (suc most * 1024) (b .0)))
+
+pub starting-ticks : (k : InUse) → 1 ≤ k .last .tempo → k .last .tempo ≤ 960 → cycleIn (startingTempo k) ≡ k .last .tempo * 1024
+unfolding startingTempo
+starting-ticks k low high = below-whole 960 (k .last .tempo) all-whole low high
+
 -- the starting tempo is steady
-pub starting : 1024 ≤ cycleIn defaultTempo
-unfolding defaultTempo cycleIn cycleOf ofBits ofFields le lt eq span climb size odd
-starting = omega arith
+pub starting : (k : InUse) → 1 ≤ k .last .tempo → k .last .tempo ≤ 960 → 1024 ≤ cycleIn (startingTempo k)
+starting k low high = omega (arith, starting-ticks k low high)

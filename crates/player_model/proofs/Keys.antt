@@ -2,19 +2,20 @@
 use mathlib.Core.Path.{_≡_, refl, sym, ap, _∙_}
 use mathlib.Core.Bool.{Bool, true, false, not, _&&_, _||_, true≢false}
 use mathlib.Core.Logic.{_⊎_, inl, inr, by-cases}
-use mathlib.Core.List.{List, [], _∷_, _++_}
+use mathlib.Core.List.{List, [], _∷_, _++_, append-assoc, append-nil}
 use Prim.Native.Nat.{ℕ, suc, _+_, _-_, _≤_, min}
 use native.Mathlib.Omega.{arith}
 use native.Mathlib.Decide.{decLt}
-use lib.ListN.{length, length-append}
+use lib.ListN.{length, take, length-append}
+use lib.Seq.{take-nil}
 use lib.Dec.{ltb, eqb}
 use borrow.Author.Tests.{le-ltb, ltb-false, eq-eqb, eqb-true, not-true}
 use Rattle.base_laws.proofs.Choice.{both-true}
 use Rattle.midi_messages.specs.declared.NoteMessage.{NoteMessage}
-use Rattle.player_model.specs.Lists.{fold, All}
-use Rattle.player_model.specs.Cycle.{Voices, Note, Started, release, isHeld, releaseOldest, pressed, afterMessage, afterMessages, goesOn}
-use Rattle.player_model.specs.Results.{Held, KeysRelease, NotesGo, noteOns, MessagesPlay}
-use Rattle.player_model.proofs.Lists.{by-test, either-way, cond-true}
+use Rattle.player_model.specs.Lists.{fold, each, All}
+use Rattle.player_model.specs.Cycle.{Voices, Note, Started, release, isHeld, releaseOldest, joinedBy, pressed, afterMessage, afterMessages, goesOn}
+use Rattle.player_model.specs.Results.{Held, KeysRelease, NotesGo, noteOns, MessagesPlay, MessagesInOrder}
+use Rattle.player_model.proofs.Lists.{by-test, either-way, cond-true, cond-false, fold-append}
 use Rattle.player_model.proofs.Results.{join-room, join-miss}
 
 module _ {S : Type 0} (v : Voices S) (channel key : ℕ) where
@@ -90,6 +91,37 @@ module _ {S : Type 0} (v : Voices S) where
         let l = length-marked v (m .channel) (m .key) (s .notes) in
         record { notes = omega (arith, q .notes, l); missed = omega (arith, q .missed, l) }))
 
+    ons-alone : (ms : List NoteMessage) (s : Started S) → All (λ (m : NoteMessage). m .on ≡ true) ms
+        → afterMessages v most chosen s ms .notes ≡ s .notes ++ take (most - length (s .notes)) (each (pressed v chosen) ms)
+    unfolding afterMessages fold afterMessage pressed each
+    ons-alone [] s h = rw (take-nil, append-nil)
+    ons-alone (m ∷ ms) s h =
+        let n = pressed v chosen m in
+        let first : (r : Started S) → joinedBy most s n ≡ r → afterMessages v most chosen s (m ∷ ms) .notes ≡ afterMessages v most chosen r ms .notes =
+        λ r e. ap (λ (x : Started S). afterMessages v most chosen x ms .notes) (cond-true _ _ (h .0) ∙ e) in
+        by-cases (decLt (length (s .notes)) most)
+        (λ k.
+        let l : length (s .notes ++ (n ∷ [])) ≡ length (s .notes) + 1 = length-append (s .notes) (n ∷ []) in
+        let d : most - length (s .notes) ≡ suc (most - length (s .notes ++ (n ∷ []))) = omega arith in
+        first _ (join-room most s n k) ∙ ons-alone ms _ (h .1) ∙ append-assoc (s .notes) (n ∷ []) _ ∙ rw d refl)
+        (λ k.
+        let d : most - length (s .notes) ≡ 0 = omega arith in
+        first _ (join-miss most s n (omega arith) refl) ∙ ons-alone ms _ (h .1) ∙ rw d refl)
+
+    one-more : (ms : List NoteMessage) (s : Started S) (m : NoteMessage)
+        → afterMessages v most chosen s (ms ++ (m ∷ [])) ≡ afterMessage v most chosen (afterMessages v most chosen s ms) m
+    unfolding afterMessages fold
+    one-more ms s m = fold-append (afterMessage v most chosen) s ms (m ∷ [])
+
   pub messages-play : MessagesPlay v
   unfolding MessagesPlay
   messages-play most chosen s ms = let p = plays most chosen ms s in record { notes = p .notes; missed = p .missed }
+
+  pub messages-in-order : MessagesInOrder v
+  unfolding MessagesInOrder afterMessages fold afterMessage
+  messages-in-order most chosen s ms = record {
+    none = refl;
+    on = λ m e. one-more most chosen ms s m ∙ cond-true _ _ e;
+    off = λ m e. one-more most chosen ms s m ∙ cond-false _ _ e;
+    onsAlone = ons-alone most chosen ms s;
+  }

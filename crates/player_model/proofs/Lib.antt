@@ -1,4 +1,5 @@
 pub mod Lists
+pub mod BySettings
 pub mod Join
 pub mod Count
 pub mod Later
@@ -9,3 +10,4 @@ pub mod Order
 pub mod Results
 pub mod Starting
 pub mod Keys
+pub mod Settings

@@ -1,22 +1,18 @@
 -- Laws of the functions on lists.
-use mathlib.Core.Path.{_≡_, refl, _∙_}
-use mathlib.Core.Bool.{Bool, true, false, cond}
+use mathlib.Core.Path.{_≡_, refl, ap, _∙_}
+use mathlib.Core.Bool.{Bool, true, false}
 use mathlib.Core.List.{List, [], _∷_, _++_}
 use Prim.Native.Nat.{suc, _≤_}
 use native.Mathlib.Omega.{arith}
 use lib.ListN.{length}
-pub use Rattle.base_laws.proofs.Choice.{cond-true, cond-false}
+pub use Rattle.base_laws.proofs.Choice.{cond-true, cond-false, either-way}
+pub use borrow.Table.Steps.{cases as by-test}
 use Rattle.player_model.specs.Lists.{filter, fold, each, All}
 
--- both outcomes of a test
-pub by-test : {P : Type 0} (b : Bool) → (b ≡ true → P) → (b ≡ false → P) → P
-by-test true h k = h refl
-by-test false h k = k refl
-
--- what holds of both outcomes holds of the choice
-pub either-way : {A : Type 0} (P : A → Type 0) (b : Bool) {x y : A} → P x → P y → P (cond b x y)
-either-way P true h k = h
-either-way P false h k = k
+pub length-each : {A B : Type 0} (f : A → B) (xs : List A) → length (each f xs) ≡ length xs
+unfolding each
+length-each f [] = refl
+length-each f (x ∷ xs) = ap suc (length-each f xs)
 
 pub fold-append : {A B : Type 0} (f : B → A → B) (b : B) (xs ys : List A) → fold f b (xs ++ ys) ≡ fold f (fold f b xs) ys
 unfolding fold

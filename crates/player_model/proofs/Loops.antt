@@ -2,20 +2,14 @@
 use mathlib.Core.Path.{_≡_, refl, sym}
 use mathlib.Core.Bool.{Bool, true, false}
 use mathlib.Core.List.{List, [], _∷_, _++_, append-assoc, append-nil}
-use mathlib.Core.Logic.{by-cases}
 use Prim.Native.Nat.{ℕ, _+_, _-_, _≤_, _<_, min}
 use native.Mathlib.Omega.{arith}
-use native.Mathlib.Decide.{decLe}
 use native.Mathlib.Numerals.{add-one}
 use lib.ListN.{length, take, drop, getD, set, length-append, length-drop}
-use lib.Seq.{take-suc, take-at, drop-cons, drop-drop, drop-append-add, set-at, length-take-le, take-all}
+use lib.Seq.{take-suc, take-at, drop-cons, drop-drop, drop-append-add, set-at, length-take-le}
+use Rattle.base_laws.proofs.Lists.{take-min}
 use Rattle.player_model.specs.Lists.{filter, fold, over}
 use Rattle.player_model.proofs.Lists.{filter-append, fold-append}
-
--- a count past the array is taken as the array's length
-pub take-min : {A : Type 0} (l : List A) (n m : ℕ) → length l ≡ m → take (min n m) l ≡ take n l
-take-min l n m h =
-    by-cases (decLe n m) (λ k. let e : min n m ≡ n = omega arith in cc) (λ k. cc (take-all (min n m) l (omega arith), take-all n l (omega arith)))
 
 -- where a loop up to such a count ends
 pub take-end : {A : Type 0} (l : List A) (n m i : ℕ) → length l ≡ m → (w : ℕ) → w ≡ min n m → i ≤ w → w ≤ i → take i l ≡ take n l

@@ -56,13 +56,17 @@ reads text bytes = textOf bytes
 
 -- ---- calls
 
--- bytes or numbers at an entrance, the bytes of a burst with an answer area as it is lent, bytes at the keyboard, or a block as it is lent
+-- bytes or numbers at an entrance, the bytes of a burst with an answer area as it is lent, bytes at the keyboard, a block as it is lent, a settings
+-- area as it is lent and the record to put behind those in use, or a settings area to step back in
 pub data Call : Type 0 where
   submit : Entrance → List ℕ → Call
   -- (M-103) many units in one call
   burst : List ℕ → List ℕ → Call
   keyboard : List ℕ → Call
   cycle : List ℤ → Call
+  -- (M-107) settings with a past
+  change : List ℕ → List ℕ → Call
+  undo : List ℕ → Call
 
 -- the lines that a call holds, for each answer that it gets: a burst has one of its own, which holds none, and one for each of its units
 abbrev pub linesOf : Call → List (List Line)
@@ -70,6 +74,8 @@ linesOf (submit d handed) = reads d handed .lines ∷ []
 linesOf (burst bytes area) = [] ∷ each (λ (u : List ℕ). reads unit u .lines) (unitsIn (burstOf bytes))
 linesOf (keyboard bytes) = [] ∷ []
 linesOf (cycle block) = [] ∷ []
+linesOf (change area handed) = [] ∷ []
+linesOf (undo area) = [] ∷ []
 
 -- the note messages that bytes are, none where they have a fault
 abbrev pub wholeMessages : midi.Call → List NoteMessage
@@ -82,6 +88,8 @@ messagesIn (submit d handed) = []
 messagesIn (burst bytes area) = []
 messagesIn (keyboard bytes) = wholeMessages (callOf bytes)
 messagesIn (cycle block) = []
+messagesIn (change area handed) = []
+messagesIn (undo area) = []
 
 -- an answer: its number, and the number of the line that it is about
 pub record Answer : Type 0 where
@@ -92,12 +100,38 @@ pub record Answer : Type 0 where
 abbrev pub one : ℕ → ℕ → List Answer
 one number line = record { number = number; line = line } ∷ []
 
--- what a call leaves: the player, the answers, the lent block (none but for a cycle call) and the lent answer area (none but for a burst)
+-- document 01's lent memory: a block, the places for the answers of a burst's units, a settings area; empty where a call is lent none
+pub record Buffers : Type 0 where
+  pub block : List ℤ
+  pub answers : List ℕ
+  pub settings : List ℕ
+
+abbrev pub noBuffers : Buffers
+noBuffers = record { block = []; answers = []; settings = [] }
+
+abbrev pub onlyBlock : List ℤ → Buffers
+onlyBlock b = record { block = b; answers = []; settings = [] }
+
+abbrev pub onlyAnswers : List ℕ → Buffers
+onlyAnswers area = record { block = []; answers = area; settings = [] }
+
+abbrev pub onlySettings : List ℕ → Buffers
+onlySettings area = record { block = []; answers = []; settings = area }
+
+-- the buffers that a call is lent, as they are lent
+abbrev pub buffersOf : Call → Buffers
+buffersOf (submit d handed) = noBuffers
+buffersOf (burst bytes area) = onlyAnswers area
+buffersOf (keyboard bytes) = noBuffers
+buffersOf (cycle block) = onlyBlock block
+buffersOf (change area handed) = onlySettings area
+buffersOf (undo area) = onlySettings area
+
+-- what a call leaves: the player, the answers, and the buffers that it was lent
 pub record After (P : Type 0) : Type 0 where
   pub player : P
   pub answers : List Answer
-  pub block : List ℤ
-  pub area : List ℕ
+  pub buffers : Buffers
 
 -- a player: what its calls leave, and what it counts. It does not say which lines it took.
 pub record Player (P : Type 0) : Type 0 where
@@ -110,6 +144,8 @@ numbered (submit d handed) = false
 numbered (burst bytes area) = false
 numbered (keyboard bytes) = false
 numbered (cycle block) = eqb (length block) samples
+numbered (change area handed) = false
+numbered (undo area) = false
 
 -- the lines taken: of every part that is answered 0
 abbrev pub takenOf : List (List Line) → List Answer → List Line

@@ -4,6 +4,8 @@ pub mod PlayerState
 pub mod Results
 pub mod Plain
 pub mod Calls
+pub mod Set
 pub mod Condition3
 pub mod History
+pub mod SettingsResults
 pub mod inside

@@ -11,25 +11,20 @@ use Rattle.midi_messages.specs.declared.NoteMessage.{NoteMessage}
 use Rattle.player_model.specs.Lists.{filter}
 use Rattle.player_model.specs.Cycle.{Voices, Note, Started, Rendered, isDue, ordered, positionLimit, anyEnd, lastTempo, started, controlled, afterMessages, runAll, limited, goesOn}
 
--- what a fresh start fixes
+-- what a cycle goes by
 pub record Settings : Type 0 where
   pub ceiling : ℕ
   -- the most notes that sound at once
   pub mostNotes : ℕ
-  pub startingTempo : Float
   -- the instrument of the keyboard's notes, by its name
   pub chosen : ℕ
 
--- today's: 16 notes
-abbrev pub noteLimit : ℕ
-noteLimit = 16
+abbrev pub settingsOf : ℕ → ℕ → ℕ → Settings
+settingsOf ceiling most chosen = record { ceiling = ceiling; mostNotes = most; chosen = chosen }
 
--- and tempo 60
+-- tempo 60, document 01's starting tempo: that of a version 1 record
 unfoldable pub defaultTempo : Float
 defaultTempo = ofBits binary32 0x42700000
-
-abbrev pub settingsOf : ℕ → ℕ → Settings
-settingsOf ceiling chosen = record { ceiling = ceiling; mostNotes = noteLimit; startingTempo = defaultTempo; chosen = chosen }
 
 -- what a player counts; condition 3 compares it whole
 pub record Counts : Type 0 where

@@ -211,6 +211,23 @@ module _ {S : Type 0} (v : Voices S) where
   unfoldable pub MessagesPlay : Type 0
   MessagesPlay = (most chosen : ℕ) (s : Started S) (ms : List NoteMessage) → KeysPlay most chosen s ms
 
+  -- The messages act in order: each on the notes as those before it left them. Note-ons alone start a note each, in order, behind those that
+  -- sound, as many as there is room for.
+  pub record InMessageOrder (most chosen : ℕ) (s : Started S) (ms : List NoteMessage) : Type 0 where
+    pub none : afterMessages v most chosen s [] ≡ s
+    pub on : (m : NoteMessage) → m .on ≡ true
+        → afterMessages v most chosen s (ms ++ (m ∷ [])) ≡ joinedBy most (afterMessages v most chosen s ms) (pressed v chosen m)
+    pub off : (m : NoteMessage) → m .on ≡ false → afterMessages v most chosen s (ms ++ (m ∷ []))
+        ≡ record {
+          notes = releaseOldest (m .channel) (m .key) (afterMessages v most chosen s ms .notes);
+          missed = afterMessages v most chosen s ms .missed;
+        }
+    pub onsAlone : All (λ (m : NoteMessage). m .on ≡ true) ms → afterMessages v most chosen s ms .notes
+        ≡ s .notes ++ take (most - length (s .notes)) (each (pressed v chosen) ms)
+
+  unfoldable pub MessagesInOrder : Type 0
+  MessagesInOrder = (most chosen : ℕ) (s : Started S) (ms : List NoteMessage) → InMessageOrder most chosen s ms
+
 -- ---- step 5
 
 -- outputs added to a sample one after the other

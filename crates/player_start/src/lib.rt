@@ -2,34 +2,38 @@
 use base_answer::Answer;
 use code_program::Program;
 use player_state::State;
+use settings_records::InUse;
 ghost use mathlib.Core.Path.{_≡_};
 ghost use mathlib.Core.List.{[]};
+ghost use lib.IntN.{pos};
+ghost use lib.Ieee.{binary32, ofInt};
 ghost use Rattle.code_loader.specs.Loading.{loadOf as loadedFrom};
-ghost use Rattle.player_start.specs.Starting.{startOf, refusedStart, hasChosen, startingOf};
+ghost use Rattle.player_start.specs.Starting.{startOf, refusedStart, hasChosen, startingOf, areaStarted};
 
 // What the calls change, beside what a fresh start fixes, and the answer.
 pub struct Start {
     pub state: State,
-    pub ceiling: u16,
+    pub settings: InUse,
     pub chosen: u16,
     pub program: Program,
     pub answer: Answer,
 }
 
-// A start with a tempo; ended only where it is refused.
-fn begin(
-    tempo: f32,
-    program: Program,
-    ceiling: u16,
-    chosen: u16,
-    ended: bool,
-    answer: Answer,
-) -> Start
-    ensures { λ r. ⌜ r ≡ startOf tempo program ceiling chosen ended answer ⌝ }
+// A tempo in beats a minute, as a float.
+fn beats(tempo: u16) -> f32
+    ensures { λ r. ⌜ r ≡ ofInt binary32 (pos tempo) ⌝ }
 {
+    tempo as f32
+}
+
+// A start with these settings, at their tempo; ended only where it is refused.
+fn begin(program: Program, settings: InUse, chosen: u16, ended: bool, answer: Answer) -> Start
+    ensures { λ r. ⌜ r ≡ startOf program settings chosen ended answer ⌝ }
+{
+    let tempo = beats(settings.last.tempo);
     Start {
         state: player_calls::initial_state(tempo, ended),
-        ceiling: ceiling,
+        settings: settings,
         chosen: chosen,
         program: program,
         answer: answer,
@@ -46,10 +50,10 @@ fn empty_program() -> Program
 }
 
 // A refused start is one that has ended: every call on it answers 9.
-fn refused(tempo: f32, program: Program, answer: Answer) -> Start
-    ensures { λ r. ⌜ r ≡ refusedStart tempo program answer ⌝ }
+fn refused(program: Program, answer: Answer) -> Start
+    ensures { λ r. ⌜ r ≡ refusedStart program answer ⌝ }
 {
-    begin(tempo, program, 1, 0, true, answer)
+    begin(program, settings_records::none_in_use(), 0, true, answer)
 }
 
 // Whether a program has the chosen instrument.
@@ -61,25 +65,27 @@ fn has_chosen(program: Program, chosen: u16) -> bool
     f.there
 }
 
-// The start of an orchestra's bytes, with the instrument that is chosen for the keyboard; or a refusal, of the ceiling, of the orchestra
-// or of the choice.
-pub fn fresh_start(tempo: f32, orchestra: &[u8], ceiling: u32, chosen: u16) -> Start
-    ensures { λ r. ⌜ r ≡ startingOf tempo (now (orchestra .entry)) ceiling chosen ⌝ }
+// The start of an orchestra's bytes and a first settings record, which goes into the lent area, with the instrument that is chosen for the
+// keyboard; or a refusal, of the record, of the orchestra or of the choice, and nothing is written.
+pub fn fresh_start(orchestra: &[u8], area: &mut [u8], first: &[u8], chosen: u16) -> Start
+    ensures start { λ r. ⌜ r ≡ startingOf (now (orchestra .entry)) (now (area .entry)) (now (first .entry)) chosen ⌝ }
+    ensures area { λ r. ⌜ now (area .exit) ≡ areaStarted (now (orchestra .entry)) (now (area .entry)) (now (first .entry)) chosen ⌝ }
 {
-    if ceiling < 1 {
-        return refused(tempo, empty_program(), Answer::OutOfRange);
-    }
-    if 32767 < ceiling {
-        return refused(tempo, empty_program(), Answer::OutOfRange);
+    let judged = settings_records::judge(settings_records::none_in_use(), area, first);
+    let fault = judged.answer;
+    if !base_answer::is_taken(fault) {
+        return refused(empty_program(), fault);
     }
     let read = code_loader::load(orchestra);
     let program = read.program;
     let answer = read.answer;
     if !base_answer::is_taken(answer) {
-        return refused(tempo, program, answer);
+        return refused(program, answer);
     }
     if !has_chosen(program, chosen) {
-        return refused(tempo, program, Answer::NoInstrument);
+        return refused(program, Answer::NoInstrument);
     }
-    begin(tempo, program, ceiling as u16, chosen, false, answer)
+    let written = settings_records::change(settings_records::none_in_use(), area, first);
+    let settings = written.settings;
+    begin(program, settings, chosen, false, answer)
 }

@@ -5,7 +5,7 @@ use mathlib.Core.List.{List}
 use Prim.Native.Nat.{ℕ, _+_, _≤_, _<_, min}
 use lib.Dec.{ltb, eqb}
 use lib.ListN.{length}
-use borrow.Author.Tests.{ltb-false, lt-ltb, le-ltb, eqb-true, eq-eqb, ne-eqb}
+use borrow.Author.Tests.{ltb-false, lt-ltb, le-ltb, eqb-true, eq-eqb, ne-eqb, not-true}
 use Rattle.base_laws.proofs.Choice.{both-true}
 use Rattle.base_timebase.specs.Time.{cycleIn}
 use Rattle.score_line.specs.declared.Line.{Line}
@@ -16,13 +16,12 @@ use Rattle.player_model.specs.inside.PlayerState.{mostCounted}
 use Rattle.player_queue.specs.Waiting.{anyDue}
 use Rattle.player_queue.specs.Admission.{waitingIn}
 use Rattle.player_queue.specs.declared.Queue.{Queue}
-use Rattle.note_pool.proofs.Cutting.{not-true}
 use Rattle.player_state.specs.States.{queueAfter, isIdleNow, afterIdle}
 use Rattle.player_state.specs.declared.State.{State}
 
 -- ---- step 1
 
-pub over-far : (position : ℕ) (due : List Line) → 1000000000000 < position → true ≡ (ltb positionLimit position || anyEnd due)
+pub over-far : (position : ℕ) (due : List Line) → positionLimit < position → true ≡ (ltb positionLimit position || anyEnd due)
 over-far position due h = ap (λ (t : Bool). t || anyEnd due) (sym (lt-ltb positionLimit position h))
 
 pub over-near : (position : ℕ) (due : List Line) → position ≤ positionLimit → (b : Bool) → b ≡ anyEnd due → b ≡ (ltb positionLimit position || anyEnd due)

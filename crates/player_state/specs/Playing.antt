@@ -1,5 +1,6 @@
--- What plays, and what a fresh start fixed, in the player's words.
+-- What plays, and what a cycle goes by, in the player's words.
 use mathlib.Core.List.{List}
+use Prim.Native.Nat.{ℕ, min}
 use Rattle.player_model.specs.Cycle as cycle
 use Rattle.player_model.specs.PlayerState.{Settings, settingsOf, PlayingState}
 use Rattle.voices_compiled.specs.Voices.{VoiceState}
@@ -23,6 +24,10 @@ playingStateOf p =
       ended = p .ended;
     }
 
--- what a fresh start fixed
+-- as many notes as there are places for
+abbrev pub mostPlaces : ℕ
+mostPlaces = 16
+
+-- what a cycle goes by
 abbrev pub settingsIn : Fixed → Settings
-settingsIn s = settingsOf (s .ceiling) (s .chosen)
+settingsIn s = settingsOf (s .ceiling) (min (s .notes) mostPlaces) (s .chosen)

@@ -23,9 +23,10 @@ pub struct Playing {
     pub ended: bool,
 }
 
-// What a fresh start fixes: the ceiling, and the instrument of the keyboard's notes by its name.
+// What a cycle goes by: the ceiling, the highest number of notes, and the instrument of the keyboard's notes by its name.
 pub struct Settings {
     pub ceiling: u16,
+    pub notes: u8,
     pub chosen: u16,
 }
 
@@ -37,10 +38,7 @@ pub struct State {
 }
 
 // The limit on position.
-const POSITION_LIMIT: u64 = 1000000000000;
-
-// Most lines that wait.
-const MOST_LINES: usize = 64;
+const POSITION_LIMIT: u64 = 1_000_000_000_000;
 
 // The largest count.
 const MOST_COUNTED: u64 = 18446744073709551615;
@@ -124,7 +122,7 @@ pub fn idle_cycle(mut s: State, ceiling: u16, block: &mut [i16]) -> State
     let position = s.playing.position;
     let step = base_timebase::ticks_per_cycle(s.playing.tempo);
     let next = position + step;
-    let waiting = note_pool::within(s.queue.count, MOST_LINES);
+    let waiting = base_numbers::at_most(s.queue.count, player_queue::MOST_LINES);
     let missed = add_missed(s.playing.missed, 0);
     s.queue.count = waiting;
     s.queue.ran = true;

@@ -2,8 +2,7 @@
 use mathlib.Core.Path.{_≡_, sym, ap, _∙_}
 use mathlib.Core.Bool.{false}
 use mathlib.Core.List.{List}
-use Prim.Native.Nat.{ℕ, _+_, _≤_, min}
-use native.Mathlib.Omega.{arith}
+use Prim.Native.Nat.{ℕ, _+_, min}
 use lib.IntN.{ℤ}
 use lib.Ieee.{Float}
 use lib.ListN.{length, take}
@@ -12,9 +11,9 @@ use Rattle.base_timebase.specs.Time.{cycleIn}
 use Rattle.engine_limiter.specs.Block as block
 use Rattle.note_state.specs.declared.Note.{Note}
 use Rattle.player_model.specs.Lists.{each, filter, over}
-use Rattle.player_model.specs.Cycle.{Voices, Rendered, Started, positionLimit, lastTempo, started, controlled, afterMessages, runAll, goesOn}
+use Rattle.player_model.specs.Cycle.{Voices, Rendered, Started, lastTempo, started, controlled, afterMessages, runAll, goesOn}
 use Rattle.player_model.specs.Cycle as cycle
-use Rattle.player_model.specs.PlayerState.{Due, settingsOf, noteLimit, startedOf, notesToRun, renderedOf, played}
+use Rattle.player_model.specs.PlayerState.{Due, settingsOf, startedOf, notesToRun, renderedOf, played}
 use Rattle.player_model.specs.inside.PlayerState.{capped, mostCounted}
 use Rattle.voices_compiled.specs.Voices.{VoiceState, voices}
 use Rattle.note_pool.specs.Notes.{notesIn, startedIn as startedNotes, startedOver}
@@ -23,13 +22,13 @@ use Rattle.note_lifecycle.specs.OneNote.{noteOf, structOf, goesOnIn}
 use Rattle.code_program.specs.declared.Instrument.{Instrument}
 use Rattle.note_pool.specs.declared.Started.{Started as Starts}
 use Rattle.note_pool.proofs.Steps.{length-each, started-are}
-use Rattle.note_events.proofs.Rendered.{control-all, going as going-as}
+use Rattle.note_events.proofs.Rendered.{control-all, run-notes-are, going as going-as}
 use Rattle.player_state.specs.Playing.{playingStateOf}
 use Rattle.player_steps.specs.Steps.{advanced, performedOf}
 use Rattle.player_steps.specs.declared.Performed.{Performed}
 use Rattle.player_state.specs.declared.Playing.{Playing}
 
-module _ (table : List Instrument) (code : List ℕ) (vals : List Float) (ceiling chosen : ℕ) (p : Playing) (due : Due) where
+module _ (table : List Instrument) (code : List ℕ) (vals : List Float) (ceiling most chosen : ℕ) (p : Playing) (due : Due) where
   abbrev v : Voices VoiceState
   v = voices table code vals
 
@@ -37,31 +36,30 @@ module _ (table : List Instrument) (code : List ℕ) (vals : List Float) (ceilin
   old = p .notes .notes
 
   abbrev born : Started VoiceState
-  born = started v noteLimit (p .position) (notesIn old (p .notes .count)) (due .lines)
+  born = started v most (p .position) (notesIn old (p .notes .count)) (due .lines)
 
   abbrev rendered : Rendered VoiceState
-  rendered = renderedOf v (settingsOf ceiling chosen) due (playingStateOf p)
+  rendered = renderedOf v (settingsOf ceiling most chosen) due (playingStateOf p)
 
-  pub born-law : (r : Starts) → r ≡ startedOver (started v noteLimit (min (p .position) positionLimit) (notesIn old (p .notes .count)) (due .lines)) old
-      → p .position ≤ positionLimit → startedNotes (r .notes) (r .count) (r .missed) ≡ born
-  born-law r e h =
-      let near : min (p .position) positionLimit ≡ p .position = omega arith in
-      started-are _ old r e ∙ ap (λ (n : ℕ). started v noteLimit n (notesIn old (p .notes .count)) (due .lines)) near
+  pub born-law : (m : ℕ) → m ≡ most → (r : Starts) → r ≡ startedOver (started v m (p .position) (notesIn old (p .notes .count)) (due .lines)) old
+      → startedNotes (r .notes) (r .count) (r .missed) ≡ born
+  born-law m em r e =
+      started-are _ old r e ∙ (λ i. started v (em i) (p .position) (notesIn old (p .notes .count)) (due .lines))
 
   -- what sounds after the note messages
   abbrev sounds : Started VoiceState
-  sounds = notesToRun v (settingsOf ceiling chosen) due (playingStateOf p)
+  sounds = notesToRun v (settingsOf ceiling most chosen) due (playingStateOf p)
 
-  pub sounds-law : (vn : List Note) (vc vm : ℕ) → startedNotes vn vc vm ≡ born
+  pub sounds-law : (m : ℕ) → m ≡ most → (vn : List Note) (vc vm : ℕ) → startedNotes vn vc vm ≡ born
       → (cn : List Note) (cc : ℕ) → take cc cn ≡ controlledAll table (take vc vn) (due .lines)
-      → (k : Starts) → k ≡ startedOver (afterMessages v noteLimit chosen (startedNotes cn cc vm) (due .messages)) cn
+      → (k : Starts) → k ≡ startedOver (afterMessages v m chosen (startedNotes cn cc vm) (due .messages)) cn
       → startedNotes (k .notes) (k .count) (k .missed) ≡ sounds
   unfolding notesToRun startedOf
-  sounds-law vn vc vm e cn cc f k q =
+  sounds-law m em vn vc vm e cn cc f k q =
       let c : notesIn cn cc ≡ controlled v (notesIn vn vc) (due .lines) = ap (each noteOf) f ∙ control-all table code vals (take vc vn) (due .lines) in
-      started-are _ cn k q
-      ∙ ap (λ (ns : List (cycle.Note VoiceState)). afterMessages v noteLimit chosen (record { notes = ns; missed = vm }) (due .messages)) c
-      ∙ ap (λ (s : Started VoiceState). afterMessages v noteLimit chosen (record { notes = controlled v (s .notes) (due .lines); missed = s .missed }) (due .messages)) e
+      started-are _ cn k q ∙ (λ i. afterMessages v (em i) chosen (startedNotes cn cc vm) (due .messages))
+      ∙ ap (λ (ns : List (cycle.Note VoiceState)). afterMessages v most chosen (record { notes = ns; missed = vm }) (due .messages)) c
+      ∙ ap (λ (s : Started VoiceState). afterMessages v most chosen (record { notes = controlled v (s .notes) (due .lines); missed = s .missed }) (due .messages)) e
 
   module _ (kn : List Note) (kc km : ℕ) (e : startedNotes kn kc km ≡ sounds) where
     rendered-law : runAll v (notesIn kn kc) ≡ rendered
@@ -71,11 +69,17 @@ module _ (table : List Instrument) (code : List ℕ) (vals : List Float) (ceilin
     pub block-law : (lent left : List ℤ) → left ≡ block.limited ceiling (runAll v (notesIn kn kc) .mix) lent → left ≡ block.limited ceiling (rendered .mix) lent
     block-law lent left q = q ∙ ap (λ (b : Rendered VoiceState). block.limited ceiling (b .mix) lent) rendered-law
 
+    -- what is heard of the notes, and how many they are
+    pub heard-law : (hn : List Note) (hc : ℕ) → hc ≡ kc → hn ≡ over (each structOf (runAll v (notesIn kn kc) .notes)) kn
+        → notesIn hn hc ≡ runAll v (notesIn kn kc) .notes
+    unfolding runAll
+    heard-law hn hc c h = ap (notesIn hn) c ∙ run-notes-are table code vals kn kc _ hn h
+
     pub perform-law : (hn : List Note) (hc : ℕ) → notesIn hn hc ≡ runAll v (notesIn kn kc) .notes
         → (gn : List Note) (gc : ℕ) → gc ≡ length (filter (goesOnIn (p .position)) (take hc hn)) → gn ≡ over (filter (goesOnIn (p .position)) (take hc hn)) hn
         → (out : List Note) → out ≡ over (take gc gn) old
         → (total : ℕ) → total ≡ min (p .missed + km) mostCounted
-        → record { notes = record { notes = out; count = gc }; missed = total } ≡ performedOf v (settingsOf ceiling chosen) due p
+        → record { notes = record { notes = out; count = gc }; missed = total } ≡ performedOf v (settingsOf ceiling most chosen) due p
     unfolding performedOf advanced capped played
     perform-law hn hc h gn gc eg en out eo total em =
         let going = filter (goesOn (p .position)) (rendered .notes) in
@@ -93,10 +97,10 @@ module _ (table : List Instrument) (code : List ℕ) (vals : List Float) (ceilin
         }
 
   -- what plays afterwards, from its parts
-  pub advance-law : (t : Performed) → t ≡ performedOf v (settingsOf ceiling chosen) due p → (tempo : Float) → tempo ≡ lastTempo (p .tempo) (due .lines)
+  pub advance-law : (t : Performed) → t ≡ performedOf v (settingsOf ceiling most chosen) due p → (tempo : Float) → tempo ≡ lastTempo (p .tempo) (due .lines)
       → (step : ℕ) → step ≡ cycleIn tempo
       → _≡_ {A = Playing} (record { notes = t .notes; position = p .position + step; tempo = tempo; missed = t .missed; ended = false })
-      (advanced v (settingsOf ceiling chosen) due p)
+      (advanced v (settingsOf ceiling most chosen) due p)
   unfolding performedOf advanced capped played
   advance-law t et tempo e step es =
       λ i. record {

@@ -43,10 +43,11 @@ fn perform<'a>(
     ensures notes { λ r. ⌜ r ≡ performedOf (voices (take n table) (now (code .entry)) (now (vals .entry))) (settingsIn settings) (dueIn due) p ⌝ }
     ensures block { λ r. ⌜ now (block .exit) ≡ limited (settings .ceiling) (renderedOf (voices (take n table) (now (code .entry)) (now (vals .entry))) (settingsIn settings) (dueIn due) (playingStateOf p) .mix) (now (block .entry)) ⌝ }
 {
+    let most = base_numbers::at_most(settings.notes as usize, note_pool::MOST_NOTES);
     let old = p.notes;
     let position = p.position;
     let acting = due.lines;
-    let v = note_events::start_notes(table, n, code, vals, old, acting, position);
+    let v = note_events::start_notes(table, n, code, vals, old, acting, position, most);
     let born = v.notes;
     let lines = acting.lines;
     let c = note_events::control_lines(
@@ -75,6 +76,7 @@ fn perform<'a>(
         settings.chosen,
         list,
         keys.count,
+        most,
     );
     let played = k.notes;
     let h = engine_block::sound(

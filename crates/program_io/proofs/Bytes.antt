@@ -1,9 +1,12 @@
--- Numbers as bytes: a number in two halves.
-use Prim.Native.Nat.{ℕ, _+_, _*_, _/_, _%_, _<_}
+-- Numbers as bytes: a number in two halves, and whether two bytes hold it.
+use Prim.Native.Nat.{ℕ, _+_, _*_, _/_, _%_, _<_, _≤_}
 use mathlib.Core.Path.{_≡_, refl, sym, ap, _∙_}
 use mathlib.Core.List.{List, [], _∷_, _++_}
 use native.Mathlib.Omega.{arith}
-use Rattle.program_io.specs.Bytes.{bigEndian, littleEndian}
+use borrow.Author.Tests.{lt-ltb, le-ltb}
+use mathlib.Core.Bool.{cond}
+use Rattle.settings_records.specs.Form.{encoded, versionOne}
+use Rattle.program_io.specs.Bytes.{bigEndian, littleEndian, inTwoBytes}
 
 pub big-half : {v : ℕ} → v < 65536 → bigEndian 2 v ≡ (v / 256 ∷ []) ++ (v % 256 ∷ [])
 unfolding bigEndian
@@ -43,3 +46,14 @@ big-long v =
     let g : v / 256 % 256 ≡ v % 4294967296 / 256 % 256 = omega arith in
     let h : v % 256 ≡ v % 4294967296 % 256 = omega arith in
     λ i. a i ∷ b i ∷ c i ∷ d i ∷ e i ∷ f i ∷ g i ∷ h i ∷ []
+
+pub two-hold : {n : ℕ} → n < 65536 → n ≡ inTwoBytes n
+unfolding inTwoBytes
+two-hold {n} h = sym (ap (λ b. cond b n 0) (lt-ltb n 65536 h))
+
+pub more-than-two : {n : ℕ} → 65536 ≤ n → 0 ≡ inTwoBytes n
+unfolding inTwoBytes
+more-than-two {n} h = sym (ap (λ b. cond b n 0) (le-ltb n 65536 h))
+
+pub one-record : (n : ℕ) {c : ℕ} → c ≡ inTwoBytes n → (0 ∷ 4 ∷ 1 ∷ c / 256 ∷ c % 256 ∷ 16 ∷ []) ≡ encoded (versionOne (inTwoBytes n) 16)
+one-record n e = ap (λ c. encoded (versionOne c 16)) e

@@ -2,6 +2,8 @@
 use Prim.Native.Nat.{ℕ, zero, suc, _+_, _-_, _*_, _/_, _%_, min}
 use mathlib.Core.Path.{_≡_}
 use mathlib.Core.List.{List, [], _∷_, _++_}
+use mathlib.Core.Bool.{cond}
+use lib.Dec.{ltb}
 use lib.IntN.{ℤ, pos, negsuc}
 use lib.ListN.{length, getD}
 use lib.Seq.{sets}
@@ -43,6 +45,10 @@ unfoldable pub wordsOf : List ℕ → ℕ → List ℕ
 unfolding wordAt
 wordsOf l zero = []
 wordsOf l (suc n) = wordsOf l n ++ (wordAt l (4 * n) ∷ [])
+
+-- a number that two bytes hold, else 0
+unfoldable pub inTwoBytes : ℕ → ℕ
+inTwoBytes n = cond (ltb n 65536) n 0
 
 -- a checksum carried on over samples
 unfoldable pub checksum : ℕ → List ℤ → ℕ

@@ -4,7 +4,8 @@ ghost use mathlib.Core.Path.{_≡_};
 ghost use mathlib.Core.List.{[], _∷_};
 ghost use Prim.Native.Nat.{_+_, _*_, _<_};
 ghost use lib.ListN.{length, getD};
-ghost use Rattle.program_io.specs.Bytes.{bigEndian, littleEndian, sampleBits as bitsOf, joined, Put, symbolAt, wordAt, wordsOf, checksum};
+ghost use Rattle.program_io.specs.Bytes.{bigEndian, littleEndian, sampleBits as bitsOf, joined, Put, symbolAt, wordAt, wordsOf, checksum, inTwoBytes};
+ghost use Rattle.settings_records.specs.Form.{encoded, versionOne};
 ghost use Rattle.program_io.specs.Decimal.{digitsAfter, decimal};
 
 // ---- numbers in lent memory
@@ -57,6 +58,21 @@ pub fn first_instrument(orchestra: &[u8]) -> u16
     ensures { λ r. ⌜ r ≡ symbolAt (now (orchestra .entry)) 2 ⌝ }
 {
     symbol_at(orchestra, 2)
+}
+
+// A number that two bytes hold; 0, which is no ceiling, in place of a larger one.
+fn in_two_bytes(n: u32) -> u16
+    ensures { λ r. ⌜ r ≡ inTwoBytes n ⌝ }
+{
+    if n < 65536 { n as u16 } else { 0 }
+}
+
+// The settings record that a program starts a panel with: version 1, this ceiling, 16 notes.
+pub fn settings_record(ceiling: u32) -> [u8; 6]
+    ensures { λ r. ⌜ r ≡ encoded (versionOne (inTwoBytes ceiling) 16) ⌝ }
+{
+    let c = in_two_bytes(ceiling);
+    [0, 4, 1, (c / 256) as u8, (c % 256) as u8, 16]
 }
 
 // Stores a byte, and answers the place after it.

@@ -1,5 +1,6 @@
 // One function for each kind of call: the call on lent memory that is marked, and its answer into the output.
 use crate::record::Record;
+use crate::settings;
 use base_answer::Answer;
 use panel::Core;
 use panel::CoreEntranceResult;
@@ -254,11 +255,16 @@ fn dispatch<'a>(
     vals: &'a [f32],
     r: Record,
     bytes: &[u8],
+    area: &mut [u8],
+    length: usize,
     out: &mut [u8],
     used: usize,
 ) -> Done {
     let count = r.count as usize;
     let core = s.core;
+    if settings::concerns(r.code) {
+        return settings::carried_out(s, r.code, bytes, area, length, out, used);
+    }
     if r.code == b'B' {
         return crate::burst::carried_out(s, r.first as usize, bytes, out, used);
     }
@@ -290,13 +296,15 @@ fn asked(s: Session, r: Record, data: &[u8], out: &mut [u8], used: usize) -> Don
     left(core, s.present, next)
 }
 
-// Its items are the first bytes of `data`.
+// Its items are the first bytes of `data`; the settings area is the first `length` bytes of `area`.
 pub fn carry_out<'a>(
     s: Session,
     code: &'a [u64],
     vals: &'a [f32],
     r: Record,
     data: &[u8],
+    area: &mut [u8],
+    length: usize,
     out: &mut [u8],
     used: usize,
 ) -> Done {
@@ -305,7 +313,7 @@ pub fn carry_out<'a>(
     }
     let n = crate::record::size_of(r.code, r.count);
     if n <= data.len() {
-        return dispatch(s, code, vals, r, &data[..n], out, used);
+        return dispatch(s, code, vals, r, &data[..n], area, length, out, used);
     }
-    dispatch(s, code, vals, r, data, out, used)
+    dispatch(s, code, vals, r, data, area, length, out, used)
 }

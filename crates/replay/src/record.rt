@@ -1,8 +1,11 @@
-// The fields of a record: a code, then, as its kind has them, a first number, a symbol, a count, that many items, and a room.
+// The fields of a record: a code, then, as its kind has them, a first number, a settings record, a symbol, a count, that many items, and a room.
 use program_io::Port;
 
 // The highest symbol.
 const MOST_SYMBOL: u32 = 65535;
+
+// The most bytes that are handed in as a settings record or put into the settings area.
+const MOST_SETTINGS: u32 = 8192;
 
 pub enum Fault {
     Whole,
@@ -46,6 +49,7 @@ fn is_known(code: u8) -> bool {
         b'F' | b'S' | b'T' | b'U' | b'B' | b'K' | b'M' | b'C' => true,
         b'D' | b'd' | b'E' | b'W' | b'w' | b'X' => true,
         b'N' | b'n' => true,
+        b'A' | b'G' | b'Z' => true,
         _ => false,
     }
 }
@@ -60,16 +64,24 @@ fn has_first(code: u8) -> bool {
 
 fn most_first(code: u8) -> u32 {
     match code {
-        b'F' => u32::MAX,
+        b'F' => MOST_SETTINGS,
         b'B' => 64,
         b'n' => MOST_SYMBOL,
         _ => 128,
     }
 }
 
+fn has_count(code: u8) -> bool {
+    match code {
+        b'w' | b'Z' => false,
+        _ => true,
+    }
+}
+
 fn most_count(code: u8) -> u32 {
     match code {
         b'F' => 32768,
+        b'A' | b'G' => MOST_SETTINGS,
         b'K' => 4096,
         b'C' => 1024,
         b'W' | b'X' => 128,
@@ -101,7 +113,7 @@ pub fn size_of(code: u8, count: u32) -> usize {
     match code {
         b'K' => 4 * n,
         b'W' | b'w' | b'X' => 72 * n,
-        b'C' => 0,
+        b'C' | b'Z' => 0,
         _ => n,
     }
 }
@@ -229,7 +241,7 @@ fn counted(
     out: &[u8],
     data: &mut [u8],
 ) -> Record {
-    let count = number(p, code != b'w', most_count(code), 1, input, out);
+    let count = number(p, has_count(code), most_count(code), 1, input, out);
     let fault = count.fault;
     let port = count.port;
     if is_whole(fault) {
@@ -238,7 +250,7 @@ fn counted(
     stopped(port, fault, false)
 }
 
-// What follows the first number.
+// What follows the settings record.
 fn named(p: Port, code: u8, first: u32, input: &mut [u8], out: &[u8], data: &mut [u8]) -> Record {
     let s = two_bytes(p, code == b'F', input, out);
     let fault = s.fault;
@@ -249,13 +261,31 @@ fn named(p: Port, code: u8, first: u32, input: &mut [u8], out: &[u8], data: &mut
     stopped(port, fault, false)
 }
 
+// A settings record's bytes follow the first number, which is their length, and go before the items.
+fn handed(p: Port, first: u32, input: &mut [u8], out: &[u8], data: &mut [u8]) -> Record {
+    let n = first as usize;
+    let q = program_io::receive(p, input, out, data, n);
+    if !q.dry && n <= data.len() {
+        return named(q, b'F', first, input, out, &mut data[n..]);
+    }
+    stopped(q, dry(q), false)
+}
+
+// What follows the first number.
+fn placed(p: Port, code: u8, first: u32, input: &mut [u8], out: &[u8], data: &mut [u8]) -> Record {
+    if code == b'F' {
+        return handed(p, first, input, out, data);
+    }
+    named(p, code, first, input, out, data)
+}
+
 // What follows a known code.
 fn body(p: Port, code: u8, input: &mut [u8], out: &[u8], data: &mut [u8]) -> Record {
     let first = number(p, has_first(code), most_first(code), 0, input, out);
     let fault = first.fault;
     let port = first.port;
     if is_whole(fault) {
-        return named(port, code, first.value, input, out, data);
+        return placed(port, code, first.value, input, out, data);
     }
     stopped(port, fault, false)
 }

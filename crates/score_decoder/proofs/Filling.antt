@@ -7,16 +7,17 @@ use native.Mathlib.Omega.{arith}
 use lib.ListN.{length, take, drop, length-append}
 use lib.Seq.{take-at, drop-drop, drop-append-add}
 use Rattle.score_line.specs.declared.Line.{Line}
+use Rattle.score_line.specs.LineFormat.{slotWords}
 use Rattle.score_line_writer.specs.Writing.{lineSlot}
 use Rattle.score_decoder.specs.Area.{areaWords, laid}
 use Rattle.score_decoder.specs.inside.Area.{SlotPut}
 
 -- a slot right behind the words that were laid
-laid-more : (words slot old : List ℕ) (n : ℕ) → length words ≡ n → length slot ≡ 18 → take n (laid words old) ++ (slot ++ drop (n + 18) (laid words old)) ≡ laid (words ++ slot) old
+laid-more : (words slot old : List ℕ) (n : ℕ) → length words ≡ n → length slot ≡ slotWords → take n (laid words old) ++ (slot ++ drop (n + slotWords) (laid words old)) ≡ laid (words ++ slot) old
 unfolding laid
 laid-more words slot old n e l =
-    let d : drop (n + 18) (words ++ drop (length words) old) ≡ drop (length (words ++ slot)) old =
-    ap (λ (k : ℕ). drop (k + 18) (words ++ drop (length words) old)) (sym e) ∙ drop-append-add words (drop (length words) old) 18 ∙ drop-drop 18 (length words) old
+    let d : drop (n + slotWords) (words ++ drop (length words) old) ≡ drop (length (words ++ slot)) old =
+    ap (λ (k : ℕ). drop (k + slotWords) (words ++ drop (length words) old)) (sym e) ∙ drop-append-add words (drop (length words) old) slotWords ∙ drop-drop slotWords (length words) old
     ∙ ap (λ (k : ℕ). drop k old) (ap (λ (k : ℕ). length words + k) (sym l) ∙ sym (length-append words slot)) in
     ap₂ (λ (x y : List ℕ). x ++ (slot ++ y)) (take-at words (drop (length words) old) n e) d ∙ sym (append-assoc words slot (drop (length (words ++ slot)) old))
 
@@ -48,14 +49,14 @@ module _ {X : Type 0} (line : X → Line) (next : X → X) where
       pub upto : i ≤ n
       pub same : length new ≡ length old
       pub place : x ≡ after i start
-      pub long : length (areaWords (passed i start)) ≡ 18 * i
+      pub long : length (areaWords (passed i start)) ≡ slotWords * i
       pub stands : new ≡ laid (areaWords (passed i start)) old
 
     pub filling-start : Filling old start 0
     unfolding laid areaWords
     filling-start = record { upto = omega arith; same = refl; place = refl; long = refl; stands = refl }
 
-    pub filling-more : (new other slot : List ℕ) (x : X) (i : ℕ) {y : X} → Filling new x i → i < n → y ≡ next x → slot ≡ lineSlot (line x) → length other ≡ length new → SlotPut new (18 * i) slot other
+    pub filling-more : (new other slot : List ℕ) (x : X) (i : ℕ) {y : X} → Filling new x i → i < n → y ≡ next x → slot ≡ lineSlot (line x) → length other ≡ length new → SlotPut new (slotWords * i) slot other
         → Filling other y (i + 1)
     filling-more new other slot x i f l e g k p =
         let w = areaWords (passed i start) in
@@ -67,7 +68,7 @@ module _ {X : Type 0} (line : X → Line) (next : X → X) where
           place = e ∙ ap next (f .place) ∙ sym (ap (λ (j : ℕ). after j start) (add-one i) ∙ after-suc i start);
           long = ap length more ∙ length-append w slot ∙ omega (arith, f .long, p .long);
           stands =
-              p .stands ∙ ap (λ (z : List ℕ). take (18 * i) z ++ (slot ++ drop (18 * i + 18) z)) (f .stands) ∙ laid-more w slot old (18 * i) (f .long) (p .long)
+              p .stands ∙ ap (λ (z : List ℕ). take (slotWords * i) z ++ (slot ++ drop (slotWords * i + slotWords) z)) (f .stands) ∙ laid-more w slot old (slotWords * i) (f .long) (p .long)
               ∙ ap (λ (z : List ℕ). laid z old) (sym more);
         }
 

@@ -15,6 +15,7 @@ use Rattle.base_answer.specs.declared.Answer.the-variants.{Taken, NoRoom}
 use Rattle.base_answer.specs.declared.Answer.the-variants as answer
 use Rattle.score_line.specs.declared.Line.{Line}
 use Rattle.score_line.specs.declared.LineRead.{LineRead}
+use Rattle.score_line.specs.LineFormat.{slotWords}
 use Rattle.score_line_writer.specs.Writing.{lineSlot}
 use Rattle.score_reader.specs.Score.{Score, scoreOf}
 use Rattle.score_reader.specs.inside.Walk.{scoreReadOf, firstOf, nextOf, walked}
@@ -31,14 +32,14 @@ use Rattle.score_decoder.proofs.Filling.{passed, Filling, filling-start
 
 module _ (old : List ℕ) (at : ℕ) (slot : List ℕ) where
   pub record Putting (new : List ℕ) (i : ℕ) : Type 0 where
-    pub upto : i ≤ 18
+    pub upto : i ≤ slotWords
     pub same : length new ≡ length old
     pub stands : new ≡ paste old at slot i
 
   pub put-start : Putting old 0
   put-start = record { upto = omega arith; same = refl; stands = paste-zero old at slot }
 
-  pub put-more : (new : List ℕ) (i : ℕ) → at + 18 ≤ length old → length slot ≡ 18 → Putting new i → i < 18 → Putting (set new (at + i) (getD slot i 0)) (i + 1)
+  pub put-more : (new : List ℕ) (i : ℕ) → at + slotWords ≤ length old → length slot ≡ slotWords → Putting new i → i < slotWords → Putting (set new (at + i) (getD slot i 0)) (i + 1)
   put-more new i h l c k =
       record {
         upto = omega arith;
@@ -48,14 +49,14 @@ module _ (old : List ℕ) (at : ℕ) (slot : List ℕ) where
             ∙ ap (λ (j : ℕ). paste old at slot j) (sym (add-one i));
       }
 
-  pub put-end : (new : List ℕ) (i : ℕ) → length slot ≡ 18 → Putting new i → 18 ≤ i → SlotPut old at slot new
+  pub put-end : (new : List ℕ) (i : ℕ) → length slot ≡ slotWords → Putting new i → slotWords ≤ i → SlotPut old at slot new
   put-end new i l c k =
-      let e : i ≡ 18 = omega (arith, c .upto) in
+      let e : i ≡ slotWords = omega (arith, c .upto) in
       record {
         long = l;
         stands =
-            c .stands ∙ ap (λ (j : ℕ). paste old at slot j) e ∙ append-assoc (take at old) (take 18 slot) (drop (at + 18) old)
-            ∙ ap (λ (x : List ℕ). take at old ++ (x ++ drop (at + 18) old)) (take-all 18 slot (omega arith));
+            c .stands ∙ ap (λ (j : ℕ). paste old at slot j) e ∙ append-assoc (take at old) (take slotWords slot) (drop (at + slotWords) old)
+            ∙ ap (λ (x : List ℕ). take at old ++ (x ++ drop (at + slotWords) old)) (take-all slotWords slot (omega arith));
       }
 
 -- ---- the lines of a score
@@ -72,7 +73,7 @@ module _ (bits : List Bool) (n : ℕ) (start : Cursor) (old : List ℕ) where
   pub fill-start : Filled old start 0
   fill-start = filling-start (λ x. nextOf bits x .line) (λ x. nextOf bits x .rest) n start old
 
-  pub fill-more : (new next slot : List ℕ) (c : Cursor) (i : ℕ) {s : Step} → Filled new c i → i < n → s ≡ nextOf bits c → slot ≡ lineSlot (s .line) → length next ≡ length new → SlotPut new (18 * i) slot next
+  pub fill-more : (new next slot : List ℕ) (c : Cursor) (i : ℕ) {s : Step} → Filled new c i → i < n → s ≡ nextOf bits c → slot ≡ lineSlot (s .line) → length next ≡ length new → SlotPut new (slotWords * i) slot next
       → Filled next (s .rest) (i + 1)
   fill-more new next slot c i f l e g k p =
       filling-more (λ x. nextOf bits x .line) (λ x. nextOf bits x .rest) n start old new next slot c i f l (ap (λ (x : Step). x .rest) e) (g ∙ ap (λ (x : Step). lineSlot (x .line)) e) k p
@@ -89,17 +90,17 @@ module _ (s : Score) (old : List ℕ) where
   unfolding decodedOf areaAfter
   left-refused h = record { told = sym (cond-false _ _ h); area = sym (cond-false _ _ h) }
 
-  pub left-short : isTaken (s .answer) ≡ true → length old < 18 * length (s .lines) → DecodesTo s old old (record { answer = NoRoom; line = 0; count = 0 })
+  pub left-short : isTaken (s .answer) ≡ true → length old < slotWords * length (s .lines) → DecodesTo s old old (record { answer = NoRoom; line = 0; count = 0 })
   unfolding decodedOf areaAfter
   left-short h k =
-      let e = lt-leb (18 * length (s .lines)) (length old) k in
+      let e = lt-leb (slotWords * length (s .lines)) (length old) k in
       record { told = sym (cond-true _ _ h ∙ cond-false _ _ e); area = sym (cond-true _ _ h ∙ cond-false _ _ e) }
 
-  pub left-taken : (new : List ℕ) → isTaken (s .answer) ≡ true → 18 * length (s .lines) ≤ length old → new ≡ laid (areaWords (s .lines)) old
+  pub left-taken : (new : List ℕ) → isTaken (s .answer) ≡ true → slotWords * length (s .lines) ≤ length old → new ≡ laid (areaWords (s .lines)) old
       → DecodesTo s old new (record { answer = Taken; line = 0; count = length (s .lines) })
   unfolding decodedOf areaAfter
   left-taken new h k n =
-      let e = le-leb (18 * length (s .lines)) (length old) k in
+      let e = le-leb (slotWords * length (s .lines)) (length old) k in
       record { told = sym (cond-true _ _ h ∙ cond-true _ _ e); area = n ∙ sym (cond-true _ _ h ∙ cond-true _ _ e) }
 
 -- what a call told
@@ -124,8 +125,10 @@ taken-is answer.BadGrammar e = absurd (true≢false (sym e))
 taken-is answer.BadNames e = absurd (true≢false (sym e))
 taken-is answer.BadRates e = absurd (true≢false (sym e))
 taken-is answer.TooLarge e = absurd (true≢false (sym e))
+taken-is answer.UnknownVersion e = absurd (true≢false (sym e))
 taken-is answer.BadText e = absurd (true≢false (sym e))
 taken-is answer.NoText e = absurd (true≢false (sym e))
+taken-is answer.NothingToUndo e = absurd (true≢false (sym e))
 
 -- ---- a score
 
@@ -143,10 +146,10 @@ module _ (bits : List Bool) (old : List ℕ) {r : ScoreRead} {b : Bool} (e : r �
     lines-are : length (scoreOf bits .lines) ≡ c .left
     lines-are = ahead-left bits (firstOf bits) (scoreOf bits .lines) (ahead-first bits (scoreOf bits .lines) (answered bits is-taken)) ∙ sym (ap (λ (x : Cursor). x .left) k)
 
-    pub score-short : length old / 18 < c .left → DecodesTo (scoreOf bits) old old (record { answer = NoRoom; line = 0; count = 0 })
+    pub score-short : length old / slotWords < c .left → DecodesTo (scoreOf bits) old old (record { answer = NoRoom; line = 0; count = 0 })
     score-short h = left-short (scoreOf bits) old (answer-is ∙ g) (omega (arith, lines-are))
 
-    pub score-taken : (new : List ℕ) → c .left ≤ length old / 18 → new ≡ laid (areaWords (walked bits (c .left) c)) old → DecodesTo (scoreOf bits) old new (record { answer = Taken; line = 0; count = c .left })
+    pub score-taken : (new : List ℕ) → c .left ≤ length old / slotWords → new ≡ laid (areaWords (walked bits (c .left) c)) old → DecodesTo (scoreOf bits) old new (record { answer = Taken; line = 0; count = c .left })
     score-taken new h n =
         subst (λ (j : ℕ). DecodesTo (scoreOf bits) old new (record { answer = Taken; line = 0; count = j })) lines-are
         (left-taken (scoreOf bits) old new (answer-is ∙ g) (omega (arith, lines-are))
@@ -163,11 +166,11 @@ module _ (u : LineRead) (old : List ℕ) {r : LineRead} {b : Bool} (e : r ≡ u)
   unfolding carried
   unit-refused g = subst (λ (x : LineRead). DecodesTo (carried u) old old (record { answer = x .answer; line = 0; count = 0 })) (sym e) (left-refused (carried u) old (unit-is ∙ g))
 
-  pub unit-short : b ≡ true → length old < 18 → DecodesTo (carried u) old old (record { answer = NoRoom; line = 0; count = 0 })
+  pub unit-short : b ≡ true → length old < slotWords → DecodesTo (carried u) old old (record { answer = NoRoom; line = 0; count = 0 })
   unfolding carried
   unit-short g h = left-short (carried u) old (unit-is ∙ g) h
 
-  pub unit-taken : (slot new : List ℕ) → b ≡ true → 18 ≤ length old → slot ≡ lineSlot (r .line) → SlotPut old 0 slot new → DecodesTo (carried u) old new (record { answer = Taken; line = 0; count = 1 })
+  pub unit-taken : (slot new : List ℕ) → b ≡ true → slotWords ≤ length old → slot ≡ lineSlot (r .line) → SlotPut old 0 slot new → DecodesTo (carried u) old new (record { answer = Taken; line = 0; count = 1 })
   unfolding carried areaWords laid
   unit-taken slot new g h k p =
       let w : slot ≡ areaWords (u .line ∷ []) = k ∙ ap (λ (x : LineRead). lineSlot (x .line)) e ∙ sym (append-nil (lineSlot (u .line))) in

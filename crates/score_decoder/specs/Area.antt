@@ -1,4 +1,4 @@
--- Lines in an area of words, 18 to a line, and what decoding leaves in it. Definitions only.
+-- Lines in an area of words, a slot to a line, and what decoding leaves in it. Definitions only.
 use Prim.Native.Nat.{ℕ, _*_}
 use mathlib.Core.Path.{_≡_}
 use mathlib.Core.Bool.{cond}
@@ -9,6 +9,7 @@ use Rattle.base_answer.specs.Numbers.{isTaken}
 use Rattle.base_answer.specs.declared.Answer.the-variants.{Taken, NoRoom}
 use Rattle.score_line.specs.declared.Line.{Line}
 use Rattle.score_line.specs.declared.LineRead.{LineRead}
+use Rattle.score_line.specs.LineFormat.{slotWords}
 use Rattle.score_line_writer.specs.Writing.{lineSlot}
 use Rattle.score_reader.specs.Score.{Score}
 use Rattle.score_decoder.specs.declared.Decoded.{Decoded}
@@ -26,12 +27,12 @@ laid words area = words ++ drop (length words) area
 unfoldable pub decodedOf : Score → ℕ → Decoded
 decodedOf s length-of =
     cond (isTaken (s .answer))
-    (cond (leb (18 * length (s .lines)) length-of) (record { answer = Taken; line = 0; count = length (s .lines) }) (record { answer = NoRoom; line = 0; count = 0 }))
+    (cond (leb (slotWords * length (s .lines)) length-of) (record { answer = Taken; line = 0; count = length (s .lines) }) (record { answer = NoRoom; line = 0; count = 0 }))
     (record { answer = s .answer; line = s .line; count = 0 })
 
 -- the area afterwards: as it was on refusal
 unfoldable pub areaAfter : Score → List ℕ → List ℕ
-areaAfter s area = cond (isTaken (s .answer)) (cond (leb (18 * length (s .lines)) (length area)) (laid (areaWords (s .lines)) area) area) area
+areaAfter s area = cond (isTaken (s .answer)) (cond (leb (slotWords * length (s .lines)) (length area)) (laid (areaWords (s .lines)) area) area) area
 
 -- a decoding's answer and the area that it leaves
 pub record DecodesTo (s : Score) (old new : List ℕ) (r : Decoded) : Type 0 where

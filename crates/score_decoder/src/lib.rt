@@ -1,17 +1,16 @@
-// Scores and access units decoded into a lent area of words, 18 to a line (document 01: "decoded on its own").
+// Scores and access units decoded into a lent area of words, a slot to a line (document 01: "decoded on its own").
 use base_answer::Answer;
+use score_line::SLOT;
 use score_reader::Cursor;
 ghost use mathlib.Core.Path.{_≡_};
 ghost use Prim.Native.Nat.{_+_, _*_, _≤_};
 ghost use lib.ListN.{length};
 ghost use Rattle.base_bitstream.specs.Bits.{bitsOf};
+ghost use Rattle.score_line.specs.LineFormat.{slotWords};
 ghost use Rattle.score_reader.specs.Score.{scoreOf, unitOf};
 ghost use Rattle.score_reader.specs.inside.Walk.{walked};
 ghost use Rattle.score_decoder.specs.Area.{areaWords, laid, carried, DecodesTo};
 ghost use Rattle.score_decoder.specs.inside.Area.{SlotPut};
-
-// The words of a line in the area.
-const SLOT: usize = 18;
 
 // What decoding gives: the answer, the number of the line that it is about, and how many lines stand in the area.
 pub struct Decoded {
@@ -30,9 +29,9 @@ fn told(answer: Answer, line: usize, count: usize) -> Decoded
     }
 }
 
-// Puts the 18 words of a line into the area at a position.
-pub fn put_slot(area: &mut [u32], at: usize, slot: [u32; 18])
-    requires { ⌜ at + 18 ≤ length (now area) ⌝ }
+// Puts the words of a line into the area at a position.
+pub fn put_slot(area: &mut [u32], at: usize, slot: [u32; SLOT])
+    requires { ⌜ at + slotWords ≤ length (now area) ⌝ }
     ensures { λ _. ⌜ SlotPut (now (area .entry)) at slot (now (area .exit)) ⌝ }
 {
     let mut i: usize = 0;
@@ -44,7 +43,7 @@ pub fn put_slot(area: &mut [u32], at: usize, slot: [u32; 18])
 
 // Puts the lines from a cursor on into the area, from its start on.
 fn fill(bytes: &[u8], area: &mut [u32], start: Cursor)
-    requires { ⌜ 18 * start .left ≤ length (now area) ⌝ }
+    requires { ⌜ slotWords * start .left ≤ length (now area) ⌝ }
     ensures { λ _. ⌜ now (area .exit) ≡ laid (areaWords (walked (bitsOf (now (bytes .entry))) (start .left) start)) (now (area .entry)) ⌝ }
 {
     let n = start.left;

@@ -208,6 +208,10 @@ filled l = eqb (length (l .values)) 8 && (eqb (l .count) (used l) && all isZero 
 unfoldable pub line : Description Line
 line = as-a lineWith partsOf filled parts
 
+-- the most fields that a line has, those of an instr line with time, label and 8 values: in an area of words each line has a slot of so many
+abbrev pub slotWords : ℕ
+slotWords = 18
+
 -- every field in its range, and nothing behind them
 abbrev pub valid : Line → Bool
 valid l = format line .valid l

@@ -36,9 +36,13 @@ answerOf fault.NotCarried = answer.NotCarried
 answerOf fault.OutOfRange = answer.OutOfRange
 answerOf fault.TooManyValues = answer.TooManyValues
 
+-- a line for places that hold none
+abbrev pub blankLine : Line
+blankLine = lineOf Untimed false End []
+
 -- a refusal has a blank line and the position 0
 unfoldable pub refusedLine : Answer → LineRead
-refusedLine a = record { answer = a; line = lineOf Untimed false End []; next = 0 }
+refusedLine a = record { answer = a; line = blankLine; next = 0 }
 
 unfoldable pub lineRead : Read Line → LineRead
 lineRead (got l p) = record { answer = answer.Taken; line = l; next = p }

@@ -9,7 +9,22 @@ ghost use Rattle.base_formats.specs.inside.Source.{sourceOf};
 ghost use Rattle.base_formats.specs.Format.{numberFrom};
 ghost use Rattle.score_line.specs.LineFormat.{inRange};
 ghost use Rattle.score_line.specs.inside.Reading.{numberIs, realIs, whenIs, labelIs, eventIs, smallFrom, floatFrom, timedFrom, whenFrom, labelFrom, instrFrom, labelledFrom, controlFrom, tempoFrom, eventFrom};
-ghost use Rattle.score_line.specs.Reading.{refusedLine};
+ghost use Rattle.score_line.specs.Reading.{blankLine, refusedLine};
+
+// The numbers of the line types.
+pub const INSTR: u32 = 0;
+
+pub const CONTROL: u32 = 1;
+
+pub const END: u32 = 4;
+
+pub const TEMPO: u32 = 5;
+
+// How many values a line has at most.
+pub const MOST_VALUES: usize = 8;
+
+// How many fields a line has at most: those of an instr line with time, label and all its values. In an area of words each line has a slot of so many.
+pub const SLOT: usize = 10 + MOST_VALUES;
 
 pub enum When {
     Timed { use_if_late: bool, time: f32 },
@@ -42,7 +57,7 @@ pub struct Line {
     pub priority: bool,
     pub event: Event,
     pub count: usize,
-    pub values: [f32; 8],
+    pub values: [f32; MOST_VALUES],
 }
 
 // What reading a line gives: the answer, the line, and the position past it. On refusal a blank line and 0.
@@ -278,19 +293,32 @@ fn tempo_at(bytes: &[u8], words: &[u32], keypad: bool, at: usize) -> EventRead
 pub fn event_at(bytes: &[u8], words: &[u32], keypad: bool, at: usize, kind: u32) -> EventRead
     ensures { λ r. ⌜ eventIs r ≡ eventFrom (sourceOf (now (bytes .entry)) (now (words .entry)) keypad) kind at ⌝ }
 {
-    if kind == 0 {
+    if kind == INSTR {
         return instr_at(bytes, words, keypad, at);
     }
-    if kind == 1 {
+    if kind == CONTROL {
         return control_at(bytes, words, keypad, at);
     }
-    if kind == 4 {
+    if kind == END {
         return EventRead::Of(Event::End, at);
     }
-    if kind == 5 {
+    if kind == TEMPO {
         return tempo_at(bytes, words, keypad, at);
     }
     EventRead::Refused(Fault::NotCarried)
+}
+
+// A line for places that hold none.
+pub fn blank_line() -> Line
+    ensures { λ r. ⌜ r ≡ blankLine ⌝ }
+{
+    Line {
+        when: When::Untimed,
+        priority: false,
+        event: Event::End,
+        count: 0,
+        values: [0.0f32; MOST_VALUES],
+    }
 }
 
 // A refusal: a blank line and the position 0.
@@ -299,13 +327,7 @@ pub fn refused(a: Answer) -> LineRead
 {
     LineRead {
         answer: a,
-        line: Line {
-            when: When::Untimed,
-            priority: false,
-            event: Event::End,
-            count: 0,
-            values: [0.0f32; 8],
-        },
+        line: blank_line(),
         next: 0,
     }
 }

@@ -1,18 +1,15 @@
 -- Fields put into the code's arrays, one after the other. Assumes nothing.
 use Prim.Native.Nat.{ℕ, suc, _+_, _-_, _<_, _≤_, min as lesser}
 use mathlib.Core.Path.{_≡_, refl, sym, ap, _∙_, subst}
-use mathlib.Core.Bool.{Bool, true, false, not, true≢false}
+use mathlib.Core.Bool.{Bool}
 use mathlib.Core.List.{List, [], _∷_, _++_, append-assoc, append-nil, map}
-use native.Mathlib.Nat.{add-assoc, min-eq-left, min-eq-right}
-use native.Mathlib.Decide.{decLe}
+use native.Mathlib.Nat.{add-assoc}
 use native.Mathlib.Numerals.{add-one}
 use native.Mathlib.Omega.{arith}
-use lib.Dec.{T}
 use lib.ListN.{length, take, getD, set, replicate, length-append}
-use lib.Seq.{set-at, take-suc, take-all}
-use lib.Ieee.{Float, nan, inf, fin, binary32, toBits, isNan, eq, ne}
-use lib.Ieee.Compare.{differs-from-itself}
-use Rattle.base_laws.proofs.Lists.{map-append}
+use lib.Seq.{set-at, take-suc}
+use lib.Ieee.{Float, binary32, toBits}
+use Rattle.base_laws.proofs.Lists.{map-append, take-min}
 use Rattle.base_bitstream.specs.Bits.{digit}
 use Rattle.score_line.specs.declared.Line.{Line}
 use Rattle.score_line.specs.declared.When.{When}
@@ -27,23 +24,11 @@ use Rattle.base_formats.specs.Description.{format}
 use Rattle.base_formats.proofs.InWords.{length-words}
 use Rattle.base_formats.proofs.Descriptions.{append}
 use Rattle.score_line_writer.specs.inside.Fields.{flag, float, whenBefore, labelBefore, eventBefore, valueFields}
-use Rattle.score_line_writer.specs.Writing.{lineFields, toEighteen}
+use Rattle.score_line_writer.specs.Writing.{lineFields, toSlot}
 use Rattle.score_line_writer.specs.inside.Packed.{packed, Room, Joined}
 use Rattle.score_line_writer.specs.declared.Fields.{Fields}
-use Rattle.score_line.specs.LineFormat.{timed, when, label, kind, body, eventParts, kindOf, number, counted, afterTime, parts, line, labelled as labelled·format, float as real, values as values·format}
+use Rattle.score_line.specs.LineFormat.{slotWords, timed, when, label, kind, body, eventParts, kindOf, number, counted, afterTime, parts, line, labelled as labelled·format, float as real, values as values·format}
 use Rattle.score_line.specs.declared.Range.the-variants as range
-
--- ---- a float's bits
-
-pub no-nan : (x : Float) → eq x x ≡ true → T (not (isNan x))
-unfolding eq isNan
-no-nan nan e = absurd (true≢false (sym e))
-no-nan (inf s) e = tt
-no-nan (fin s m d) e = tt
-
-pub nan-bits : (x : Float) → eq x x ≡ false → 0x7fc0_0000 ≡ toBits binary32 x
-unfolding ne toBits
-nan-bits x e = ap (toBits binary32) (sym (differs-from-itself x (rw e tt)))
 
 -- ---- one field more
 
@@ -67,29 +52,29 @@ length-widths [] = refl
 length-widths (of w v ∷ fs) = ap suc (length-widths fs)
 
 -- an element stored where the zeros begin
-eighteen-set : (l : List ℕ) (n v : ℕ) → length l ≡ n → n < 18 → set (toEighteen l) n v ≡ toEighteen (l ++ (v ∷ []))
-unfolding toEighteen
-eighteen-set l n v e h =
-    let k : 18 - length l ≡ suc (18 - suc n) = omega arith in
+slot-set : (l : List ℕ) (n v : ℕ) → length l ≡ n → n < slotWords → set (toSlot l) n v ≡ toSlot (l ++ (v ∷ []))
+unfolding toSlot
+slot-set l n v e h =
+    let k : slotWords - length l ≡ suc (slotWords - suc n) = omega arith in
     let m : length (l ++ (v ∷ [])) ≡ suc n = length-append l (v ∷ []) ∙ omega arith in
     ap (λ (j : ℕ). set (l ++ replicate j 0) n v) k
-    ∙ set-at l 0 (replicate (18 - suc n) 0) v n e
-    ∙ sym (append-assoc l (v ∷ []) (replicate (18 - length (l ++ (v ∷ []))) 0) ∙ ap (λ (j : ℕ). l ++ (v ∷ replicate (18 - j) 0)) m)
+    ∙ set-at l 0 (replicate (slotWords - suc n) 0) v n e
+    ∙ sym (append-assoc l (v ∷ []) (replicate (slotWords - length (l ++ (v ∷ []))) 0) ∙ ap (λ (j : ℕ). l ++ (v ∷ replicate (slotWords - j) 0)) m)
 
-pushed : (fs : List Field) (w v : ℕ) → length fs < 18
+pushed : (fs : List Field) (w v : ℕ) → length fs < slotWords
     → record {
       count = length fs + 1;
       bits = widths fs + w;
-      widths = set (toEighteen (fieldWidths fs)) (length fs) w;
-      values = set (toEighteen (fieldWords fs))
+      widths = set (toSlot (fieldWidths fs)) (length fs) w;
+      values = set (toSlot (fieldWords fs))
           (length fs) v;
     } ≡ packed (fs ++ (of w v ∷ []))
 unfolding packed
 pushed fs w v h i = record {
   count = sym (length-append fs (of w v ∷ [])) i;
   bits = sym (sum-snoc fs w v) i;
-  widths = (eighteen-set (fieldWidths fs) (length fs) w (length-widths fs) h ∙ ap toEighteen (sym (widths-snoc fs w v))) i;
-  values = (eighteen-set (fieldWords fs) (length fs) v (length-words fs) h ∙ ap toEighteen (sym (words-snoc fs w v))) i;
+  widths = (slot-set (fieldWidths fs) (length fs) w (length-widths fs) h ∙ ap toSlot (sym (widths-snoc fs w v))) i;
+  values = (slot-set (fieldWords fs) (length fs) v (length-words fs) h ∙ ap toSlot (sym (words-snoc fs w v))) i;
 }
 
 abbrev push : Fields → ℕ → ℕ → Fields
@@ -191,20 +176,11 @@ floats-again f n count values r q i p d m l c h e j =
       joined = also (sym (ap (map float) t ∙ map-append float (take i values) (getD values i d ∷ []))) (both (c .joined) (also (ap (λ (k : ℕ). of 32 k ∷ []) e) j));
     }
 
-take-eight : (count : ℕ) (values : List Float) → length values ≡ 8 → take (lesser count 8) values ≡ take count values
-take-eight count values l = go (decLe count 8)
-  where
-    go : Dec (count ≤ 8) → take (lesser count 8) values ≡ take count values
-    go (yes h) = ap (λ (k : ℕ). take k values) (min-eq-left h)
-    go (no h) =
-        let k : 8 ≤ count = omega arith in
-        ap (λ (j : ℕ). take j values) (min-eq-right k) ∙ take-all 8 values (omega arith) ∙ sym (take-all count values (omega arith))
-
 pub floats-end : (f : Fields) (n count : ℕ) (values : List Float) (r : Fields) (i : ℕ) → n ≡ lesser count 8 → length values ≡ 8 → Collected f n values r i → n ≤ i
     → Joined f (map float (take count values)) 8 r
 floats-end f n count values r i m l c h =
     let e : i ≡ lesser count 8 = omega (arith, c .within) in
-    wider (omega arith) (also (ap (map float) (ap (λ (k : ℕ). take k values) e ∙ take-eight count values l)) (c .joined))
+    wider (omega arith) (also (ap (map float) (ap (λ (k : ℕ). take k values) e ∙ take-min values count 8 l)) (c .joined))
 
 -- ---- values, and the whole line
 

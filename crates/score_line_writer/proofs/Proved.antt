@@ -22,7 +22,7 @@ use Rattle.base_formats.proofs.Gives.{Gives, Bounded}
 use Rattle.base_formats.proofs.InBits.{bits-bounded, bits-there, bits-back, length-bits, bits-append}
 use Rattle.base_formats.proofs.InWords.{words-bounded, words-there, words-back, length-words}
 use Rattle.base_formats.proofs.Descriptions.{sum-widths, sum-count, adds}
-use Rattle.score_line.specs.LineFormat.{isZero, used, filled, partsOf, parts, line, valid}
+use Rattle.score_line.specs.LineFormat.{slotWords, isZero, used, filled, partsOf, parts, line, valid}
 use Rattle.score_line.specs.Reading.{lineFrom, answerOf, refusedLine, lineRead, lineAt, lineInWords, wholeRun, keypadLine}
 use Rattle.score_line.specs.declared.Line.{Line}
 use Rattle.score_line.specs.declared.LineRead.{LineRead}
@@ -59,8 +59,8 @@ line-wide l h =
     let m = line-most (λ w. w) l h in
     (omega (arith, m .0), omega (arith, m .1))
 
--- at most 18 numbers
-pub line-few : (l : Line) → length (l .values) ≡ 8 → length (lineFields l) ≤ 18
+-- at most as many numbers as a slot has
+pub line-few : (l : Line) → length (l .values) ≡ 8 → length (lineFields l) ≤ slotWords
 line-few l h =
     let e : length (lineFields l) ≡ lengthOf (λ w. 1) line l + 0 = sym (sum-count (lineFields l)) ∙ adds (λ w. 1) line l [] in
     omega (arith, line-most (λ w. 1) l h .1)

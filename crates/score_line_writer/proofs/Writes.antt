@@ -27,13 +27,13 @@ use Rattle.base_formats.specs.inside.Lengths.{fieldWidths, widths}
 use Rattle.base_formats.proofs.InBits.{length-bits}
 use Rattle.base_formats.proofs.InWords.{length-words}
 use Rattle.base_formats.proofs.Descriptions.{Narrow, narrow}
-use Rattle.score_line_writer.specs.Writing.{lineFields, lineBits, lineBefore, lineWords, toEighteen, lineFault, lineSlot, bitsFit, lineOver, pastLine, LineWritten}
+use Rattle.score_line_writer.specs.Writing.{lineFields, lineBits, lineBefore, lineWords, toSlot, lineFault, lineSlot, bitsFit, lineOver, pastLine, LineWritten}
 use Rattle.score_line_writer.specs.inside.Packed.{packed, zipped, fieldsIn, Writable, Wrote}
 use Rattle.score_line_writer.specs.declared.Fields.{Fields}
 use Rattle.score_line_writer.proofs.LineLaw.{line-proper}
 use Rattle.score_line_writer.proofs.Packs.{length-widths, sum-snoc}
 use Rattle.score_line_writer.proofs.Proved.{length-line}
-use Rattle.score_line.specs.LineFormat.{line}
+use Rattle.score_line.specs.LineFormat.{slotWords, line}
 
 -- ---- whether bits fit
 
@@ -95,7 +95,7 @@ module _ (at n : ℕ) (ws vs first : List ℕ) where
   unfolding fieldBits
   loop-start = record { same = refl; upto = omega arith; wrote = record { past = omega arith; stands = nothing-over (bitsOf first) at } }
 
-  module _ (h : Writable (8 * length first) at n ws vs) (hw : length ws ≡ 18) (hv : length vs ≡ 18) where
+  module _ (h : Writable (8 * length first) at n ws vs) (hw : length ws ≡ slotWords) (hv : length vs ≡ slotWords) where
     more : (i : ℕ) → i < n → fieldsIn (i + 1) ws vs ≡ fieldsIn i ws vs ++ (of (getD ws i 0) (getD vs i 0) ∷ [])
     more i l = ap (λ (k : ℕ). fieldsIn k ws vs) (add-one i) ∙ fields-more ws vs i (omega (arith, h .few)) (omega (arith, h .few))
 
@@ -162,11 +162,11 @@ unfolding fieldWidths fieldWords
 zip-back [] = refl
 zip-back (of w v ∷ fs) = ap (λ (l : List Field). of w v ∷ l) (zip-back fs)
 
-pub fields-back : (fs : List Field) → fieldsIn (length fs) (toEighteen (fieldWidths fs)) (toEighteen (fieldWords fs)) ≡ fs
-unfolding toEighteen
+pub fields-back : (fs : List Field) → fieldsIn (length fs) (toSlot (fieldWidths fs)) (toSlot (fieldWords fs)) ≡ fs
+unfolding toSlot
 fields-back fs =
-    ap₂ zipped (take-at (fieldWidths fs) (replicate (18 - length (fieldWidths fs)) 0) (length fs) (length-widths fs))
-    (take-at (fieldWords fs) (replicate (18 - length (fieldWords fs)) 0) (length fs) (length-words fs))
+    ap₂ zipped (take-at (fieldWidths fs) (replicate (slotWords - length (fieldWidths fs)) 0) (length fs) (length-widths fs))
+    (take-at (fieldWords fs) (replicate (slotWords - length (fieldWords fs)) 0) (length fs) (length-words fs))
     ∙ zip-back fs
 
 -- ---- the line written
@@ -185,32 +185,32 @@ module _ (f : Fields) (l : Line) (e : f ≡ packed (lineFields l)) where
   slot-is = ap (λ (g : Fields). g .values) e
 
   pub count-within : f .count ≤ length (f .values)
-  unfolding packed toEighteen
+  unfolding packed toSlot
   count-within =
       let n = ap (λ (g : Fields). g .count) e in
       let m = simp length-append at (ap (λ (g : Fields). length (g .values)) e) in
       omega (arith, length-words (lineFields l))
 
   pub fault-is : {a : Answer} → a ≡ (keypadLine (take (f .count) (f .values))) .answer → a ≡ lineFault l
-  unfolding packed lineFault lineWords toEighteen
+  unfolding packed lineFault lineWords toSlot
   fault-is y =
       let ws = fieldWords (lineFields l) in
       cc (
         ap (λ (g : Fields). g .count) e,
         ap (λ (g : Fields). g .values) e,
-        take-at ws (replicate (18 - length ws) 0) (length (lineFields l))
+        take-at ws (replicate (slotWords - length ws) 0) (length (lineFields l))
             (length-words (lineFields l)),
       )
 
-  pub line-writable : (s : List ℕ) (at : ℕ) {b : Bool} → length (f .values) ≡ 18 → b ≡ bitsFit (8 * length s) at (f .bits) → b ≡ true
+  pub line-writable : (s : List ℕ) (at : ℕ) {b : Bool} → length (f .values) ≡ slotWords → b ≡ bitsFit (8 * length s) at (f .bits) → b ≡ true
       → Writable (8 * length s) at (f .count) (f .widths) (f .values)
-  unfolding packed toEighteen
+  unfolding packed toSlot
   line-writable s at h g k =
       let w : widths (fieldsIn (f .count) (f .widths) (f .values)) ≡ f .bits = ap widths fields-are ∙ sym (ap (λ (x : Fields). x .bits) e) in
       let y = fit-back (8 * length s) at (f .bits) (sym g ∙ k) in
       record {
         few = omega (arith, count-within);
-        narrow = λ i. rw e (narrow-at (lineFields l) (18 - length (fieldWidths (lineFields l))) i (narrow line line-proper l [] tt));
+        narrow = λ i. rw e (narrow-at (lineFields l) (slotWords - length (fieldWidths (lineFields l))) i (narrow line line-proper l [] tt));
         near = omega (arith, y .0);
         within = omega (arith, y .1);
       }

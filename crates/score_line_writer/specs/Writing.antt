@@ -11,7 +11,7 @@ use Rattle.score_line.specs.Reading.{keypadLine}
 use Rattle.score_line.specs.declared.Line.{Line}
 use Rattle.base_formats.specs.Format.{Field, fieldBits, fieldWords}
 use Rattle.base_formats.specs.Description.{format}
-use Rattle.score_line.specs.LineFormat.{line}
+use Rattle.score_line.specs.LineFormat.{slotWords, line}
 
 -- each field with its width and its number
 abbrev pub lineFields : Line → List Field
@@ -29,17 +29,17 @@ unfoldable pub lineWords : Line → List ℕ
 unfolding fieldWords
 lineWords l = fieldWords (lineFields l)
 
--- zeros to the end of an array of 18
-unfoldable pub toEighteen : List ℕ → List ℕ
-toEighteen l = l ++ replicate (18 - length l) 0
+-- zeros to the end of a slot
+unfoldable pub toSlot : List ℕ → List ℕ
+toSlot l = l ++ replicate (slotWords - length l) 0
 
 -- the fault that reading would meet in a line as it stands, 0 for none
 unfoldable pub lineFault : Line → Answer
 lineFault l = (keypadLine (lineWords l)) .answer
 
--- a line's slot in an area of words: its keypad numbers, then zeros, 18 in all
+-- a line's slot in an area of words: its keypad numbers, then zeros
 unfoldable pub lineSlot : Line → List ℕ
-lineSlot l = toEighteen (lineWords l)
+lineSlot l = toSlot (lineWords l)
 
 -- whether n bits from a position on are within that many bits, and near enough to be read there
 unfoldable pub bitsFit : ℕ → ℕ → ℕ → Bool

@@ -3,6 +3,8 @@ use base_answer::Answer;
 use score_line::Event;
 use score_line::Label;
 use score_line::Line;
+use score_line::MOST_VALUES;
+use score_line::SLOT;
 use score_line::When;
 ghost use mathlib.Core.Path.{_≡_};
 ghost use mathlib.Core.List.{[], _∷_, map};
@@ -23,18 +25,8 @@ const FARTHEST: usize = 0x4000_0000_0000_0000;
 pub struct Fields {
     pub count: usize,
     pub bits: usize,
-    pub widths: [usize; 18],
-    pub values: [u32; 18],
-}
-
-// A float's bits. Every not-a-number counts as one.
-pub fn float_bits(x: f32) -> u32
-    ensures { λ r. ⌜ r ≡ toBits binary32 x ⌝ }
-{
-    if x == x {
-        return f32::to_bits(x);
-    }
-    0x7fc0_0000
+    pub widths: [usize; SLOT],
+    pub values: [u32; SLOT],
 }
 
 fn digit_of(b: bool) -> u32
@@ -55,8 +47,8 @@ fn no_fields() -> Fields
     Fields {
         count: 0,
         bits: 0,
-        widths: [0usize; 18],
-        values: [0u32; 18],
+        widths: [0usize; SLOT],
+        values: [0u32; SLOT],
     }
 }
 
@@ -86,7 +78,7 @@ fn with_when(f: Fields, when: When) -> Fields
         When::Timed { use_if_late, time } => {
             let a = with_field(f, 1, 1);
             let b = with_field(a, 1, digit_of(use_if_late));
-            with_field(b, 32, float_bits(time))
+            with_field(b, 32, base_numbers::float_bits(time))
         }
         When::Untimed => with_field(f, 1, 0),
     }
@@ -115,53 +107,47 @@ fn with_event(f: Fields, event: Event) -> Fields
             instrument,
             duration,
         } => {
-            let a = with_field(f, 3, 0);
+            let a = with_field(f, 3, score_line::INSTR);
             let b = with_label(a, label);
             let c = with_field(b, 16, instrument as u32);
-            with_field(c, 32, float_bits(duration))
+            with_field(c, 32, base_numbers::float_bits(duration))
         }
         Event::Control {
             label,
             variable,
             value,
         } => {
-            let a = with_field(f, 3, 1);
+            let a = with_field(f, 3, score_line::CONTROL);
             let b = with_field(a, 1, 1);
             let c = with_field(b, 16, label as u32);
             let d = with_field(c, 16, variable as u32);
-            with_field(d, 32, float_bits(value))
+            with_field(d, 32, base_numbers::float_bits(value))
         }
-        Event::End => with_field(f, 3, 4),
+        Event::End => with_field(f, 3, score_line::END),
         Event::Tempo(tempo) => {
-            let a = with_field(f, 3, 5);
-            with_field(a, 32, float_bits(tempo))
+            let a = with_field(f, 3, score_line::TEMPO);
+            with_field(a, 32, base_numbers::float_bits(tempo))
         }
     }
 }
 
-fn at_most_eight(n: usize) -> usize
-    ensures { λ r. ⌜ r ≡ lesser n 8 ⌝ }
-{
-    if n < 8 { n } else { 8 }
-}
-
 // The first `count` values behind what is there.
-fn with_floats(f: Fields, count: usize, values: [f32; 8]) -> Fields
+fn with_floats(f: Fields, count: usize, values: [f32; MOST_VALUES]) -> Fields
     requires { ⌜ Room f 8 ⌝ }
     ensures { λ r. ⌜ Joined f (map float (take count values)) 8 r ⌝ }
 {
-    let n = at_most_eight(count);
+    let n = base_numbers::at_most(count, MOST_VALUES);
     let mut r = f;
     let mut i: usize = 0;
     while i < n {
-        r = with_field(r, 32, float_bits(values[i]));
+        r = with_field(r, 32, base_numbers::float_bits(values[i]));
         i += 1;
     }
     r
 }
 
 // The values of an instr line, after their number.
-fn with_values(f: Fields, event: Event, count: usize, values: [f32; 8]) -> Fields
+fn with_values(f: Fields, event: Event, count: usize, values: [f32; MOST_VALUES]) -> Fields
     requires { ⌜ Room f 9 ⌝ }
     ensures { λ r. ⌜ Joined f (valueFields event count values) 9 r ⌝ }
 {
@@ -206,7 +192,7 @@ pub fn bit_length(line: Line) -> usize
 }
 
 // A line's keypad numbers, then zeros.
-pub fn line_slot(line: Line) -> [u32; 18]
+pub fn line_slot(line: Line) -> [u32; SLOT]
     ensures { λ r. ⌜ r ≡ lineSlot line ⌝ }
 {
     let f = line_fields(line);
@@ -252,8 +238,8 @@ fn write_fields(
     out: &mut [u8],
     at: usize,
     n: usize,
-    widths: [usize; 18],
-    values: [u32; 18],
+    widths: [usize; SLOT],
+    values: [u32; SLOT],
 ) -> usize
     requires { ⌜ Writable (8 * length (now out)) at n widths values ⌝ }
     ensures { λ r. ⌜ Wrote (bitsOf (now (out .entry))) at (fieldsIn n widths values) (bitsOf (now (out .exit))) r ⌝ }

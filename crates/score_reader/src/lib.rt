@@ -4,7 +4,6 @@ use base_bitstream::FieldRead;
 use score_line::Line;
 use score_line::LineRead;
 ghost use mathlib.Core.Path.{_≡_};
-ghost use Prim.Native.Nat.{_-_, _<_};
 ghost use mathlib.Core.List.{[]};
 ghost use Rattle.base_bitstream.specs.Bits.{bitsOf};
 ghost use Rattle.score_reader.specs.Score.{scoreOf, ended, linesFrom, all, unitOf, wholeLine};
@@ -93,15 +92,6 @@ pub fn first(s: &[u8]) -> Cursor
     }
 }
 
-fn one_less(n: usize) -> usize
-    ensures { λ r. ⌜ r ≡ n - 1 ⌝ }
-{
-    if n == 0 {
-        return 0;
-    }
-    n - 1
-}
-
 // The line at a cursor, and the cursor past it.
 pub fn next(s: &[u8], c: Cursor) -> Step
     ensures { λ r. ⌜ r ≡ nextOf (bitsOf (now (s .entry))) c ⌝ }
@@ -114,7 +104,7 @@ pub fn next(s: &[u8], c: Cursor) -> Step
         line: line,
         rest: Cursor {
             at: read.next,
-            left: one_less(c.left),
+            left: base_numbers::one_less(c.left),
         },
     }
 }

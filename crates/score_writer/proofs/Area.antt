@@ -17,6 +17,7 @@ use Rattle.score_line.specs.Reading.{lineInWords, refusedLine}
 use Rattle.score_line.specs.declared.Line.{Line}
 use Rattle.score_line.specs.declared.LineRead.{LineRead}
 use Rattle.score_line_writer.specs.Writing.{lineBits}
+use Rattle.score_line.specs.LineFormat.{slotWords}
 use Rattle.score_line_writer.proofs.Proved.{line-wide, length-line}
 use Rattle.score_writer.specs.Writing.{linesBits}
 use Rattle.score_writer.specs.Slots.{allZero, slotLine, slotRead, areaFault, areaLines}
@@ -50,13 +51,13 @@ module _ (slot : List ℕ) {r : LineRead} {b : Bool} (e : r ≡ lineInWords slot
   slot-refused g = cc
 
 module _ (area : List ℕ) (i : ℕ) where
-  pub slot-in : {r : LineRead} → i < length area / 18 → r ≡ slotLine (take (18 * i + 18 - 18 * i) (drop (18 * i) area)) → r ≡ slotRead area i
+  pub slot-in : {r : LineRead} → i < length area / slotWords → r ≡ slotLine (take (slotWords * i + slotWords - slotWords * i) (drop (slotWords * i) area)) → r ≡ slotRead area i
   unfolding slotRead
-  slot-in h e = let n : 18 * i + 18 - 18 * i ≡ 18 = omega arith in cc (lt-ltb i (length area / 18) h)
+  slot-in h e = let n : slotWords * i + slotWords - slotWords * i ≡ slotWords = omega arith in cc (lt-ltb i (length area / slotWords) h)
 
-  pub slot-out : {r : LineRead} → length area / 18 ≤ i → r ≡ refusedLine answer.CutShort → r ≡ slotRead area i
+  pub slot-out : {r : LineRead} → length area / slotWords ≤ i → r ≡ refusedLine answer.CutShort → r ≡ slotRead area i
   unfolding slotRead
-  slot-out h e = cc (le-ltb i (length area / 18) h)
+  slot-out h e = cc (le-ltb i (length area / slotWords) h)
 
 -- ---- the first fault
 

@@ -19,7 +19,7 @@ use Rattle.base_bitstream.specs.Bits.{bitsOf, field}
 use Rattle.base_bitstream.specs.Fields.{farthest, over}
 use Rattle.base_bitstream.specs.Filling.{filledUp, bytesOf}
 use Rattle.base_bitstream.proofs.Fields.{drop-over, bitsOf-inj}
-use Rattle.score_line.specs.LineFormat.{valid}
+use Rattle.score_line.specs.LineFormat.{slotWords, valid}
 use Rattle.score_line.specs.Reading.{lineAt, keypadLine, lineRead}
 use Rattle.score_line.specs.declared.Line.{Line}
 use Rattle.score_line.specs.declared.LineRead.{LineRead}
@@ -78,7 +78,7 @@ pub keypad-written-back : KeypadWrittenBack
 keypad-written-back ws h e =
     let r = keypadLine ws in
     let k = words-written-back ws (r .line) (r .next) h (as-taken r (zero-is (r .answer) e)) in
-    slot-split (r .line) ∙ ap (λ (x : List ℕ). x ++ replicate (18 - length x) 0) (k .1)
+    slot-split (r .line) ∙ ap (λ (x : List ℕ). x ++ replicate (slotWords - length x) 0) (k .1)
 
 -- ---- bytes that were told
 
@@ -124,25 +124,25 @@ pub record Decodes (ls : List Line) (old new : List ℕ) (r : Decoded) : Type 0 
   pub is : r ≡ record { answer = answer.Taken; line = 0; count = length ls }
   pub words : new ≡ areaWords ls ++ drop (length (areaWords ls)) old
 
-pub decodes : (s : Score) (ls : List Line) (old new : List ℕ) (r : Decoded) → s .answer ≡ answer.Taken → s .lines ≡ ls → 18 * length ls ≤ length old → DecodesTo s old new r → Decodes ls old new r
+pub decodes : (s : Score) (ls : List Line) (old new : List ℕ) (r : Decoded) → s .answer ≡ answer.Taken → s .lines ≡ ls → slotWords * length ls ≤ length old → DecodesTo s old new r → Decodes ls old new r
 unfolding decodedOf areaAfter laid
-decodes s ls old new r a e h d = let k = le-leb (18 * length ls) (length old) h in record { is = cc (d .told); words = cc (d .area) }
+decodes s ls old new r a e h d = let k = le-leb (slotWords * length ls) (length old) h in record { is = cc (d .told); words = cc (d .area) }
 
 -- what was decoded was read, and had room
-pub decoded-zero : (s : Score) (old new : List ℕ) (r : Decoded) → DecodesTo s old new r → numberOf (r .answer) ≡ 0 → (s .answer ≡ answer.Taken) × (18 * length (s .lines) ≤ length old)
+pub decoded-zero : (s : Score) (old new : List ℕ) (r : Decoded) → DecodesTo s old new r → numberOf (r .answer) ≡ 0 → (s .answer ≡ answer.Taken) × (slotWords * length (s .lines) ≤ length old)
 unfolding decodedOf
 decoded-zero s old new r d z =
     cases (isTaken (s .answer))
-    (λ e. cases (leb (18 * length (s .lines)) (length old)) (λ f. (taken-is (s .answer) e, leb-true (18 * length (s .lines)) (length old) f))
+    (λ e. cases (leb (slotWords * length (s .lines)) (length old)) (λ f. (taken-is (s .answer) e, leb-true (slotWords * length (s .lines)) (length old) f))
     (λ f. never (r .answer) z (cc (d .told ∙ cond-true _ _ e ∙ cond-false _ _ f))))
     (λ e. never (r .answer) z (cc (d .told ∙ cond-false _ _ e)))
 
 -- lines whose words are the first n slots of an area
-pub slots-decoded : (area : List ℕ) (n : ℕ) (ls : List Line) (into new : List ℕ) (d : Decoded) → length ls ≡ n → areaWords ls ≡ take (18 * n) area → length (take (18 * n) area) ≡ 18 * n
+pub slots-decoded : (area : List ℕ) (n : ℕ) (ls : List Line) (into new : List ℕ) (d : Decoded) → length ls ≡ n → areaWords ls ≡ take (slotWords * n) area → length (take (slotWords * n) area) ≡ slotWords * n
     → Decodes ls into new d → SlotsBack area n into new d
 slots-decoded area n ls into new d c e m k = record { number = cc (k .is); line = cc (k .is); count = cc (k .is); words = cc (k .words) }
 
-pub words-long : (ls : List Line) → T (allValid ls) → length (areaWords ls) ≡ 18 * length ls
+pub words-long : (ls : List Line) → T (allValid ls) → length (areaWords ls) ≡ slotWords * length ls
 unfolding areaWords allValid
 words-long [] h = refl
 words-long (l ∷ ls) h =
@@ -158,7 +158,7 @@ score-read-back area out bytes into new n w d h done z dec room =
     let b = slots-back area n 0 h (k .fault) in
     let c : length ls ≡ n = lines-count area n 0 in
     let s : scoreOf (bitsOf (take (w .bytes) bytes)) ≡ score.taken ls = ap (λ (x : List ℕ). scoreOf (bitsOf x)) (k .bytes) ∙ score-bytes-read ls (b .0) (omega (arith, k .few)) in
-    slots-decoded area n ls into new d c (b .1) (sym (ap length (b .1)) ∙ words-long ls (b .0) ∙ ap (λ (j : ℕ). 18 * j) c)
+    slots-decoded area n ls into new d c (b .1) (sym (ap length (b .1)) ∙ words-long ls (b .0) ∙ ap (λ (j : ℕ). slotWords * j) c)
     (decodes (scoreOf (bitsOf (take (w .bytes) bytes))) ls into new d (ap (λ (x : Score). x .answer) s) (ap (λ (x : Score). x .lines) s) (omega arith) dec)
 
 pub score-written-back : ScoreWrittenBack
@@ -225,7 +225,7 @@ slot-read-back area out bytes into new w d h done z dec room =
     let s = slot-of area 0 h (u .0) in
     let r = unit-bytes-read l (s .0) in
     let e : unitOf (bitsOf (take (w .bytes) bytes)) ≡ unitOf (bitsOf (unitBytes l)) = ap (λ (x : List ℕ). unitOf (bitsOf x)) (k .bytes) in
-    let m : areaWords (l ∷ []) ≡ take 18 area = append-nil (lineSlot l) ∙ s .1 in
+    let m : areaWords (l ∷ []) ≡ take slotWords area = append-nil (lineSlot l) ∙ s .1 in
     slots-decoded area 1 (l ∷ []) into new d refl m (sym (ap length (s .1)) ∙ slot-long l (values-long l (s .0)))
     (decodes (carried (unitOf (bitsOf (take (w .bytes) bytes)))) (l ∷ []) into new d (ap (λ (x : LineRead). x .answer) e ∙ r .answer) (ap (λ (x : LineRead). x .line ∷ []) e ∙ ap (λ (x : Line). x ∷ []) (r .line)) room dec)
 

@@ -18,11 +18,11 @@ use Rattle.base_answer.specs.declared.Answer.{Answer}
 use Rattle.base_answer.specs.declared.Answer.the-variants as answer
 use Rattle.base_bitstream.proofs.Window.{below-take}
 use Rattle.base_formats.specs.Format.{all}
-use Rattle.score_line.specs.LineFormat.{valid}
+use Rattle.score_line.specs.LineFormat.{slotWords, valid}
 use Rattle.score_line.specs.Reading.{lineInWords, refusedLine, wholeRun, keypadLine}
 use Rattle.score_line.specs.declared.Line.{Line}
 use Rattle.score_line.specs.declared.LineRead.{LineRead}
-use Rattle.score_line_writer.specs.Writing.{lineFields, lineWords, toEighteen, lineFault, lineSlot}
+use Rattle.score_line_writer.specs.Writing.{lineFields, lineWords, toSlot, lineFault, lineSlot}
 use Rattle.score_line_writer.specs.Claims.{taken, asRead}
 use Rattle.score_line_writer.specs.Stored.{storedWhen, storedEvent, stored, normalized}
 use Rattle.base_formats.proofs.InWords.{length-words}
@@ -52,15 +52,15 @@ stored-long l h =
     let v = eqb (length (l .values)) 8 && all (fits binary32) (l .values) in
     eqb→eq (length (l .values)) 8 (and-l (eqb (length (l .values)) 8) (all (fits binary32) (l .values)) (and-r (storedEvent (l .event)) v (and-r (storedWhen (l .when)) (storedEvent (l .event) && v) h)))
 
-pub slot-split : (l : Line) → lineSlot l ≡ lineWords l ++ replicate (18 - length (lineWords l)) 0
-unfolding lineSlot toEighteen
+pub slot-split : (l : Line) → lineSlot l ≡ lineWords l ++ replicate (slotWords - length (lineWords l)) 0
+unfolding lineSlot toSlot
 slot-split l = refl
 
-pub slot-long : (l : Line) → length (l .values) ≡ 8 → length (lineSlot l) ≡ 18
+pub slot-long : (l : Line) → length (l .values) ≡ 8 → length (lineSlot l) ≡ slotWords
 unfolding lineWords
 slot-long l h =
     let w = lineWords l in
-    let f : length w ≤ 18 = omega (arith, line-few l h, length-words (lineFields l)) in
+    let f : length w ≤ slotWords = omega (arith, line-few l h, length-words (lineFields l)) in
     ap length (slot-split l) ∙ simp (length-append, length-replicate) (omega arith)
 
 -- ---- zeros
@@ -85,13 +85,13 @@ slot-here l n h = zeros-behind (lineWords l) n l (words-here (lineWords l ++ rep
 
 -- a valid line's slot is read as that line
 slot-read : (l : Line) → T (valid l) → slotLine (lineSlot l) ≡ taken l (length (lineWords l))
-slot-read l h = ap slotLine (slot-split l) ∙ slot-here l (18 - length (lineWords l)) h
+slot-read l h = ap slotLine (slot-split l) ∙ slot-here l (slotWords - length (lineWords l)) h
 
 -- any line's slot as the line is meant, or with its fault
 slot-any : (l : Line) → T (stored l) → slotLine (lineSlot l) ≡ asRead l (length (lineWords l))
 unfolding slotLine refusedLine
 slot-any l h =
-    let n = 18 - length (lineWords l) in
+    let n = slotWords - length (lineWords l) in
     let r = every-line-read l h .in-words (replicate n 0) in
     ap slotLine (slot-split l)
     ∙ cases (isTaken (lineFault l)) (λ e. zeros-behind (lineWords l) n (normalized l) (r ∙ cond-true _ _ e) ∙ sym (cond-true _ _ e)) (λ e. let s = r ∙ cond-false _ _ e in cc)
@@ -128,8 +128,8 @@ slot-numbers slot h e =
       zeros = cc;
     }
 
--- a slot of 18 words that was taken is the slot of its line
-slot-whole : (slot : List ℕ) → length slot ≡ 18 → ((i : ℕ) → getD slot i 0 < 2 ^ 32) → isTaken (slotLine slot .answer) ≡ true
+-- a slot that was taken is the slot of its line
+slot-whole : (slot : List ℕ) → length slot ≡ slotWords → ((i : ℕ) → getD slot i 0 < 2 ^ 32) → isTaken (slotLine slot .answer) ≡ true
     → T (valid (slotLine slot .line)) × (lineSlot (slotLine slot .line) ≡ slot)
 slot-whole slot n h e =
     let k = slot-numbers slot h e in
@@ -167,19 +167,19 @@ keypad-as-slot ws n h e =
 -- ---- slots of an area
 
 -- the slot that stands there
-slot-there : (area slot more : List ℕ) (i : ℕ) → length slot ≡ 18 → drop (18 * i) area ≡ slot ++ more → slotRead area i ≡ slotLine slot
+slot-there : (area slot more : List ℕ) (i : ℕ) → length slot ≡ slotWords → drop (slotWords * i) area ≡ slot ++ more → slotRead area i ≡ slotLine slot
 unfolding slotRead
 slot-there area slot more i n e =
-    let m : length area - 18 * i ≡ length slot + length more = cc (length-drop (18 * i) area, length-append slot more) in
-    cc (lt-ltb i (length area / 18) (omega arith), take-at slot more 18 n)
+    let m : length area - slotWords * i ≡ length slot + length more = cc (length-drop (slotWords * i) area, length-append slot more) in
+    cc (lt-ltb i (length area / slotWords) (omega arith), take-at slot more slotWords n)
 
-drop-slot : (area slot more : List ℕ) (i : ℕ) → length slot ≡ 18 → drop (18 * i) area ≡ slot ++ more → drop (18 * suc i) area ≡ more
+drop-slot : (area slot more : List ℕ) (i : ℕ) → length slot ≡ slotWords → drop (slotWords * i) area ≡ slot ++ more → drop (slotWords * suc i) area ≡ more
 drop-slot area slot more i n e =
-    let k : 18 * i + 18 ≡ 18 * suc i = omega arith in
-    cc (drop-drop 18 (18 * i) area, drop-at slot more 18 n)
+    let k : slotWords * i + slotWords ≡ slotWords * suc i = omega arith in
+    cc (drop-drop slotWords (slotWords * i) area, drop-at slot more slotWords n)
 
 -- valid lines in an area, whatever lies behind them, are read from it
-pub held-from : (ls : List Line) (area rest : List ℕ) (i : ℕ) → T (allValid ls) → drop (18 * i) area ≡ areaWords ls ++ rest
+pub held-from : (ls : List Line) (area rest : List ℕ) (i : ℕ) → T (allValid ls) → drop (slotWords * i) area ≡ areaWords ls ++ rest
     → (areaFault area (length ls) i .answer ≡ answer.Taken) × (areaLines area (length ls) i ≡ ls)
 unfolding allValid areaWords areaFault areaLines
 held-from [] area rest i h d = (refl, refl)
@@ -196,7 +196,7 @@ pub first-slot : (l : Line) (area rest : List ℕ) → T (valid l) → area ≡ 
 first-slot l area rest h e = slot-there area (lineSlot l) rest 0 (slot-long l (values-long l h)) e ∙ slot-read l h
 
 -- any lines: the first fault of the area is that of the lines, and where there is none they are read as they are meant
-pub stored-from : (ls : List Line) (area rest : List ℕ) (i : ℕ) → T (allStored ls) → drop (18 * i) area ≡ areaWords ls ++ rest
+pub stored-from : (ls : List Line) (area rest : List ℕ) (i : ℕ) → T (allStored ls) → drop (slotWords * i) area ≡ areaWords ls ++ rest
     → (areaFault area (length ls) i ≡ linesFault ls i) × (isTaken (linesFault ls i .answer) ≡ true → areaLines area (length ls) i ≡ map normalized ls)
 unfolding areaWords areaFault areaLines linesFault refusedLine
 stored-from [] area rest i h d = (refl, λ e. refl)
@@ -214,9 +214,9 @@ stored-from (l ∷ ls) area rest i h d =
 -- ---- an area whose slots were all taken
 
 -- a slot that was taken is whole
-pub slot-inside : (area : List ℕ) (i : ℕ) → isTaken (slotRead area i .answer) ≡ true → (18 * i + 18 ≤ length area) × (slotRead area i ≡ slotLine (take 18 (drop (18 * i) area)))
+pub slot-inside : (area : List ℕ) (i : ℕ) → isTaken (slotRead area i .answer) ≡ true → (slotWords * i + slotWords ≤ length area) × (slotRead area i ≡ slotLine (take slotWords (drop (slotWords * i) area)))
 unfolding slotRead refusedLine
-slot-inside area i e = cases (ltb i (length area / 18)) (λ f. (omega (arith, ltb-true i (length area / 18) f), cc)) (λ f. absurd (true≢false (cc)))
+slot-inside area i e = cases (ltb i (length area / slotWords)) (λ f. (omega (arith, ltb-true i (length area / slotWords) f), cc)) (λ f. absurd (true≢false (cc)))
 
 -- the fault of the first slot, and of the others
 pub fault-back : (area : List ℕ) (n i : ℕ) → areaFault area (suc n) i .answer ≡ answer.Taken → (isTaken (slotRead area i .answer) ≡ true) × (areaFault area n (suc i) .answer ≡ answer.Taken)
@@ -225,24 +225,24 @@ fault-back area n i e = cases (isTaken (slotRead area i .answer)) (λ f. (f, cc)
 
 -- the lines of such slots are valid, and the slots are theirs
 pub slot-of : (area : List ℕ) (i : ℕ) → ((j : ℕ) → getD area j 0 < 2 ^ 32) → isTaken (slotRead area i .answer) ≡ true
-    → T (valid (slotRead area i .line)) × (lineSlot (slotRead area i .line) ≡ take 18 (drop (18 * i) area))
+    → T (valid (slotRead area i .line)) × (lineSlot (slotRead area i .line) ≡ take slotWords (drop (slotWords * i) area))
 slot-of area i h e =
     let w = slot-inside area i e in
-    let slot = take 18 (drop (18 * i) area) in
-    let m : length slot ≡ 18 = length-take-le 18 (drop (18 * i) area) (omega (arith, length-drop (18 * i) area, w .0)) in
-    let s = slot-whole slot m (below-take (2 ^ 32) 18 (drop (18 * i) area) (omega arith) (λ j. rw (getD-drop (18 * i) area j 0) (h (18 * i + j))))
+    let slot = take slotWords (drop (slotWords * i) area) in
+    let m : length slot ≡ slotWords = length-take-le slotWords (drop (slotWords * i) area) (omega (arith, length-drop (slotWords * i) area, w .0)) in
+    let s = slot-whole slot m (below-take (2 ^ 32) slotWords (drop (slotWords * i) area) (omega arith) (λ j. rw (getD-drop (slotWords * i) area j 0) (h (slotWords * i + j))))
     (sym (ap (λ (x : LineRead). isTaken (x .answer)) (w .1)) ∙ e) in
     subst (λ (x : LineRead). T (valid (x .line)) × (lineSlot (x .line) ≡ slot)) (sym (w .1)) s
 
 pub slots-back : (area : List ℕ) (n i : ℕ) → ((j : ℕ) → getD area j 0 < 2 ^ 32) → areaFault area n i .answer ≡ answer.Taken
-    → T (allValid (areaLines area n i)) × (areaWords (areaLines area n i) ≡ take (18 * n) (drop (18 * i) area))
+    → T (allValid (areaLines area n i)) × (areaWords (areaLines area n i) ≡ take (slotWords * n) (drop (slotWords * i) area))
 unfolding areaLines allValid areaWords
 slots-back area zero i h e = (tt, refl)
 slots-back area (suc n) i h e =
     let f = fault-back area n i e in
     let s = slot-of area i h (f .0) in
     let k = slots-back area n (suc i) h (f .1) in
-    let a : 18 * suc n ≡ 18 + 18 * n = omega arith in
-    let c : 18 * i + 18 ≡ 18 * suc i = omega arith in
-    let d = drop (18 * i) area in
-    (and-i (valid (slotRead area i .line)) (allValid (areaLines area n (suc i))) (s .0) (k .0), cc (s .1, k .1, take-add 18 (18 * n) d, drop-drop 18 (18 * i) area))
+    let a : slotWords * suc n ≡ slotWords + slotWords * n = omega arith in
+    let c : slotWords * i + slotWords ≡ slotWords * suc i = omega arith in
+    let d = drop (slotWords * i) area in
+    (and-i (valid (slotRead area i .line)) (allValid (areaLines area n (suc i))) (s .0) (k .0), cc (s .1, k .1, take-add slotWords (slotWords * n) d, drop-drop slotWords (slotWords * i) area))

@@ -11,10 +11,10 @@ use lib.Seq.{take-at}
 use Rattle.base_bitstream.specs.Bits.{bitsOf, field, bit}
 use Rattle.base_bitstream.specs.Fields.{over, farthest}
 use Rattle.base_bitstream.specs.inside.Fields.{written}
-use Rattle.base_bitstream.specs.Filling.{missing, filledUp, bytesFrom, bytesOf}
+use Rattle.base_bitstream.specs.Filling.{missing, filledUp, bytesOf}
 use Rattle.base_bitstream.proofs.BitValues.{length-bitsOf, length-field}
 use Rattle.base_bitstream.proofs.Fields.{over-over, written-over}
-use Rattle.base_bitstream.proofs.Filling.{length-filledUp, bytesOf-bitsOf}
+use Rattle.base_bitstream.proofs.Filling.{length-filledUp, bytesOf-bitsOf, length-bytesFrom}
 use Rattle.base_bitstream.proofs.Window.{bitsOf-take, bytes-after, below-take}
 use Rattle.score_line.specs.declared.Line.{Line}
 use Rattle.score_line.specs.declared.LineRead.{LineRead}
@@ -111,11 +111,6 @@ module _ (first s t : List ℕ) (w v p : ℕ) (body : List Bool) (small : w ≤ 
         cc (a .stands, zero-add (length l), over-over (bitsOf first) 0 l (omega (arith, room .within)) z (omega (arith, room .within)))
 
 -- ---- bits that fill bytes, as bytes
-
-length-bytesFrom : (n : ℕ) (l : List Bool) → length (bytesFrom n l) ≡ n
-unfolding bytesFrom
-length-bytesFrom zero l = refl
-length-bytesFrom (suc n) l = ap suc (length-bytesFrom n (drop 8 l))
 
 pub length-bytes : (b : List Bool) → length (bytesOf (filledUp b)) ≡ (length b + 7) / 8
 unfolding bytesOf

@@ -10,7 +10,7 @@ use Rattle.base_answer.specs.Numbers.{numberOf, isTaken}
 use Rattle.base_answer.specs.declared.Answer.the-variants.{Taken, OutOfRange}
 use Rattle.base_bitstream.specs.Bits.{bitsOf}
 use Rattle.base_bitstream.specs.Fields.{farthest}
-use Rattle.score_line.specs.LineFormat.{valid}
+use Rattle.score_line.specs.LineFormat.{slotWords, valid}
 use Rattle.score_line.specs.Reading.{lineAt, keypadLine}
 use Rattle.score_line.specs.declared.Line.{Line}
 use Rattle.score_line.specs.declared.LineRead.{LineRead}
@@ -58,7 +58,7 @@ KeypadReadBack = (l : Line) → T (valid l) → Took (keypadLine (lineWords l)) 
 
 -- numbers that the keypad took, then zeros, are the slot of the line
 abbrev pub KeypadWrittenBack : Type 0
-KeypadWrittenBack = (ws : List ℕ) → Words ws → numberOf (keypadLine ws .answer) ≡ 0 → lineSlot (keypadLine ws .line) ≡ ws ++ replicate (18 - length ws) 0
+KeypadWrittenBack = (ws : List ℕ) → Words ws → numberOf (keypadLine ws .answer) ≡ 0 → lineSlot (keypadLine ws .line) ≡ ws ++ replicate (slotWords - length ws) 0
 
 -- ---- scores: `score_decoder::decode_score` and `score_writer::write_score`
 
@@ -67,13 +67,13 @@ pub record SlotsBack (area : List ℕ) (n : ℕ) (into new : List ℕ) (d : Deco
   pub number : numberOf (d .answer) ≡ 0
   pub line : d .line ≡ 0
   pub count : d .count ≡ n
-  pub words : new ≡ take (18 * n) area ++ drop (18 * n) into
+  pub words : new ≡ take (slotWords * n) area ++ drop (slotWords * n) into
 
 abbrev pub ScoreReadBack : Type 0
 ScoreReadBack =
     (area out bytes into new : List ℕ) (n : ℕ) (w : WriteResult) (d : Decoded) → Words area
     → ScoreDone area n out bytes w → numberOf (w .answer) ≡ 0
-    → DecodesTo (scoreOf (bitsOf (take (w .bytes) bytes))) into new d → 18 * n ≤ length into → SlotsBack area n into new d
+    → DecodesTo (scoreOf (bitsOf (take (w .bytes) bytes))) into new d → slotWords * n ≤ length into → SlotsBack area n into new d
 
 -- bytes that were decoded, written into any bytes that have room for them, are the first; the others are as they were
 pub record BytesBack (s out new : List ℕ) (w : WriteResult) : Type 0 where
@@ -105,7 +105,7 @@ abbrev pub SlotReadBack : Type 0
 SlotReadBack =
     (area out bytes into new : List ℕ) (w : WriteResult) (d : Decoded) → Words area
     → SlotDone area out bytes w → numberOf (w .answer) ≡ 0
-    → DecodesTo (carried (unitOf (bitsOf (take (w .bytes) bytes)))) into new d → 18 ≤ length into → SlotsBack area 1 into new d
+    → DecodesTo (carried (unitOf (bitsOf (take (w .bytes) bytes)))) into new d → slotWords ≤ length into → SlotsBack area 1 into new d
 
 abbrev pub SlotWrittenBack : Type 0
 SlotWrittenBack =

@@ -1,4 +1,4 @@
--- The lines of an area of words, a slot of 18 words to a line. Definitions only.
+-- The lines of an area of words, a slot to a line. Definitions only.
 use Prim.Native.Nat.{ℕ, zero, suc, _*_, _/_}
 use mathlib.Core.Bool.{Bool, true, _&&_, cond}
 use mathlib.Core.List.{List, [], _∷_}
@@ -8,6 +8,7 @@ use Rattle.base_answer.specs.Numbers.{isTaken}
 use Rattle.base_answer.specs.declared.Answer.the-variants.{Taken, CutShort, LeftOver}
 use Rattle.score_line.specs.Reading.{lineInWords, refusedLine}
 use Rattle.score_line.specs.declared.Line.{Line}
+use Rattle.score_line.specs.LineFormat.{slotWords}
 use Rattle.score_line.specs.declared.LineRead.{LineRead}
 use Rattle.score_reader.specs.declared.ScoreRead.{ScoreRead}
 
@@ -21,7 +22,7 @@ slotLine slot = cond (isTaken (lineInWords slot 0 .answer)) (cond (allZero (drop
 
 -- the slot of number i; numbers are lacking where the area does not hold it whole
 unfoldable pub slotRead : List ℕ → ℕ → LineRead
-slotRead area i = cond (ltb i (length area / 18)) (slotLine (take 18 (drop (18 * i) area))) (refusedLine CutShort)
+slotRead area i = cond (ltb i (length area / slotWords)) (slotLine (take slotWords (drop (slotWords * i) area))) (refusedLine CutShort)
 
 -- the first fault among n slots from number i on, with its line's number
 unfoldable pub areaFault : List ℕ → ℕ → ℕ → ScoreRead

@@ -1,7 +1,8 @@
-// Scores and access units written as bytes: from an area of words, a slot of 18 words to a line, and a unit from a line.
+// Scores and access units written as bytes: from an area of words, a slot to a line, and a unit from a line.
 use base_answer::Answer;
 use score_line::Line;
 use score_line::LineRead;
+use score_line::SLOT;
 use score_reader::ScoreRead;
 ghost use mathlib.Core.Path.{_≡_};
 ghost use Prim.Native.Nat.{_*_, _≤_};
@@ -16,11 +17,8 @@ ghost use Rattle.score_writer.specs.Slots.{allZero, slotLine, slotRead, 
 ghost use Rattle.score_writer.specs.inside.Laid.{Laid, RoomAt, Short};
 ghost use Rattle.score_writer.specs.Written.{ScoreDone, UnitDone, SlotDone};
 
-// The words of a slot.
-const SLOT: usize = 18;
-
 // The most lines that 20 bits can count.
-const MOST_LINES: usize = 1_048_575;
+pub const MOST_LINES: usize = 1_048_575;
 
 // What writing gives: the answer, the number of the line that it is about, and how many bytes were written.
 pub struct WriteResult {

@@ -15,7 +15,7 @@ use Rattle.base_answer.specs.declared.Answer.the-variants as answers
 use Rattle.base_bitstream.specs.Bits.{field, bitsOf, valueOf}
 use Rattle.base_bitstream.specs.Filling.{missing, filledUp, bytesFrom}
 use Rattle.base_bitstream.proofs.BitValues.{length-field, valueOf-field, field-valueOf, valueOf-lt, length-bitsOf}
-use Rattle.base_bitstream.proofs.Filling.{zeros-value, value-zeros, filled-up, bytesFrom-bits}
+use Rattle.base_bitstream.proofs.Filling.{zeros-value, value-zeros, filled-up, bytesFrom-bits, length-bytesFrom}
 use Rattle.symbol_names.specs.Form.{Names, countBits, lengthBits, nameBits, namesBits, tableBits, Bytes, ValidName, ValidNames, ValidTable, holds, refused}
 use Rattle.symbol_names.specs.inside.Reading.{Read, got, cut, andThen, numberFrom, stretchFrom, nameFrom, namesFrom, tableFrom, isFilling, judged, tableOf}
 use Rattle.symbol_names.specs.Claims.{LeftOver, Verdict, encodes, is-cut, left-over, EveryTable, TableRead, TableCut, TableLeftOver, OneTable}
@@ -66,11 +66,6 @@ number-here n v r h =
 abbrev Stretch : ℕ → List ℕ → Type 0
 Stretch n s = (length s ≡ n) × Bytes s
 
-length-from : (n : ℕ) (l : List Bool) → length (bytesFrom n l) ≡ n
-unfolding bytesFrom
-length-from zero l = refl
-length-from (suc n) l = ap suc (length-from n (drop 8 l))
-
 bytes-from : (n : ℕ) (l : List Bool) → 8 * n ≤ length l → Bytes (bytesFrom n l)
 unfolding bytesFrom
 bytes-from zero l h i = omega arith
@@ -89,7 +84,7 @@ from-take (suc n) l h =
 
 stretch-met : (n : ℕ) (l : List Bool) → Met bitsOf (Stretch n) l (stretchFrom n l)
 unfolding stretchFrom
-stretch-met n l = fixed-met (8 * n) (bytesFrom n) bitsOf (Stretch n) (λ x h. (from-take n x h, (length-from n x, bytes-from n x h))) l
+stretch-met n l = fixed-met (8 * n) (bytesFrom n) bitsOf (Stretch n) (λ x h. (from-take n x h, (length-bytesFrom n x, bytes-from n x h))) l
 
 -- what follows does not matter
 from-append : (n : ℕ) (x r : List Bool) → 8 * n ≤ length x → bytesFrom n (x ++ r) ≡ bytesFrom n x

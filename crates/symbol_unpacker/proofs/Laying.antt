@@ -9,6 +9,7 @@ use native.Mathlib.Numerals.{add-one}
 use borrow.Author.Tests.{lt-leb}
 use lib.ListN.{length, getD, set, take, drop, length-drop, length-append, length-set, take-append-drop}
 use lib.Seq.{take-at, drop-drop, drop-append-add, length-take-le, take-suc-set, drop-set-lt, paste, paste-zero, paste-suc, take-all, append-snoc}
+use Rattle.base_bitstream.proofs.Filling.{length-bytesFrom}
 use Rattle.base_laws.proofs.Choice.{cond-false}
 use Rattle.base_answer.specs.declared.Answer.{Answer}
 use Rattle.base_answer.specs.declared.Answer.the-variants.{Taken, NoRoom}
@@ -24,7 +25,7 @@ use Rattle.symbol_unpacker.specs.Passes.{numberAt, namesOf, judgement, l
 use Rattle.symbol_unpacker.specs.declared.Judged.{Judged}
 use Rattle.symbol_unpacker.specs.declared.Judged.the-variants.{Names as Holds, Refused}
 use Rattle.symbol_unpacker.specs.declared.Unpacked.{Unpacked}
-use Rattle.symbol_unpacker.proofs.Steps.{size, past, Next, next, length-bytes}
+use Rattle.symbol_unpacker.proofs.Steps.{size, past, Next, next}
 use Rattle.symbol_unpacker.proofs.Measuring.{held}
 
 abbrev answered : Answer → ℕ → Unpacked
@@ -82,7 +83,7 @@ module _ {table buffer₀ buffer : List ℕ} {at n to j : ℕ} (c : Copying tabl
   pub copy-again : {b : ℕ} → j < n → b ≡ numberAt (bitsOf table) (at + 8 * j) 8 → Copying table buffer₀ (set buffer (to + j) b) at n to (j + 1)
   unfolding numberAt
   copy-again {b} h e =
-      let k = length-bytes n (drop at (bitsOf table)) in
+      let k = length-bytesFrom n (drop at (bitsOf table)) in
       let p = paste-suc buffer₀ to bytes j 0 (omega (arith, c .copies .place)) (omega arith) in
       record {
         copies = c .copies;
@@ -94,7 +95,7 @@ module _ {table buffer₀ buffer : List ℕ} {at n to j : ℕ} (c : Copying tabl
   pub copy-ends : n ≤ j → buffer ≡ laidAt to bytes buffer₀
   unfolding laidAt
   copy-ends h =
-      let k = length-bytes n (drop at (bitsOf table)) in
+      let k = length-bytesFrom n (drop at (bitsOf table)) in
       let e : j ≡ n = omega (arith, c .counted) in
       cc (c .stands, append-assoc (take to buffer₀) (take n bytes) (drop (to + n) buffer₀), take-all n bytes (omega arith))
 
@@ -158,7 +159,7 @@ lay-starts table count buffer h =
 
 length-entry : (bits : List Bool) (at : ℕ) → length (entryAt bits at) ≡ 1 + size bits at
 unfolding entryAt
-length-entry bits at = omega (arith, length-bytes (size bits at) (drop (at + lengthBits) bits))
+length-entry bits at = omega (arith, length-bytesFrom (size bits at) (drop (at + lengthBits) bits))
 
 module _ {table : List ℕ} {count : ℕ} {buffer₀ buffer : List ℕ} {at to i : ℕ} (l : Laying table count buffer₀ buffer at to i) (h : i < count) where
   abbrev bits : List Bool

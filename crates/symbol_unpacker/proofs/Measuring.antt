@@ -9,6 +9,7 @@ use lib.ListN.{length, take, drop, length-drop, length-append}
 use lib.Seq.{drop-at, drop-drop, length-take-le}
 use borrow.Table.Steps.{cases}
 use lib.Dec.{leb, ltb}
+use Rattle.base_bitstream.proofs.Filling.{length-bytesFrom}
 use Rattle.base_laws.proofs.Choice.{cond-true, cond-false}
 use Rattle.base_answer.specs.declared.Answer.the-variants.{CutShort, LeftOver}
 use Rattle.base_bitstream.specs.Bits.{bitsOf, valueOf}
@@ -27,7 +28,7 @@ use Rattle.symbol_unpacker.specs.declared.Extent.{Extent}
 use Rattle.symbol_unpacker.specs.declared.Extent.the-variants.{Whole, Cut}
 use Rattle.symbol_unpacker.specs.declared.Judged.{Judged}
 use Rattle.symbol_unpacker.specs.declared.Judged.the-variants.{Names as Holds, Refused}
-use Rattle.symbol_unpacker.proofs.Steps.{past, names-cut-length, names-cut, names-next, length-bytes}
+use Rattle.symbol_unpacker.proofs.Steps.{past, names-cut-length, names-cut, names-next}
 
 pub record Measures (table : List ℕ) (count at total i : ℕ) : Type 0 where
   pub counted : i ≤ count
@@ -81,7 +82,7 @@ module _ {table : List ℕ} {count at total i : ℕ} (m : Measures table count a
         measure-again c₂ =
             let g = ltb-false (8 * length table) (at + 4 + 8 * n) (sym c₁ ∙ c₂) in
             let name = bytesFrom (numberAt bits at lengthBits) (drop (at + lengthBits) bits) in
-            let long : length name ≡ n = length-bytes (numberAt bits at lengthBits) (drop (at + lengthBits) bits) ∙ sym (e .0) in
+            let long : length name ≡ n = length-bytesFrom (numberAt bits at lengthBits) (drop (at + lengthBits) bits) ∙ sym (e .0) in
             let more = name-measured bits total n name (namesFrom others (drop (past bits at) bits)) long in
             let l = length-bitsOf table in
             record {

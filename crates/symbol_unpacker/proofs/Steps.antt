@@ -9,6 +9,7 @@ use borrow.Table.Steps.{cases}
 use lib.ListN.{length, take, drop, length-drop}
 use lib.Seq.{drop-drop, length-take-le}
 use lib.Dec.{leb, ltb}
+use Rattle.base_bitstream.proofs.Filling.{length-bytesFrom}
 use Rattle.base_bitstream.specs.Bits.{bitsOf}
 use Rattle.base_bitstream.specs.inside.Fields.{Room}
 use Rattle.base_bitstream.specs.Filling.{bytesFrom}
@@ -95,11 +96,6 @@ pub names-next : (bits : List Bool) (k at : ℕ) → at + lengthBits ≤ length 
 unfolding namesFrom
 names-next bits k at h g = ap (λ (m : Read (List ℕ)). behind m k) (name-there bits at h g)
 
-pub length-bytes : (n : ℕ) (l : List Bool) → length (bytesFrom n l) ≡ n
-unfolding bytesFrom
-length-bytes zero l = refl
-length-bytes (suc n) l = ap suc (length-bytes n (drop 8 l))
-
 -- whole names: the first stands there, and the others behind it
 pub record Next (bits : List Bool) (k at : ℕ) : Type 0 where
   pub opened : at + lengthBits ≤ length bits
@@ -130,5 +126,5 @@ next bits k at w =
 
     others : (m : Read Names) → isWhole (andThen m (λ names q. got (name ∷ names) q)) ≡ true
         → (isWhole m ≡ true) × (listed (andThen m (λ names q. got (name ∷ names) q)) ≡ size bits at ∷ (name ++ listed m))
-    others (got names q) h = (refl, ap (λ (n : ℕ). n ∷ (name ++ listBytes names)) (length-bytes (size bits at) (drop (at + lengthBits) bits)))
+    others (got names q) h = (refl, ap (λ (n : ℕ). n ∷ (name ++ listBytes names)) (length-bytesFrom (size bits at) (drop (at + lengthBits) bits)))
     others cut h = absurd (true≢false (sym h))

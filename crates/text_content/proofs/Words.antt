@@ -1,15 +1,14 @@
 -- The keypad numbers of what was said, put together. Assumes nothing.
 use Prim.Native.Nat.{ℕ, _+_, _≤_, _<_, min as lesser}
-use mathlib.Core.Path.{_≡_, refl, sym, ap, ap₂, _∙_}
-use mathlib.Core.Bool.{Bool, true, false}
+use mathlib.Core.Path.{_≡_, sym, ap, ap₂, _∙_}
+use mathlib.Core.Bool.{Bool}
 use mathlib.Core.List.{List, [], _∷_, _++_}
 use mathlib.Core.Option.{none, some}
 use native.Mathlib.Omega.{arith}
-use borrow.Author.Tests.{leb-true, leb-false}
-use lib.Dec.{leb}
 use lib.ListN.{length, getD, take, drop-of-length-le}
 use lib.Seq.{drop-cons, take-all, length-take-le, take-append-add}
 use lib.Ieee.{Float}
+use Rattle.base_laws.proofs.Lists.{take-min}
 use Rattle.score_line.specs.Reading.{lineInWords}
 use Rattle.score_line.specs.LineFormat.{labelParts}
 use Rattle.score_line.specs.declared.Label.{Label}
@@ -69,22 +68,11 @@ eight-are l h =
       drop-of-length-le l {i = 8} (omega arith),
     )
 
--- a count past the eight reads no further
-take-eight : (l : List ℕ) (n : ℕ) → length l ≡ 8 → take (lesser n 8) l ≡ take n l
-take-eight l n h = go (leb n 8) refl
-  where
-    go : (b : Bool) → leb n 8 ≡ b → take (lesser n 8) l ≡ take n l
-    go true k = let e : lesser n 8 ≡ n = omega (arith, leb-true n 8 k) in ap (λ (j : ℕ). take j l) e
-    go false k =
-        let m = leb-false n 8 k in
-        let e : lesser n 8 ≡ 8 = omega arith in
-        ap (λ (j : ℕ). take j l) e ∙ take-all 8 l (omega arith) ∙ sym (take-all n l (omega arith))
-
 module _ (t p name d : ℕ) (k : ValueBits) (long : length (k .bits) ≡ 8) {c m : ℕ} (e : c ≡ lesser (k .count) 9) (f : m ≡ lesser (k .count) 8) where
   -- the numbers before the values, and then the values
   behind : (head : List ℕ) → take (length head + m) (head ++ all-eight (k .bits)) ≡ head ++ take (k .count) (k .bits)
   behind head =
-      cc (take-append-add head (all-eight (k .bits)) m, eight-are (k .bits) long, take-eight (k .bits) (k .count) long)
+      cc (take-append-add head (all-eight (k .bits)) m, eight-are (k .bits) long, take-min (k .bits) (k .count) 8 long)
 
   pub labelled-judged : (l : ℕ) {r : LineRead} → r ≡ lineInWords (take (10 + m) (1 ∷ (0 ∷ (t ∷ (p ∷ (0 ∷ (1 ∷ (l ∷ (name ∷ (d ∷ (c ∷ all-eight (k .bits)))))))))))) 0
       → r ≡ lineInWords (instrNumbers t p (some l) name d k) 0

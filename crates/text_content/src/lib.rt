@@ -1,6 +1,11 @@
 // What a line of text says, judged by the stick's rules: its keypad numbers, read by the one reader of lines.
+use score_line::CONTROL;
+use score_line::END;
+use score_line::INSTR;
 use score_line::Label;
 use score_line::LineRead;
+use score_line::MOST_VALUES;
+use score_line::TEMPO;
 ghost use mathlib.Core.Path.{_≡_};
 ghost use Prim.Native.Nat.{min as lesser};
 ghost use mathlib.Core.Option.{none, some};
@@ -10,18 +15,6 @@ ghost use Rattle.score_line.specs.Reading.{lineInWords};
 ghost use Rattle.text_format.specs.Content.{flag};
 ghost use Rattle.text_format.specs.Content as content;
 ghost use Rattle.text_content.specs.Judged.{judgedAt, withValue, instrNumbers, instrWords};
-
-// The numbers of the line types.
-const INSTR: u32 = 0;
-
-const CONTROL: u32 = 1;
-
-const END: u32 = 4;
-
-const TEMPO: u32 = 5;
-
-// The values that a line holds.
-const MOST_VALUES: usize = 8;
 
 // The first 8 of some values, by their bits, and how many values there are; 9 stands for every number above 8.
 pub struct ValueBits {
@@ -36,7 +29,7 @@ pub fn with_value(k: ValueBits, x: f32) -> ValueBits
     let n = k.count;
     let mut bits = k.bits;
     if n < MOST_VALUES {
-        bits[n] = score_line_writer::float_bits(x);
+        bits[n] = base_numbers::float_bits(x);
         return ValueBits {
             count: n + 1,
             bits: bits,
@@ -52,12 +45,6 @@ fn flag_of(b: bool) -> u32
     ensures { λ r. ⌜ r ≡ flag b ⌝ }
 {
     if b { 1 } else { 0 }
-}
-
-fn at_most_eight(n: usize) -> usize
-    ensures { λ r. ⌜ r ≡ lesser n 8 ⌝ }
-{
-    if n < MOST_VALUES { n } else { MOST_VALUES }
 }
 
 fn count_of(n: usize) -> u32
@@ -82,7 +69,7 @@ pub fn end_line(priority: bool, time: f32) -> LineRead
     let words = [
         1u32,
         0,
-        score_line_writer::float_bits(time),
+        base_numbers::float_bits(time),
         flag_of(priority),
         END,
     ];
@@ -95,10 +82,10 @@ pub fn tempo_line(priority: bool, time: f32, tempo: f32) -> LineRead
     let words = [
         1u32,
         0,
-        score_line_writer::float_bits(time),
+        base_numbers::float_bits(time),
         flag_of(priority),
         TEMPO,
-        score_line_writer::float_bits(tempo),
+        base_numbers::float_bits(tempo),
     ];
     score_line_reader::line_in_words(&words, 0)
 }
@@ -106,9 +93,9 @@ pub fn tempo_line(priority: bool, time: f32, tempo: f32) -> LineRead
 pub fn control_line(priority: bool, time: f32, label: Label, name: u16, value: f32) -> LineRead
     ensures { λ r. ⌜ r ≡ judgedAt priority time (content.control (labelParts label) name value) ⌝ }
 {
-    let t = score_line_writer::float_bits(time);
+    let t = base_numbers::float_bits(time);
     let p = flag_of(priority);
-    let v = score_line_writer::float_bits(value);
+    let v = base_numbers::float_bits(value);
     match label {
         Label::Labelled(l) => {
             let words = [1u32, 0, t, p, CONTROL, 1, l as u32, name as u32, v];
@@ -146,7 +133,7 @@ fn labelled_instr(t: u32, p: u32, l: u32, name: u32, d: u32, k: ValueBits) -> Li
         v[6],
         v[7],
     ];
-    first_words(&words, 10 + at_most_eight(k.count))
+    first_words(&words, 10 + base_numbers::at_most(k.count, MOST_VALUES))
 }
 
 fn unlabelled_instr(t: u32, p: u32, name: u32, d: u32, k: ValueBits) -> LineRead
@@ -172,7 +159,7 @@ fn unlabelled_instr(t: u32, p: u32, name: u32, d: u32, k: ValueBits) -> LineRead
         v[6],
         v[7],
     ];
-    first_words(&words, 9 + at_most_eight(k.count))
+    first_words(&words, 9 + base_numbers::at_most(k.count, MOST_VALUES))
 }
 
 pub fn instr_line(
@@ -185,9 +172,9 @@ pub fn instr_line(
 ) -> LineRead
     ensures { λ r. ⌜ r ≡ lineInWords (instrWords priority time (labelParts label) name duration k) 0 ⌝ }
 {
-    let t = score_line_writer::float_bits(time);
+    let t = base_numbers::float_bits(time);
     let p = flag_of(priority);
-    let d = score_line_writer::float_bits(duration);
+    let d = base_numbers::float_bits(duration);
     match label {
         Label::Labelled(l) => labelled_instr(t, p, l as u32, name as u32, d, k),
         Label::Unlabelled => unlabelled_instr(t, p, name as u32, d, k),

@@ -8,6 +8,7 @@ use lib.ListN.{length}
 use Rattle.base_answer.specs.Numbers.{isTaken}
 use Rattle.base_answer.specs.declared.Answer.the-variants.{Taken, NoRoom}
 use Rattle.score_line.specs.declared.Line.{Line}
+use Rattle.score_line.specs.LineFormat.{slotWords}
 use Rattle.score_line_writer.specs.Writing.{lineSlot}
 use Rattle.score_decoder.specs.Area.{areaWords, laid, DecodesTo}
 use Rattle.score_decoder.specs.inside.Area.{SlotPut}
@@ -33,7 +34,7 @@ module _ (s : List ℕ) (n : ℕ) (old : List ℕ) where
   pub fill-start : Filled old 0 0
   fill-start = filling-start (λ x. lineAt s x .read .line) (λ x. lineAt s x .next) n 0 old
 
-  pub fill-more : (new next slot : List ℕ) (at i : ℕ) {l : TextLineRead} → Filled new at i → i < n → l ≡ lineAt s at → slot ≡ lineSlot (l .read .line) → length next ≡ length new → SlotPut new (18 * i) slot next
+  pub fill-more : (new next slot : List ℕ) (at i : ℕ) {l : TextLineRead} → Filled new at i → i < n → l ≡ lineAt s at → slot ≡ lineSlot (l .read .line) → length next ≡ length new → SlotPut new (slotWords * i) slot next
       → Filled next (l .next) (i + 1)
   fill-more new next slot at i f h e g k p =
       filling-more (λ x. lineAt s x .read .line) (λ x. lineAt s x .next) n 0 old new next slot at i f h (ap (λ (x : TextLineRead). x .next) e) (g ∙ ap (λ (x : TextLineRead). lineSlot (x .read .line)) e) k p
@@ -58,10 +59,10 @@ module _ (s old : List ℕ) {r : TextRead} {b : Bool} (e : r ≡ textTold (textO
   text-refused g = subst (λ (x : TextRead). DecodesTo (textOf s) old old (record { answer = x .answer; line = x .line; count = 0 })) (sym e) (left-refused (textOf s) old (answer-is ∙ g))
 
   module _ (g : b ≡ true) where
-    pub text-short : length old / 18 < r .count → DecodesTo (textOf s) old old (record { answer = NoRoom; line = 0; count = 0 })
+    pub text-short : length old / slotWords < r .count → DecodesTo (textOf s) old old (record { answer = NoRoom; line = 0; count = 0 })
     text-short h = left-short (textOf s) old (answer-is ∙ g) (omega (arith, lines-are))
 
-    pub text-taken : (new : List ℕ) → r .count ≤ length old / 18 → new ≡ laid (areaWords (walked s (r .count) 0)) old → DecodesTo (textOf s) old new (record { answer = Taken; line = 0; count = r .count })
+    pub text-taken : (new : List ℕ) → r .count ≤ length old / slotWords → new ≡ laid (areaWords (walked s (r .count) 0)) old → DecodesTo (textOf s) old new (record { answer = Taken; line = 0; count = r .count })
     text-taken new h n =
         subst (λ (j : ℕ). DecodesTo (textOf s) old new (record { answer = Taken; line = 0; count = j })) lines-are
         (left-taken (textOf s) old new (answer-is ∙ g) (omega (arith, lines-are))

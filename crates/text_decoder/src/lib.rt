@@ -1,19 +1,18 @@
 // Texts decoded into a lent area of words, as scores are.
 use base_answer::Answer;
 use score_decoder::Decoded;
+use score_line::SLOT;
 ghost use mathlib.Core.Path.{_≡_};
 ghost use Prim.Native.Nat.{_*_, _≤_};
 ghost use lib.ListN.{length};
+ghost use Rattle.score_line.specs.LineFormat.{slotWords};
 ghost use Rattle.score_decoder.specs.Area.{areaWords, laid, DecodesTo};
 ghost use Rattle.text_format.specs.inside.Reading.{textOf};
 ghost use Rattle.text_reader.specs.Texts.{walked};
 
-// The words of a line in the area.
-const SLOT: usize = 18;
-
 // Puts the first n lines of a text into the area, from its start on.
 fn fill(bytes: &[u8], area: &mut [u32], n: usize)
-    requires { ⌜ 18 * n ≤ length (now area) ⌝ }
+    requires { ⌜ slotWords * n ≤ length (now area) ⌝ }
     ensures { λ _. ⌜ now (area .exit) ≡ laid (areaWords (walked (now (bytes .entry)) n 0)) (now (area .entry)) ⌝ }
 {
     let mut at: usize = 0;

@@ -2,10 +2,11 @@
 use text_number_reader::NameRead;
 use text_number_reader::NumberRead;
 ghost use mathlib.Core.Path.{_≡_};
-ghost use lib.ListN.{drop};
-ghost use Rattle.text_format.specs.inside.Reading.{pastSpaces, gapFrom, colonFrom, wordFrom, nextName, nextNumber};
-ghost use Rattle.text_number_reader.specs.Results.{numberIs, nameIs};
-ghost use Rattle.text_elements.specs.Passing.{passedIs};
+ghost use Prim.Native.Nat.{_+_};
+ghost use lib.ListN.{length, drop};
+ghost use Rattle.text_format.specs.inside.Reading.{gapFrom, colonFrom, wordFrom, nextName, nextNumber};
+ghost use Rattle.text_number_reader.specs.Results.{NumberAt, NameAt};
+ghost use Rattle.text_elements.specs.Passing.{SpacesPast, PassedAt, WordAt};
 
 const SPACE: u8 = 32;
 
@@ -18,7 +19,7 @@ pub enum Passed {
 }
 
 fn past_spaces(s: &[u8], at: usize) -> usize
-    ensures { λ r. ⌜ drop r (now (s .entry)) ≡ pastSpaces (drop at (now (s .entry))) ⌝ }
+    ensures { λ r. ⌜ SpacesPast (now (s .entry)) at r ⌝ }
 {
     let mut i = at;
     while i < s.len() {
@@ -32,7 +33,7 @@ fn past_spaces(s: &[u8], at: usize) -> usize
 
 // One space or more.
 pub fn gap_at(s: &[u8], at: usize) -> Passed
-    ensures { λ r. ⌜ passedIs (now (s .entry)) r ≡ gapFrom (drop at (now (s .entry))) ⌝ }
+    ensures { λ r. ⌜ PassedAt (now (s .entry)) (gapFrom (drop at (now (s .entry)))) r ⌝ }
 {
     if text_number_reader::starts_with(s, at, SPACE) {
         return Passed::At(past_spaces(s, at));
@@ -42,7 +43,7 @@ pub fn gap_at(s: &[u8], at: usize) -> Passed
 
 // A colon, spaces round it optional.
 pub fn colon_at(s: &[u8], at: usize) -> Passed
-    ensures { λ r. ⌜ passedIs (now (s .entry)) r ≡ colonFrom (drop at (now (s .entry))) ⌝ }
+    ensures { λ r. ⌜ PassedAt (now (s .entry)) (colonFrom (drop at (now (s .entry)))) r ⌝ }
 {
     let p = past_spaces(s, at);
     if text_number_reader::starts_with(s, p, COLON) {
@@ -52,7 +53,7 @@ pub fn colon_at(s: &[u8], at: usize) -> Passed
 }
 
 pub fn word_at(s: &[u8], at: usize, word: &[u8]) -> Passed
-    ensures { λ r. ⌜ passedIs (now (s .entry)) r ≡ wordFrom (now (word .entry)) (drop at (now (s .entry))) ⌝ }
+    ensures { λ r. ⌜ WordAt (now (s .entry)) (at + length (now (word .entry))) (wordFrom (now (word .entry)) (drop at (now (s .entry)))) r ⌝ }
 {
     let mut p = at;
     let mut i: usize = 0;
@@ -68,7 +69,7 @@ pub fn word_at(s: &[u8], at: usize, word: &[u8]) -> Passed
 }
 
 pub fn next_name(s: &[u8], at: usize) -> NameRead
-    ensures { λ r. ⌜ nameIs (now (s .entry)) r ≡ nextName (drop at (now (s .entry))) ⌝ }
+    ensures { λ r. ⌜ NameAt (now (s .entry)) (nextName (drop at (now (s .entry)))) r ⌝ }
 {
     match gap_at(s, at) {
         Passed::At(p) => text_number_reader::name_at(s, p),
@@ -77,7 +78,7 @@ pub fn next_name(s: &[u8], at: usize) -> NameRead
 }
 
 pub fn next_number(s: &[u8], at: usize) -> NumberRead
-    ensures { λ r. ⌜ numberIs (now (s .entry)) r ≡ nextNumber (drop at (now (s .entry))) ⌝ }
+    ensures { λ r. ⌜ NumberAt (now (s .entry)) (nextNumber (drop at (now (s .entry)))) r ⌝ }
 {
     match gap_at(s, at) {
         Passed::At(p) => text_number_reader::number_at(s, p),

@@ -8,10 +8,10 @@ use borrow.Author.Tests.{eqb-true}
 use lib.ListN.{length, length-append}
 use lib.Dec.{eqb}
 use lib.Ieee.{Float}
-use Rattle.base_laws.proofs.Choice.{cond-false}
+use Rattle.base_laws.proofs.Choice.{cond-false, cond-from}
 use Rattle.text_numerals.specs.Numeral.{point, Numeral, Valid, encoded, meaning, nameBytes}
 use Rattle.text_numerals.specs.inside.Reading.{Read, got, andThen, startsWith, rest, isDigit, startsDigit, numberFrom, nameFrom}
-use Rattle.text_numerals.proofs.Readings.{Found, not-got, then-got, test-back, either-way, starts, number-starts, number-complete, number-sound, name-complete, name-sound}
+use Rattle.text_numerals.proofs.Readings.{Found, not-got, then-got, test-back, starts, number-starts, number-complete, number-sound, name-complete, name-sound}
 use Rattle.text_format.specs.Form.{newline, space, colon, Behind, spaces, behindBytes, behindName, behindNumber, valueBytes, ValidName, ValidValues}
 use Rattle.text_format.specs.inside.Reading.{pastSpaces, gapFrom, colonFrom, wordFrom, ending, nextName, nextNumber, valuesFrom}
 
@@ -190,7 +190,7 @@ pub values-sound : (n : ℕ) (bs : List ℕ) (vs : List Float) (after : List ℕ
 unfolding valuesFrom valueBytes ValidValues
 values-sound zero bs vs after e = not-got e
 values-sound (suc n) bs vs after e =
-    either-way (startsWith newline bs) e (λ h f. record { one = []; valid = tt; encodes = cc (starts newline bs h); says = cc })
+    cond-from (startsWith newline bs) e (λ h f. record { one = []; valid = tt; encodes = cc (starts newline bs h); says = cc })
     (λ h f.
     then-got (nextNumber bs) f (λ v r i g.
     then-got (valuesFrom n r) g (λ us q j k.

@@ -5,10 +5,10 @@ use mathlib.Core.Bool.{Bool, true, false}
 use mathlib.Core.List.{List, _∷_, _++_, map}
 use mathlib.Core.Option.{Option, none, some}
 use lib.ListN.{length}
-use Rattle.base_laws.proofs.Choice.{cond-false}
+use Rattle.base_laws.proofs.Choice.{cond-false, cond-from}
 use Rattle.text_numerals.specs.Numeral.{nameLetter, Numeral, Valid, encoded, meaning, nameBytes}
 use Rattle.text_numerals.specs.inside.Reading.{got, refused, startsWith, rest, isDigit, numberFrom, nameFrom}
-use Rattle.text_numerals.proofs.Readings.{Found, not-got, then-got, either-way, starts, number-starts, number-complete, number-sound, name-complete, name-sound}
+use Rattle.text_numerals.proofs.Readings.{Found, not-got, then-got, starts, number-starts, number-complete, number-sound, name-complete, name-sound}
 use Rattle.text_format.specs.Content.{Content}
 use Rattle.text_format.specs.Content as content
 use Rattle.text_format.specs.Form.{newline, space, star, colon, controlWord, tempoWord, endWord, Behind, Label, Form, instr, control, tempo, end, TextLine, spaces, behindBytes, behindName, behindNumber, labelBytes, targetBytes, valueBytes, formBytes, starBytes, lineBytes, ValidName, ValidLabel, ValidTarget, ValidForm, labelContent, targetContent, timeContent, eventContent, contentBy}
@@ -154,18 +154,18 @@ event-found : (priority : Bool) (t : Numeral) → Valid t → (bs r : List ℕ) 
     → FoundBody priority bs (contentAt priority (meaning t) e) after
 unfolding eventFrom targetBytes labelBytes
 event-found priority t l bs r more q h =
-    either-way (startsWith nameLetter r) h
+    cond-from (startsWith nameLetter r) h
     (λ p f. then-got (nameFrom r) f (λ m r₁ a f₁. then-got (gapFrom r₁) f₁ (λ u r₂ b f₂.
     let n = name-sound r m r₁ a in
     let g = gap-sound r₁ b in
     let i = behind-apart more (nameBytes (n .one)) r₁ in
     let s = n .says in
-    either-way (startsWith 99 r₂) f₂
+    cond-from (startsWith 99 r₂) f₂
     (λ o k. control-found priority t l bs r₂ (some (record { more = more; element = n .one })) (g .more) (n .valid) (cc) (rw s at k))
     (λ o k. instr-found priority t l bs r₁ none (record { more = more; element = n .one }) tt (n .valid) (cc) (rw s at k)))))
     (λ p f.
-    either-way (startsWith 99 r) f (λ o g. control-found priority t l bs r none more tt q g)
-    (λ o g. either-way (startsWith 116 r) g (λ m k. tempo-found priority t l bs r more q k) (λ m k. end-found priority t l bs r more q k)))
+    cond-from (startsWith 99 r) f (λ o g. control-found priority t l bs r none more tt q g)
+    (λ o g. cond-from (startsWith 116 r) g (λ m k. tempo-found priority t l bs r more q k) (λ m k. end-found priority t l bs r more q k)))
 
 body-moved : (priority : Bool) (bs : List ℕ) {s t : Content} {after r : List ℕ} → got t r ≡ got s after → FoundBody priority bs t r → FoundBody priority bs s after
 body-moved priority bs e f = subst₂ (λ (x : Content) (y : List ℕ). FoundBody priority bs x y) (cc) (cc) f
@@ -195,12 +195,12 @@ labelled-sound priority bs h =
 
 body-sound : (priority : Bool) (bs : List ℕ) {s : Content} {after : List ℕ} → bodyFrom priority bs ≡ got s after → FoundBody priority bs s after
 unfolding bodyFrom
-body-sound priority bs h = either-way (startsWith nameLetter bs) h (λ t e. labelled-sound priority bs e) (λ t e. timed-sound priority bs e)
+body-sound priority bs h = cond-from (startsWith nameLetter bs) h (λ t e. labelled-sound priority bs e) (λ t e. timed-sound priority bs e)
 
 pub line-sound : (bs : List ℕ) (s : Content) (after : List ℕ) → lineFrom bs ≡ got s after → Found lineBytes (λ w. ValidForm (w .form)) contentBy bs s after
 unfolding lineFrom starBytes contentBy
 line-sound bs s after h =
-    either-way (startsWith star bs) h (λ t e. found true (rest bs) (starts star bs t) (body-sound true (rest bs) e)) (λ t e. found false bs refl (body-sound false bs e))
+    cond-from (startsWith star bs) h (λ t e. found true (rest bs) (starts star bs t) (body-sound true (rest bs) e)) (λ t e. found false bs refl (body-sound false bs e))
   where
     found : (priority : Bool) (cs : List ℕ) → bs ≡ starBytes priority ++ cs → FoundBody priority cs s after
         → Found lineBytes (λ w. ValidForm (w .form)) contentBy bs s after

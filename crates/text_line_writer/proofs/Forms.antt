@@ -5,6 +5,7 @@ use mathlib.Core.Bool.{Bool, true, false}
 use mathlib.Core.List.{List, [], _∷_, append-assoc, map}
 use mathlib.Core.Option.{Option, none, some, Option·map}
 use lib.Ieee.{Float}
+use Rattle.base_laws.proofs.Choice.{cond-true, cond-false}
 use Rattle.text_numerals.specs.Numeral.{Numeral, encoded, nameBytes}
 use Rattle.text_number_writer.specs.Push.{emptyText, pushAll}
 use Rattle.score_line.specs.LineFormat.{labelParts}
@@ -17,7 +18,7 @@ use Rattle.text_format.specs.Form.{Form, instr, control, tempo, end, newline, s
 use Rattle.text_line_writer.specs.inside.NumberText.{numberText}
 use Rattle.text_line_writer.specs.inside.LineText.{ifThere, single, labelForm, valuesText, eventText, contentText, lineText}
 use Rattle.text_line_writer.specs.LineText.{eventContent}
-use Rattle.text_line_writer.specs.inside.Drafts.{beside, Holds, Joined, numberBytes, nextBytes, valuesBytes, labelBytesOf, formText}
+use Rattle.text_line_writer.specs.inside.Drafts.{beside, Holds, drafted, Drafted, kept, Joined, numberBytes, nextBytes, valuesBytes, labelBytesOf, formText}
 use Rattle.text_line_writer.specs.declared.Draft.{Draft}
 use Rattle.text_line_writer.proofs.Pieces.{joined-then, joined-as}
 
@@ -102,23 +103,36 @@ pub begun-star : {a r : Draft} (p : Bool) → p ≡ true → a ≡ record { ther
 unfolding starBytes
 begun-star {a} p h e j = rw h (j .joins (some []) (begun-plain {r = a} false refl e))
 
+-- a draft that was kept is the text, or nothing
+kept-told : (d : Draft) (o : Option (List ℕ)) {r : Draft} → Holds d o → r ≡ kept d → Drafted r o
+unfolding kept drafted
+kept-told d none {r} h e = let f : r ≡ record { there = false; text = emptyText } = e ∙ cond-false _ _ h in record { told = f; holds = ap (λ (x : Draft). x .there) f }
+kept-told d (some bytes) {r} h e =
+    let f : r ≡ record { there = true; text = pushAll emptyText bytes } = e ∙ cond-true _ _ (h .0) ∙ (λ i. record { there = (h .0) i; text = (h .1) i }) in
+    record { told = f; holds = (ap (λ (x : Draft). x .there) f, ap (λ (x : Draft). x .text) f) }
+
+none-told : {r : Draft} → r ≡ record { there = false; text = emptyText } → Drafted r none
+unfolding drafted
+none-told e = record { told = e; holds = ap (λ (x : Draft). x .there) e }
+
 module _ (l : Line) where
-  pub line-untimed : {r : Draft} → l .when ≡ Untimed → r ≡ record { there = false; text = emptyText } → Holds r (Option·map lineBytes (lineText l))
+  pub line-untimed : {r : Draft} → l .when ≡ Untimed → r ≡ record { there = false; text = emptyText } → Drafted r (Option·map lineBytes (lineText l))
   unfolding lineText
-  line-untimed e f = rw e (ap (λ (x : Draft). x .there) f)
+  line-untimed e f = rw e (none-told f)
 
   pub line-late : {r : Draft} (time : Float) {late : Bool} → l .when ≡ Timed late time → late ≡ true → r ≡ record { there = false; text = emptyText }
-      → Holds r (Option·map lineBytes (lineText l))
+      → Drafted r (Option·map lineBytes (lineText l))
   unfolding lineText
-  line-late time e h f = rw (e, h) (ap (λ (x : Draft). x .there) f)
+  line-late time e h f = rw (e, h) (none-told f)
 
-  pub line-timed : {b d r : Draft} (time : Float) {late : Bool} → l .when ≡ Timed late time → late ≡ false → Holds b (some (starBytes (l .priority)))
-      → Joined b (formText time (eventContent (l .event) (l .count) (l .values))) d → Joined d (some (newline ∷ [])) r → Holds r (Option·map lineBytes (lineText l))
+  pub line-timed : {b d c r : Draft} (time : Float) {late : Bool} → l .when ≡ Timed late time → late ≡ false → Holds b (some (starBytes (l .priority)))
+      → Joined b (formText time (eventContent (l .event) (l .count) (l .values))) d → Joined d (some (newline ∷ [])) c → r ≡ kept c
+      → Drafted r (Option·map lineBytes (lineText l))
   unfolding lineText contentText formText
-  line-timed {r = r} time e h s j k =
+  line-timed {c = c} time e h s j k m =
       let event = eventContent (l .event) (l .count) (l .values) in
-      rw (e, h) (subst (Holds r) (go (ifThere (numberText time) (eventText event)))
-      (k .joins (beside (some (starBytes (l .priority))) (formText time event)) (j .joins (some (starBytes (l .priority))) s)))
+      rw (e, h) (kept-told c _ (subst (Holds c) (go (ifThere (numberText time) (eventText event)))
+      (k .joins (beside (some (starBytes (l .priority))) (formText time event)) (j .joins (some (starBytes (l .priority))) s))) m)
     where
       go : (o : Option Form)
           → beside (beside (some (starBytes (l .priority))) (Option·map formBytes o)) (some (newline ∷ [])) ≡ Option·map lineBytes

@@ -4,14 +4,13 @@ use mathlib.Core.Path.{_≡_, refl, sym, ap, _∙_}
 use mathlib.Core.Bool.{Bool, false}
 use mathlib.Core.List.{List, [], _∷_, _++_, append-assoc, append-nil}
 use mathlib.Core.Option.{Option, none, some}
-use native.Mathlib.Decide.{decLe}
-use native.Mathlib.Nat.{min-eq-left, min-eq-right}
 use native.Mathlib.Numerals.{add-one}
 use native.Mathlib.Omega.{arith}
 use lib.ListN.{length, take, getD}
-use lib.Seq.{take-suc, take-all}
+use lib.Seq.{take-suc}
 use lib.Dec.{T}
 use lib.Ieee.{Float, binary32, fits}
+use Rattle.base_laws.proofs.Lists.{take-min}
 use Rattle.text_numerals.specs.Numeral.{numeralOf, encoded, nameBytes}
 use Rattle.text_numerals.specs.Nearest.{signOf}
 use Rattle.text_numerals.specs.Shortest.{Shortest}
@@ -119,17 +118,8 @@ values-again {i = i} count {values} x e l c h j =
     let t : take (i + 1) values ≡ take i values ++ (getD values i x ∷ []) = ap (λ (k : ℕ). take k values) (add-one i) ∙ take-suc values i x (omega arith) in
     record { within = omega arith; joined = joined-as (value-more (take i values) (getD values i x) ∙ sym (ap valuesBytes t)) (joined-then (c .joined) j) }
 
-take-eight : (count : ℕ) (values : List Float) → length values ≡ 8 → take (lesser count 8) values ≡ take count values
-take-eight count values l = go (decLe count 8)
-  where
-    go : Dec (count ≤ 8) → take (lesser count 8) values ≡ take count values
-    go (yes h) = ap (λ (k : ℕ). take k values) (min-eq-left h)
-    go (no h) =
-        let k : 8 ≤ count = omega arith in
-        ap (λ (j : ℕ). take j values) (min-eq-right k) ∙ take-all 8 values (omega arith) ∙ sym (take-all count values (omega arith))
-
 pub values-end : {d r : Draft} {n i : ℕ} (count : ℕ) {values : List Float} → n ≡ lesser count 8 → length values ≡ 8 → Valued d n values r i → n ≤ i
     → Joined d (valuesBytes (take count values)) r
 values-end {i = i} count {values} e l c h =
     let k : i ≡ lesser count 8 = omega (arith, c .within) in
-    joined-as (ap valuesBytes (ap (λ (j : ℕ). take j values) k ∙ take-eight count values l)) (c .joined)
+    joined-as (ap valuesBytes (ap (λ (j : ℕ). take j values) k ∙ take-min values count 8 l)) (c .joined)

@@ -2,13 +2,13 @@
 use score_line::Event;
 use score_line::Label;
 use score_line::Line;
+use score_line::MOST_VALUES;
 use score_line::When;
 use text_number_writer::LineText;
 use text_number_writer::NumberText;
 ghost use mathlib.Core.Path.{_≡_};
 ghost use mathlib.Core.List.{[], _∷_};
 ghost use mathlib.Core.Option.{some, Option·map};
-ghost use Prim.Native.Nat.{min as lesser};
 ghost use lib.ListN.{take};
 ghost use Rattle.text_numerals.specs.Numeral.{nameBytes};
 ghost use Rattle.text_number_writer.specs.Push.{emptyText};
@@ -17,7 +17,7 @@ ghost use Rattle.text_format.specs.Content as content;
 ghost use Rattle.text_format.specs.Form.{starBytes, lineBytes};
 ghost use Rattle.text_line_writer.specs.LineText.{eventContent};
 ghost use Rattle.text_line_writer.specs.inside.LineText.{lineText};
-ghost use Rattle.text_line_writer.specs.inside.Drafts.{Holds, Joined, numberBytes, nextBytes, valuesBytes, labelBytesOf, formText};
+ghost use Rattle.text_line_writer.specs.inside.Drafts.{Holds, Drafted, kept, Joined, numberBytes, nextBytes, valuesBytes, labelBytesOf, formText};
 
 const STAR: u8 = 42;
 
@@ -94,16 +94,10 @@ fn next_number(d: Draft, x: f32) -> Draft
     with_number(with_byte(d, SPACE), x)
 }
 
-fn in_use(count: usize) -> usize
-    ensures { λ r. ⌜ r ≡ lesser count 8 ⌝ }
-{
-    if count < 8 { count } else { 8 }
-}
-
-fn with_values(d: Draft, count: usize, values: [f32; 8]) -> Draft
+fn with_values(d: Draft, count: usize, values: [f32; MOST_VALUES]) -> Draft
     ensures { λ r. ⌜ Joined d (valuesBytes (take count values)) r ⌝ }
 {
-    let n = in_use(count);
+    let n = base_numbers::at_most(count, MOST_VALUES);
     let mut r = d;
     let mut i: usize = 0;
     while i < n {
@@ -130,7 +124,7 @@ fn instr_text(
     instrument: u16,
     duration: f32,
     count: usize,
-    values: [f32; 8],
+    values: [f32; MOST_VALUES],
 ) -> Draft
     ensures { λ r. ⌜ Joined d (formText time (content.instr (labelParts label) instrument duration (take count values))) r ⌝ }
 {
@@ -161,7 +155,7 @@ fn end_text(d: Draft, time: f32) -> Draft
     with_word(timed, b" end")
 }
 
-fn event_text(d: Draft, time: f32, event: Event, count: usize, values: [f32; 8]) -> Draft
+fn event_text(d: Draft, time: f32, event: Event, count: usize, values: [f32; MOST_VALUES]) -> Draft
     ensures { λ r. ⌜ Joined d (formText time (eventContent event count values)) r ⌝ }
 {
     match event {
@@ -199,9 +193,19 @@ fn begun(priority: bool) -> Draft
     nothing_yet(true)
 }
 
+// A draft, and of one with a number missing nothing.
+fn finished(d: Draft) -> Draft
+    ensures { λ r. ⌜ r ≡ kept d ⌝ }
+{
+    if d.there {
+        return d;
+    }
+    nothing_yet(false)
+}
+
 // A line's text with its newline; not there for a line without a time, with use-if-late set, or with a number that has no text.
 pub fn line_text(line: Line) -> Draft
-    ensures { λ r. ⌜ Holds r (Option·map lineBytes (lineText line)) ⌝ }
+    ensures { λ r. ⌜ Drafted r (Option·map lineBytes (lineText line)) ⌝ }
 {
     let when = line.when;
     let event = line.event;
@@ -212,7 +216,7 @@ pub fn line_text(line: Line) -> Draft
                 nothing_yet(false)
             } else {
                 let d = event_text(begun(line.priority), time, event, line.count, values);
-                with_byte(d, NEWLINE)
+                finished(with_byte(d, NEWLINE))
             }
         }
         When::Untimed => nothing_yet(false),

@@ -4,7 +4,7 @@ ghost use Prim.Native.Nat.{_^_, _<_, _≤_};
 ghost use lib.ListN.{drop};
 ghost use Rattle.text_numerals.specs.Numeral.{mostNumber, mostDecimals, floatOf};
 ghost use Rattle.text_numerals.specs.inside.Reading.{digitsFrom, decimalsFrom, unsignedFrom, numberFrom, symbolFrom, nameFrom};
-ghost use Rattle.text_number_reader.specs.Results.{digitsIs, numberIs, nameIs, Starts};
+ghost use Rattle.text_number_reader.specs.Results.{NumberAt, NameAt, DigitsAt, Starts};
 
 const MINUS: u8 = 45;
 
@@ -54,7 +54,7 @@ pub fn starts_with(s: &[u8], at: usize, b: u8) -> bool
 // Every digit from a position on, behind the number `start`; the number stays below `most`.
 fn digits_at(s: &[u8], at: usize, start: u32, most: u32) -> DigitsRead
     requires { ⌜ (start < most) × (most ≤ mostNumber) ⌝ }
-    ensures { λ r. ⌜ digitsIs (now (s .entry)) r ≡ digitsFrom most start 0 (drop at (now (s .entry))) ⌝ }
+    ensures { λ r. ⌜ DigitsAt (now (s .entry)) (digitsFrom most start 0 (drop at (now (s .entry)))) r ⌝ }
 {
     let mut n = start;
     let mut i = at;
@@ -104,7 +104,7 @@ fn value(minus: bool, n: u32, d: usize) -> f32
 // Behind the point: one to three decimals.
 fn decimals_at(s: &[u8], at: usize, minus: bool, n: u32) -> NumberRead
     requires { ⌜ n < mostNumber ⌝ }
-    ensures { λ r. ⌜ numberIs (now (s .entry)) r ≡ decimalsFrom minus n (drop at (now (s .entry))) ⌝ }
+    ensures { λ r. ⌜ NumberAt (now (s .entry)) (decimalsFrom minus n (drop at (now (s .entry)))) r ⌝ }
 {
     match digits_at(s, at, n, MOST_NUMBER) {
         DigitsRead::Of(all, count, next) => {
@@ -122,7 +122,7 @@ fn decimals_at(s: &[u8], at: usize, minus: bool, n: u32) -> NumberRead
 
 // Behind the sign: one digit or more, and then a point or none.
 fn unsigned_at(s: &[u8], at: usize, minus: bool) -> NumberRead
-    ensures { λ r. ⌜ numberIs (now (s .entry)) r ≡ unsignedFrom minus (drop at (now (s .entry))) ⌝ }
+    ensures { λ r. ⌜ NumberAt (now (s .entry)) (unsignedFrom minus (drop at (now (s .entry)))) r ⌝ }
 {
     match digits_at(s, at, 0, MOST_NUMBER) {
         DigitsRead::Of(whole, count, next) => {
@@ -140,7 +140,7 @@ fn unsigned_at(s: &[u8], at: usize, minus: bool) -> NumberRead
 
 // A number.
 pub fn number_at(s: &[u8], at: usize) -> NumberRead
-    ensures { λ r. ⌜ numberIs (now (s .entry)) r ≡ numberFrom (drop at (now (s .entry))) ⌝ }
+    ensures { λ r. ⌜ NumberAt (now (s .entry)) (numberFrom (drop at (now (s .entry)))) r ⌝ }
 {
     if starts_with(s, at, MINUS) {
         return unsigned_at(s, at + 1, true);
@@ -150,7 +150,7 @@ pub fn number_at(s: &[u8], at: usize) -> NumberRead
 
 // Behind the s: a lone 0, or digits of which the first is none.
 fn symbol_at(s: &[u8], at: usize) -> NameRead
-    ensures { λ r. ⌜ nameIs (now (s .entry)) r ≡ symbolFrom (drop at (now (s .entry))) ⌝ }
+    ensures { λ r. ⌜ NameAt (now (s .entry)) (symbolFrom (drop at (now (s .entry)))) r ⌝ }
 {
     if starts_with(s, at, ZERO) {
         return NameRead::Of(0, at + 1);
@@ -168,7 +168,7 @@ fn symbol_at(s: &[u8], at: usize) -> NameRead
 
 // A name: an s and a symbol.
 pub fn name_at(s: &[u8], at: usize) -> NameRead
-    ensures { λ r. ⌜ nameIs (now (s .entry)) r ≡ nameFrom (drop at (now (s .entry))) ⌝ }
+    ensures { λ r. ⌜ NameAt (now (s .entry)) (nameFrom (drop at (now (s .entry)))) r ⌝ }
 {
     if starts_with(s, at, NAME_LETTER) {
         return symbol_at(s, at + 1);

@@ -9,8 +9,7 @@ use borrow.Author.Tests.{eq-eqb, eqb-true}
 use lib.IntN.{ℤ}
 use lib.Dec.{T, lit≤, eqb, leb}
 use lib.Pow.{pow-add, pow-pos, pow-mono}
-use lib.Ieee.{Float, nan, inf, fin, binary32, up, down, round, fits, eq, ne, odd, ofFields, ofBits, toBits, isNan, size, top, hid}
-use lib.Ieee.Compare.{differs-from-itself}
+use lib.Ieee.{Float, nan, inf, fin, binary32, up, down, round, fits, eq, odd, ofFields, ofBits, toBits, size, top, hid}
 use lib.Ieee.Bits.{ofBits-toBits}
 use lib.Ieee.Exact.{HasValue, odd-sign}
 use lib.Ieee.Fits.{down-pos, round-fits}
@@ -140,16 +139,6 @@ sign-bit nan t = refl
 sign-bit (inf true) t = refl
 sign-bit (inf false) t = refl
 sign-bit (fin s m e) t = finite-sign (fin s m e) t tt
-
-pub no-nan : (x : Float) → eq x x ≡ true → T (not (isNan x))
-unfolding eq isNan
-no-nan nan e = absurd (true≢false (sym e))
-no-nan (inf s) e = tt
-no-nan (fin s m d) e = tt
-
-pub nan-bits : (x : Float) → eq x x ≡ false → 0x7fc0_0000 ≡ toBits binary32 x
-unfolding ne toBits
-nan-bits x e = ap (toBits binary32) (sym (differs-from-itself x (subst (λ (b : Bool). T (not b)) (sym e) tt)))
 
 -- ---- the test
 

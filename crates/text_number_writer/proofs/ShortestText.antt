@@ -1,6 +1,6 @@
 -- One lemma for each way through the search for a float's shortest text. Assumes nothing.
 use Prim.Native.Nat.{ℕ, _+_, _^_, _≤_, _<_}
-use mathlib.Core.Path.{_≡_, sym, ap, _∙_, subst}
+use mathlib.Core.Path.{_≡_, refl, sym, ap, _∙_, subst}
 use mathlib.Core.Logic.{inl, inr}
 use mathlib.Core.Bool.{Bool, true, false}
 use native.Mathlib.Nat.{eq-or-lt-of-le}
@@ -13,7 +13,7 @@ use Rattle.text_numerals.specs.Nearest.{signOf}
 use Rattle.text_numerals.specs.Shortest.{Reads}
 use Rattle.text_numerals.proofs.Quotient.{quotient}
 use Rattle.text_numerals.proofs.Signs.{minus-float}
-use Rattle.text_number_writer.specs.Answers.{TextIs, Around, Least, NoNumber, LeastIs}
+use Rattle.text_number_writer.specs.Answers.{TextIs, Around, Least, NoNumber, LeastIs, EveryAnswer}
 use Rattle.text_number_writer.specs.declared.Found.{Found}
 use Rattle.text_number_writer.specs.declared.Found.the-variants as found
 use Rattle.text_number_writer.specs.declared.NumberText.the-variants as text
@@ -88,3 +88,11 @@ done x d n w h l e =
 pub never : (x : Float) (d : ℕ) → Looked x d → 4 ≤ d → TextIs x text.None
 unfolding TextIs
 never x d w h n c l g r = w .none c (omega arith) n l r
+
+-- ---- its number
+
+pub every-answer : EveryAnswer
+unfolding TextIs
+every-answer x (text.Text n d) s =
+    record { no-text = λ e. absurd (let z : _≡_ {A = ℕ} 0 19 = e in omega arith); refused = λ h. absurd (h n d (s .below) (s .few) (s .reads)) }
+every-answer x text.None s = record { no-text = λ e. s; refused = λ h. refl }

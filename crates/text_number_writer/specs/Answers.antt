@@ -1,4 +1,4 @@
--- What the search for a float's shortest text answers. Definitions only.
+-- What the search for a float's shortest text answers. Definitions and a statement only.
 use Prim.Native.Nat.{ℕ, suc, _<_}
 use mathlib.Core.Path.{_≡_}
 use mathlib.Core.Logic.{_⊎_}
@@ -13,6 +13,18 @@ use Rattle.text_number_writer.specs.declared.NumberText.the-variants as 
 unfoldable pub TextIs : Float → NumberText → Type 0
 TextIs x (text.Text n d) = Shortest x n d
 TextIs x text.None = NoText x
+
+-- document 02's number of each case: 0, or 19 where no text reads as the float
+abbrev pub numberOf : NumberText → ℕ
+numberOf (text.Text n d) = 0
+numberOf text.None = 19
+
+pub record Answers (x : Float) (r : NumberText) : Type 0 where
+  pub no-text : numberOf r ≡ 19 → NoText x
+  pub refused : NoText x → numberOf r ≡ 19
+
+abbrev pub EveryAnswer : Type 0
+EveryAnswer = (x : Float) (r : NumberText) → TextIs x r → Answers x r
 
 -- ---- with d decimals
 

@@ -61,21 +61,11 @@ fn power_of_ten(j: u8) -> u32
 
 // ---- a float's shortest text
 
-// A float's bits. Every not-a-number counts as one.
-fn float_bits(x: f32) -> u32
-    ensures { λ r. ⌜ r ≡ Ieee.toBits Ieee.binary32 x ⌝ }
-{
-    if x == x {
-        return f32::to_bits(x);
-    }
-    0x7fc0_0000
-}
-
 // Whether the sign bit is set.
 pub fn sign(x: f32) -> bool
     ensures { λ r. ⌜ r ≡ signOf x ⌝ }
 {
-    0x8000_0000 <= float_bits(x)
+    0x8000_0000 <= base_numbers::float_bits(x)
 }
 
 // What a minus or none, n and d decimals mean.
@@ -105,7 +95,7 @@ fn part(x: f32, d: u8) -> u32
     requires { ⌜ d ≤ 3 ⌝ }
     ensures { λ r. ⌜ Around x d r × (r < 16777215) ⌝ }
 {
-    let b = float_bits(x);
+    let b = base_numbers::float_bits(x);
     let exponent = b % 0x8000_0000 / 0x80_0000;
     if exponent < 110 {
         return 0;

@@ -8,17 +8,18 @@ use native.Mathlib.Omega.{arith}
 use borrow.Author.Tests.{eq-eqb, eqb-true, eqb-false}
 use lib.Dec.{T, lit≤, eqb, leb, leb→le, nleb→lt}
 use lib.Pow.{pow-add, pow-pos, pow-mono}
-use lib.Ieee.{Float, nan, inf, fin, binary32, up, down, size, round, eq, fits}
+use lib.Ieee.{Float, nan, inf, fin, binary32, up, down, size, round, neg, eq, fits}
 use lib.Ieee.Digits.{size-reaches}
 use lib.Ieee.Exact.{HasValue}
 use lib.Ieee.Fits.{down-pos, round-fits}
 use lib.Ieee.Order.{drop, kept}
 use lib.Ieee.Positive.{den}
 use lib.Ieee.Scale.{grid, normal-of-fraction, finite}
-use Rattle.text_numerals.specs.Numeral.{floatOf}
-use Rattle.text_numerals.specs.Nearest.{apart, Nearest, MeansNearest}
+use Rattle.text_numerals.specs.Numeral.{mostNumber, mostDecimals, floatOf}
+use Rattle.text_numerals.specs.Nearest.{signOf, apart, Nearest, MeansNearest}
 use Rattle.text_numerals.proofs.Closest.{gap, nearest-whole, no-half}
 use Rattle.text_numerals.proofs.Quotient.{ten-pos, ten-mono}
+use Rattle.text_numerals.proofs.Signs.{minus-float}
 use Rattle.text_numerals.proofs.Units.{Fraction, swap, value, sign-of-round, finite-value, units-of}
 
 -- ---- no tie
@@ -146,7 +147,7 @@ zero-value : (v u d p : ℕ) → 0 < p → v * p ≡ u * d → u ≡ 0 → v ≡
 zero-value v u d p P a b = eq-of-mul-eq-mul-left p P v 0 (omega (arith, ap (λ (z : ℕ). z * d) b))
 
 nearer-at : (n c : ℕ) → Fraction n c → (x y : Float) → HasValue x false (grid binary32 n c) (2 ^ 149) → T (fits binary32 y) → T (finite y)
-    → eq x y ≡ false → apart n c x * den y < apart n c y * den x
+    → eq x y ≡ false → apart false n c x * den y < apart false n c y * den x
 unfolding eq apart
 nearer-at n c l nan y v t f e = absurd v
 nearer-at n c l (inf s) y v t f e = absurd v
@@ -175,16 +176,72 @@ nearer-at n c l (fin false m d) (fin true w g) v t f e =
     (gap-units n (m * up d) c (grid binary32 n c) (down d) p (v .1)) (sum-units n (w * up g) c y (down g) p (u .is))
     (beyond n c (u .digits) (u .shift) l (u .few) both) (down-pos d) (down-pos g)
 
-nearest-round : (n c : ℕ) → Fraction n c → Nearest n c (round binary32 false n c)
+nearest-round : (n c : ℕ) → Fraction n c → Nearest false n c (round binary32 false n c)
 nearest-round n c f =
     let v = value false n c f in
     record {
       held = round-fits binary32 false n c;
       number = finite-value (round binary32 false n c) false (grid binary32 n c) (2 ^ 149) v;
-      plain = sign-of-round false n c f;
+      sign = sign-of-round false n c f;
       nearer = λ y t g e. nearer-at n c f (round binary32 false n c) y v t g e;
     }
 
-pub means-nearest : MeansNearest
+-- ---- a minus: everything on the other side of zero
+
+neg-finite : (y : Float) → T (finite y) → T (finite (neg y))
+unfolding neg
+neg-finite nan f = f
+neg-finite (inf s) f = f
+neg-finite (fin s m e) f = f
+
+neg-fits : (y : Float) → T (fits binary32 y) → T (fits binary32 (neg y))
+unfolding neg fits
+neg-fits nan f = f
+neg-fits (inf s) f = f
+neg-fits (fin s zero e) f = f
+neg-fits (fin s (suc m) e) f = f
+
+neg-sign : (x : Float) → T (finite x) → signOf x ≡ false → signOf (neg x) ≡ true
+unfolding neg signOf
+neg-sign nan f e = absurd f
+neg-sign (inf s) f e = absurd f
+neg-sign (fin s m d) f e = ap not e
+
+neg-eq : (x y : Float) → T (finite x) → T (finite y) → eq x (neg y) ≡ eq (neg x) y
+unfolding neg eq
+neg-eq nan y f g = absurd f
+neg-eq (inf s) y f g = absurd f
+neg-eq (fin s m d) nan f g = absurd g
+neg-eq (fin s m d) (inf t) f g = absurd g
+neg-eq (fin false m d) (fin false w e) f g = refl
+neg-eq (fin false m d) (fin true w e) f g = refl
+neg-eq (fin true m d) (fin false w e) f g = refl
+neg-eq (fin true m d) (fin true w e) f g = refl
+
+neg-nearer : (n c : ℕ) (x y : Float) → T (finite x) → T (finite y) → apart false n c x * den (neg y) < apart false n c (neg y) * den x
+    → apart true n c (neg x) * den y < apart true n c y * den (neg x)
+unfolding neg apart
+neg-nearer n c nan y f g h = absurd f
+neg-nearer n c (inf s) y f g h = absurd f
+neg-nearer n c (fin s m d) nan f g h = absurd g
+neg-nearer n c (fin s m d) (inf t) f g h = absurd g
+neg-nearer n c (fin false m d) (fin false w e) f g h = h
+neg-nearer n c (fin false m d) (fin true w e) f g h = h
+neg-nearer n c (fin true m d) (fin false w e) f g h = h
+neg-nearer n c (fin true m d) (fin true w e) f g h = h
+
+nearest-neg : (n c : ℕ) (x : Float) → Nearest false n c x → Nearest true n c (neg x)
+nearest-neg n c x p = record {
+  held = neg-fits x (p .held);
+  number = neg-finite x (p .number);
+  sign = neg-sign x (p .number) (p .sign);
+  nearer = λ y t g e. neg-nearer n c x y (p .number) g (p .nearer (neg y) (neg-fits y t) (neg-finite y g) (neg-eq x y (p .number) g ∙ e));
+}
+
+means-plain : (n d : ℕ) → n < mostNumber → d ≤ mostDecimals → Nearest false n (10 ^ d) (floatOf false n d)
 unfolding floatOf
-means-nearest n d h k = nearest-round n (10 ^ d) (record { below = h; some = ten-pos d; most = ten-mono k })
+means-plain n d h k = nearest-round n (10 ^ d) (record { below = h; some = ten-pos d; most = ten-mono k })
+
+pub means-nearest : MeansNearest
+means-nearest false n d h k = means-plain n d h k
+means-nearest true n d h k = subst (Nearest true n (10 ^ d)) (minus-float n d) (nearest-neg n (10 ^ d) (floatOf false n d) (means-plain n d h k))

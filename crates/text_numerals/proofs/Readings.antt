@@ -9,7 +9,7 @@ use borrow.Author.Tests.{lt-ltb, le-leb, ne-eqb, ltb-true, leb-true, eqb-true, e
 use lib.ListN.{length}
 use lib.Dec.{ltb, leb, eqb}
 use lib.Ieee.{Float}
-use Rattle.base_laws.proofs.Choice.{cond-false, both-true}
+use Rattle.base_laws.proofs.Choice.{cond-false, both-true, cond-from}
 use Rattle.text_numerals.proofs.DecimalDigits.{lowest-length, wide, decimal-digits, decimal-value, decimal-back, not-zero}
 use Rattle.text_numerals.specs.Numeral.{minusSign, point, zeroDigit, nameLetter, Digits, digitBytes, valueFrom, Numeral, mostNumber, mostDecimals, wholeOf, Valid, signBytes, decimalBytes, encoded, floatOf, meaning, widthOf, decimal, mostSymbol, nameBytes}
 use Rattle.text_numerals.specs.inside.Reading.{Read, got, refused, andThen, startsWith, rest, isDigit, startsDigit, Run, digitsFrom, withoutPoint, decimalsFrom, unsignedFrom, numberFrom, symbolFrom, nameFrom}
@@ -36,11 +36,6 @@ then-got refused e f = not-got e
 pub test-back : {A : Type 0} (t : Bool) (m : Read A) {a : A} {r : List ℕ} → cond t m refused ≡ got a r → (t ≡ true) × (m ≡ got a r)
 test-back true m e = (refl, e)
 test-back false m e = not-got e
-
--- both outcomes of a test
-pub either-way : {A P : Type 0} (t : Bool) {x y z : A} → cond t x y ≡ z → (t ≡ true → x ≡ z → P) → (t ≡ false → y ≡ z → P) → P
-either-way true e f g = f refl e
-either-way false e f g = g refl e
 
 -- ---- digits
 
@@ -81,7 +76,7 @@ digits-sound : {P : Type 0} (most n k : ℕ) (bs : List ℕ) {r : Run} {after : 
 unfolding digitsFrom digitBytes valueFrom Digits
 digits-sound most n k [] l e f = f [] tt (cc) (cc) (cc (add-zero k)) l
 digits-sound most n k (b ∷ bs) l e f =
-    either-way (isDigit b) e
+    cond-from (isDigit b) e
     (λ d g.
     let m = n * 10 + (b - zeroDigit) in
     let t = test-back (ltb m most) (digitsFrom most m (suc k) bs) g in
@@ -167,7 +162,7 @@ unsigned-sound minus cs bs {after = after} q e =
     then-got (digitsFrom mostNumber 0 0 bs) e (λ r between a g. digits-sound mostNumber 0 0 bs (omega arith) a (λ ds d₁ d₂ d₃ d₄ d₅.
     let c = test-back (leb 1 (r .count)) (cond (startsWith point between) (decimalsFrom minus (r .number) (rest between)) (withoutPoint minus r between)) g in
     let low = leb-true 1 (r .count) (c .0) in
-    either-way (startsWith point between) (c .1)
+    cond-from (startsWith point between) (c .1)
     (λ p f. then-got (digitsFrom mostNumber (r .number) 0 (rest between)) f
     (λ s o b h. digits-sound mostNumber (r .number) 0 (rest between) (omega arith) b (λ es e₁ e₂ e₃ e₄ e₅.
     let d = test-back (leb 1 (s .count) && leb (s .count) mostDecimals) (got (floatOf minus (s .number) (s .count)) o) h in
@@ -192,7 +187,7 @@ unsigned-sound minus cs bs {after = after} q e =
 pub number-sound : (bs : List ℕ) (v : Float) (after : List ℕ) → numberFrom bs ≡ got v after → Found encoded Valid meaning bs v after
 unfolding numberFrom signBytes
 number-sound bs v after e =
-    either-way (startsWith minusSign bs) e (λ p f. unsigned-sound true bs (rest bs) (starts minusSign bs p) f) (λ p f. unsigned-sound false bs bs refl f)
+    cond-from (startsWith minusSign bs) e (λ p f. unsigned-sound true bs (rest bs) (starts minusSign bs p) f) (λ p f. unsigned-sound false bs bs refl f)
 
 -- ---- a name
 
@@ -227,7 +222,7 @@ digits-back (v ∷ vs) bs z d some b = let h = eqb-false (48 + v) 48 z in decima
 symbol-sound : (bs : List ℕ) (n : ℕ) (after : List ℕ) → symbolFrom bs ≡ got n after → Found symbolBytes (λ k. k ≤ mostSymbol) (λ k. k) bs n after
 unfolding symbolFrom decimal digitBytes
 symbol-sound bs n after e =
-    either-way (startsWith zeroDigit bs) e (λ z f. record { one = 0; valid = omega arith; encodes = cc (starts zeroDigit bs z); says = cc })
+    cond-from (startsWith zeroDigit bs) e (λ z f. record { one = 0; valid = omega arith; encodes = cc (starts zeroDigit bs z); says = cc })
     (λ z f. then-got (digitsFrom (suc mostSymbol) 0 0 bs) f (λ r between a g. digits-sound (suc mostSymbol) 0 0 bs (omega arith) a (λ vs d₁ d₂ d₃ d₄ d₅.
     let c = test-back (leb 1 (r .count)) (got (r .number) between) g in
     let low = leb-true 1 (r .count) (c .0) in

@@ -17,7 +17,7 @@ use Rattle.text_numerals.specs.Numeral.{Numeral, wholeOf, meaning}
 use Rattle.base_formats.specs.Format.{all as allOf, Read, got, refused}
 use Rattle.base_formats.specs.declared.Fault.{Fault}
 use Rattle.base_formats.specs.declared.Fault.the-variants as fault
-use Rattle.score_line.specs.LineFormat.{valid}
+use Rattle.score_line.specs.LineFormat.{slotWords, valid}
 use Rattle.score_line.specs.Reading.{answerOf}
 use Rattle.score_line.specs.declared.Line.{Line}
 use Rattle.score_line_writer.specs.Stored.{stored}
@@ -204,7 +204,7 @@ text-slots-back area out bytes into new n w d h done z dec fit =
     let b = slots-back area n 0 h (k .fault) in
     let c : length ls ≡ n = lines-count area n 0 in
     let s : textOf (take (w .bytes) bytes) ≡ taken ls = text-read-back area out bytes n w h done z in
-    slots-decoded area n ls into new d c (b .1) (sym (ap length (b .1)) ∙ words-long ls (b .0) ∙ ap (λ (j : ℕ). 18 * j) c)
+    slots-decoded area n ls into new d c (b .1) (sym (ap length (b .1)) ∙ words-long ls (b .0) ∙ ap (λ (j : ℕ). slotWords * j) c)
     (decodes (textOf (take (w .bytes) bytes)) ls into new d (ap (λ (x : Score). x .answer) s) (ap (λ (x : Score). x .lines) s) (omega arith) dec)
 
 pub never-refused-18 : NeverRefused18
@@ -352,7 +352,7 @@ text-read-again s area words out new d w dec z done =
     let a = decoded-zero (textOf s) area words d dec z in
     let t = text-taken s (a .0) in
     let ls = t .lines in
-    let fit : 18 * length ls ≤ length area = subst (λ (x : List Line). 18 * length x ≤ length area) (ap (λ (x : Score). x .lines) (t .is)) (a .1) in
+    let fit : slotWords * length ls ≤ length area = subst (λ (x : List Line). slotWords * length x ≤ length area) (ap (λ (x : Score). x .lines) (t .is)) (a .1) in
     let k = decodes (textOf s) ls area words d (a .0) (ap (λ (x : Score). x .lines) (t .is)) fit dec in
     let f = held-from ls words (drop (length (areaWords ls)) area) 0 (t .have .are-valid) (k .words) in
     let ws = t .have .texts in

@@ -8,6 +8,7 @@ use lib.Dec.{T}
 use lib.ListN.{length, take}
 use Rattle.base_answer.specs.Numbers.{numberOf}
 use Rattle.score_line.specs.declared.Line.{Line}
+use Rattle.score_line.specs.LineFormat.{slotWords}
 use Rattle.score_line_writer.specs.Stored.{stored}
 use Rattle.score_reader.specs.Score.{taken}
 use Rattle.text_format.specs.Form as form
@@ -86,7 +87,7 @@ TextReadBack =
 abbrev pub TextSlotsBack : Type 0
 TextSlotsBack =
     (area out bytes into new : List ℕ) (n : ℕ) (w : WriteResult) (d : Decoded) → Words area → TextDone area n out bytes w → numberOf (w .answer) ≡ 0
-    → DecodesTo (textOf (take (w .bytes) bytes)) into new d → 18 * n ≤ length into → SlotsBack area n into new d
+    → DecodesTo (textOf (take (w .bytes) bytes)) into new d → slotWords * n ≤ length into → SlotsBack area n into new d
 
 -- it is never refused 18
 abbrev pub NeverRefused18 : Type 0

@@ -1,5 +1,6 @@
-// Scores written as text, from an area of words, a slot of 18 words to a line.
+// Scores written as text, from an area of words, a slot to a line.
 use base_answer::Answer;
+use score_writer::MOST_LINES;
 use score_writer::WriteResult;
 use text_number_writer::LineText;
 ghost use mathlib.Core.Path.{_≡_};
@@ -7,9 +8,6 @@ ghost use lib.ListN.{length};
 ghost use Rattle.score_writer.specs.Slots.{areaLines};
 ghost use Rattle.text_writer.specs.Writing.{textFrom, leftText, TextDone};
 ghost use Rattle.text_writer.specs.inside.Passes.{measuredPast, Measurable, Layable, Fits, Put};
-
-// The most lines of a score.
-const MOST_LINES: usize = 1_048_575;
 
 // How many bytes lines are written in, or the first that has no text.
 struct Measure {

@@ -3,6 +3,7 @@
 mod areas;
 mod naming;
 mod session;
+mod settings;
 mod text;
 
 use session::Session;

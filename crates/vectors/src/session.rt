@@ -1,16 +1,21 @@
 // The calls that a case can name, each on the panel of the piece or on the one that the case before left.
 ghost use lib.ListN.{length};
 ghost use mathlib.Core.Path.{_≡_};
+use crate::settings;
+use crate::settings::Area;
+use crate::settings::Called;
 use crate::text;
 use crate::text::Head;
 use base_answer::Answer;
 use base_timebase::Checked;
 use panel::Panel;
 
-// A fresh panel of the piece, the panel as the last call left it, and the number that came of it.
+// A fresh panel of the piece and the settings area that its start left, both as the last call left them, and the number that came of it.
 pub struct Session {
     fresh: Panel,
+    begun: Area,
     panel: Panel,
+    area: Area,
     pub got: u64,
 }
 
@@ -19,23 +24,45 @@ fn number(a: Answer) -> u64 {
 }
 
 fn left(d: Session, panel: Panel, got: u64) -> Session {
+    let area = d.area;
+    left_with(d, panel, area, got)
+}
+
+// The same after a call that was lent the area.
+fn left_with(d: Session, panel: Panel, area: Area, got: u64) -> Session {
     let fresh = d.fresh;
+    let begun = d.begun;
     Session {
         fresh: fresh,
+        begun: begun,
         panel: panel,
+        area: area,
         got: got,
+    }
+}
+
+fn after(d: Session, c: Called) -> Session {
+    let panel = c.panel;
+    let area = c.area;
+    left_with(d, panel, area, c.answer)
+}
+
+// A panel with which the next cases begin.
+fn beginning(c: Called) -> Session {
+    let panel = c.panel;
+    let area = c.area;
+    Session {
+        fresh: panel,
+        begun: area,
+        panel: panel,
+        area: area,
+        got: c.answer,
     }
 }
 
 // No piece yet: a refused start's panel stands in.
 pub fn bare() -> Session {
-    let f = Panel::fresh(b"", 0, 0);
-    let panel = f.panel;
-    Session {
-        fresh: panel,
-        panel: panel,
-        got: 0,
-    }
+    beginning(settings::started(settings::unused(), b"", b"", 0))
 }
 
 fn byte_of(numbers: &[u32], at: usize) -> u8 {
@@ -60,22 +87,61 @@ fn bytes_of(numbers: &[u32]) -> [u8; 512]
 
 // ---- calls on the panel
 
+// Its settings are one record of version 1.
 fn piece(ceiling: u32, bytes: &[u8]) -> Session {
-    let f = Panel::fresh(bytes, ceiling, program_io::first_instrument(bytes));
-    let a = f.answer;
-    let panel = f.panel;
-    Session {
-        fresh: panel,
-        panel: panel,
-        got: number(a),
-    }
+    let first = program_io::settings_record(ceiling);
+    let chosen = program_io::first_instrument(bytes);
+    beginning(settings::started(settings::unused(), bytes, &first, chosen))
 }
 
 fn begun(d: Session, ceiling: u32, chosen: u16, bytes: &[u8]) -> Session {
-    let f = Panel::fresh(bytes, ceiling, chosen);
-    let a = f.answer;
-    let panel = f.panel;
-    left(d, panel, number(a))
+    let area = d.area;
+    let first = program_io::settings_record(ceiling);
+    after(d, settings::started(area, bytes, &first, chosen))
+}
+
+// The first bytes are a settings record, the others the orchestra.
+fn begun_with(d: Session, size: usize, bytes: &[u8]) -> Session {
+    if size <= bytes.len() {
+        let area = d.area;
+        let orchestra = &bytes[size..];
+        let chosen = program_io::first_instrument(orchestra);
+        return after(
+            d,
+            settings::started(area, orchestra, &bytes[..size], chosen),
+        );
+    }
+    d
+}
+
+fn change(d: Session, bytes: &[u8]) -> Session {
+    let panel = d.panel;
+    let area = d.area;
+    after(d, settings::changed(panel, area, bytes))
+}
+
+fn undo(d: Session) -> Session {
+    let panel = d.panel;
+    let area = d.area;
+    after(d, settings::undone(panel, area))
+}
+
+fn lend(d: Session, size: usize) -> Session {
+    let panel = d.panel;
+    let area = d.area;
+    left_with(d, panel, settings::lending(area, size), 0)
+}
+
+fn overwrite(d: Session, at: usize, bytes: &[u8]) -> Session {
+    let panel = d.panel;
+    let area = d.area;
+    left_with(d, panel, settings::overwritten(area, at, bytes), 0)
+}
+
+fn byte(d: Session, at: usize) -> Session {
+    let panel = d.panel;
+    let area = d.area;
+    left(d, panel, settings::byte_at(area, at))
 }
 
 fn fresh(d: Session, ceiling: u32, bytes: &[u8]) -> Session {
@@ -267,6 +333,23 @@ fn sounding(d: Session) -> Session {
     left(d, panel, h.sounding)
 }
 
+fn first_sample(block: &[i16; 320]) -> u64 {
+    program_io::sample_bits(block[0]) as u64
+}
+
+// The first sample of the next cycle.
+fn level(d: Session) -> Session {
+    let mut block = [0i16; 320];
+    let panel = d.panel;
+    Panel::cycle(panel, &mut block);
+    left(d, panel, first_sample(&block))
+}
+
+fn notes(d: Session) -> Session {
+    let panel = d.panel;
+    left(d, panel, Panel::sounding_notes(panel) as u64)
+}
+
 fn missed(d: Session) -> Session {
     let panel = d.panel;
     left(d, panel, Panel::missed_notes(panel))
@@ -310,8 +393,16 @@ enum Call {
     Missed,
     Silent,
     Sounding,
+    Level,
+    Notes,
     Ticks,
     Position,
+    First,
+    Change,
+    Undo,
+    Lend,
+    Overwrite,
+    Byte,
     Decode,
     DecodeUnit,
     DecodeText,
@@ -373,6 +464,34 @@ fn told_of(text: &[u8], h: Head) -> Call {
     }
     if text::is_name(text, h, b"position") {
         return Call::Position;
+    }
+    if text::is_name(text, h, b"level") {
+        return Call::Level;
+    }
+    if text::is_name(text, h, b"notes") {
+        return Call::Notes;
+    }
+    of_settings(text, h)
+}
+
+fn of_settings(text: &[u8], h: Head) -> Call {
+    if text::is_name(text, h, b"first") {
+        return Call::First;
+    }
+    if text::is_name(text, h, b"change") {
+        return Call::Change;
+    }
+    if text::is_name(text, h, b"undo") {
+        return Call::Undo;
+    }
+    if text::is_name(text, h, b"lend") {
+        return Call::Lend;
+    }
+    if text::is_name(text, h, b"overwrite") {
+        return Call::Overwrite;
+    }
+    if text::is_name(text, h, b"byte") {
+        return Call::Byte;
     }
     of_burst(text, h)
 }
@@ -454,8 +573,16 @@ fn called(d: Session, c: Call, size: usize, bytes: &[u8], numbers: &[u32]) -> Se
         Call::Missed => missed(d),
         Call::Silent => silent(d),
         Call::Sounding => sounding(d),
+        Call::Level => level(d),
+        Call::Notes => notes(d),
         Call::Ticks => got(d, ticks(numbers)),
         Call::Position => position(d),
+        Call::First => begun_with(d, size, bytes),
+        Call::Change => change(d, bytes),
+        Call::Undo => undo(d),
+        Call::Lend => lend(d, size),
+        Call::Overwrite => overwrite(d, size, bytes),
+        Call::Byte => byte(d, size),
         Call::Decode => got(d, crate::areas::decode(bytes, size)),
         Call::DecodeUnit => got(d, crate::areas::decode_unit(bytes, size)),
         Call::DecodeText => got(d, crate::areas::decode_text(bytes, size)),
@@ -473,7 +600,8 @@ fn started(d: Session, goes_on: bool) -> Session {
         return d;
     }
     let fresh = d.fresh;
-    left(d, fresh, 0)
+    let begun = d.begun;
+    left_with(d, fresh, begun, 0)
 }
 
 fn repeated(

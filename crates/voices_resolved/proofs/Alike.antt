@@ -232,23 +232,23 @@ module _ {S : Type 0} (Good : S → Type 0) where
 
     -- ---- every cycle of the plain player
 
-    module _ (settings : ℕ → Settings) (ls : List Line) where
-      at-good : (k : ℕ) → Notes (plainAt w settings ls k .plays .notes)
+    module _ (start : Float) (settings : ℕ → Settings) (ls : List Line) where
+      at-good : (k : ℕ) → Notes (plainAt w start settings ls k .plays .notes)
       unfolding plainAt plainStart
       at-good zero = tt
-      at-good (suc k) = cycled-good (settings k) (plainAt w settings ls k) (at-good k)
+      at-good (suc k) = cycled-good (settings k) (plainAt w start settings ls k) (at-good k)
 
-      pub at-same : (k : ℕ) → plainAt v settings ls k ≡ plainAt w settings ls k
+      pub at-same : (k : ℕ) → plainAt v start settings ls k ≡ plainAt w start settings ls k
       unfolding plainAt
       at-same zero = refl
-      at-same (suc k) = ap (cycled v (settings k)) (at-same k) ∙ cycled-same (settings k) (plainAt w settings ls k) (at-good k)
+      at-same (suc k) = ap (cycled v (settings k)) (at-same k) ∙ cycled-same (settings k) (plainAt w start settings ls k) (at-good k)
 
-      pub blocks-same : (k : ℕ) → blockAt v settings ls k ≡ blockAt w settings ls k
+      pub blocks-same : (k : ℕ) → blockAt v start settings ls k ≡ blockAt w start settings ls k
       unfolding blockAt
       blocks-same k =
           ap (λ (h : PlayerState S). blockOf v (settings k) (dueOf h) (h .plays)) (at-same k)
-          ∙ block-same (settings k) (dueOf (plainAt w settings ls k)) (plainAt w settings ls k .plays) (at-good k)
+          ∙ block-same (settings k) (dueOf (plainAt w start settings ls k)) (plainAt w start settings ls k .plays) (at-good k)
 
-      pub answers-same : (k : ℕ) → answerAt v settings ls k ≡ answerAt w settings ls k
+      pub answers-same : (k : ℕ) → answerAt v start settings ls k ≡ answerAt w start settings ls k
       unfolding answerAt
       answers-same k = ap answerOf (at-same k)

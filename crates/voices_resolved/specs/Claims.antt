@@ -25,9 +25,9 @@ use Rattle.voices_resolved.specs.Represents.{Represents}
 
 -- the plain player does the same with either voices, in every cycle, for every list of lines and all settings
 pub record SamePlayer {S : Type 0} (v w : Voices S) : Type 0 where
-  pub holds : (settings : ℕ → Settings) (ls : List Line) (k : ℕ) → plainAt v settings ls k ≡ plainAt w settings ls k
-  pub answers : (settings : ℕ → Settings) (ls : List Line) (k : ℕ) → answerAt v settings ls k ≡ answerAt w settings ls k
-  pub blocks : (settings : ℕ → Settings) (ls : List Line) (k : ℕ) → blockAt v settings ls k ≡ blockAt w settings ls k
+  pub holds : (start : Float) (settings : ℕ → Settings) (ls : List Line) (k : ℕ) → plainAt v start settings ls k ≡ plainAt w start settings ls k
+  pub answers : (start : Float) (settings : ℕ → Settings) (ls : List Line) (k : ℕ) → answerAt v start settings ls k ≡ answerAt w start settings ls k
+  pub blocks : (start : Float) (settings : ℕ → Settings) (ls : List Line) (k : ℕ) → blockAt v start settings ls k ≡ blockAt w start settings ls k
 
 -- Each program that represents a tree: its plain player is the tree's.
 abbrev pub PlaysTree : Type 0

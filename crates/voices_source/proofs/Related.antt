@@ -14,6 +14,8 @@ use Rattle.midi_keys.specs.Keys.{frequencyOf, normalizedVelocity}
 use Rattle.midi_messages.specs.declared.NoteMessage.{NoteMessage}
 use Rattle.player_model.specs.Lists.{filter, each, All}
 use Rattle.player_model.specs.Cycle.{Voices, Note, Started, samples, isDue, withState, canCut, cutOldest, joinedBy, born, startedBy, started, controlledBy, controlEvent, controlled, runFrom, runAll, anyEnd, positionLimit, lastTempo, limited, goesOn, release, isHeld, releaseOldest, pressed, afterMessage, afterMessages}
+use Rattle.settings_records.specs.declared.InUse.{InUse}
+use Rattle.player_model.specs.Set.{inForce, startingTempo, setWith}
 use Rattle.player_model.specs.PlayerState.{Settings, PlayerState, behind, dueAt, laterThan, dueOf, endsBy, markedEnded, answerOf, startedOf, renderedOf, blockOf, played, cycled, Due, withMessages, notesToRun}
 use Rattle.player_model.specs.Plain.{plainStart, plainAt, answerAt, blockAt}
 use Rattle.player_model.specs.Calls.{numbered, Transition, takenIn, messagesTaken, allTaken}
@@ -226,44 +228,47 @@ module _ {S S′ : Type 0} (R : S → S′ → Type 0) (Ok : Line → Event → 
 
     -- ---- every cycle
 
-    module _ (settings : ℕ → Settings) where
-      begin : (ls : List Line) → AllOk ls → Cores (plainStart (settings 0) ls) (plainStart (settings 0) ls)
-      unfolding plainStart
-      begin ls o = record { same = record { waits = refl; messages = refl; notes = tt; position = refl; tempo = refl; counts = refl; ended = refl }; ok = o }
+    begin : (start : Float) (ls : List Line) → AllOk ls → Cores (plainStart start ls) (plainStart start ls)
+    unfolding plainStart
+    begin start ls o = record { same = record { waits = refl; messages = refl; notes = tt; position = refl; tempo = refl; counts = refl; ended = refl }; ok = o }
 
-      at-cores : (ls : List Line) → AllOk ls → (n : ℕ) → Cores (plainAt v settings ls n) (plainAt w settings ls n)
+    module _ (start : Float) (settings : ℕ → Settings) where
+      at-cores : (ls : List Line) → AllOk ls → (n : ℕ) → Cores (plainAt v start settings ls n) (plainAt w start settings ls n)
       unfolding plainAt
-      at-cores ls o zero = begin ls o
-      at-cores ls o (suc n) = next (settings n) (plainAt v settings ls n) (plainAt w settings ls n) (at-cores ls o n)
+      at-cores ls o zero = begin start ls o
+      at-cores ls o (suc n) = next (settings n) (plainAt v start settings ls n) (plainAt w start settings ls n) (at-cores ls o n)
 
-      pub blocks-related : (ls : List Line) (n : ℕ) → AllOk ls → blockAt v settings ls n ≡ blockAt w settings ls n
+      pub blocks-related : (ls : List Line) (n : ℕ) → AllOk ls → blockAt v start settings ls n ≡ blockAt w start settings ls n
       unfolding blockAt
-      blocks-related ls n o = block (settings n) (plainAt v settings ls n) (plainAt w settings ls n) (at-cores ls o n)
+      blocks-related ls n o = block (settings n) (plainAt v start settings ls n) (plainAt w start settings ls n) (at-cores ls o n)
 
-      pub answers-related : (ls : List Line) (n : ℕ) → AllOk ls → answerAt v settings ls n ≡ answerAt w settings ls n
+      pub answers-related : (ls : List Line) (n : ℕ) → AllOk ls → answerAt v start settings ls n ≡ answerAt w start settings ls n
       unfolding answerAt
-      answers-related ls n o = answer (settings n) (plainAt v settings ls n) (plainAt w settings ls n) (at-cores ls o n)
+      answers-related ls n o = answer (settings n) (plainAt v start settings ls n) (plainAt w start settings ls n) (at-cores ls o n)
 
-      pub holds-related : (ls : List Line) (n : ℕ) → AllOk ls → StateAs R (plainAt v settings ls n) (plainAt w settings ls n)
+      pub holds-related : (ls : List Line) (n : ℕ) → AllOk ls → StateAs R (plainAt v start settings ls n) (plainAt w start settings ls n)
       holds-related ls n o = at-cores ls o n .same
 
-      -- ---- every list of calls
+    -- ---- every list of calls
 
+    module _ (name : ℕ) (inUse : InUse) where
       record Pasts (h : History S) (h′ : History S′) : Type 0 where
         holds : Cores (h .holds) (h′ .holds)
         reached : h .reached ≡ h′ .reached
+        set : h .set ≡ h′ .set
 
       module _ {P : Type 0} where
-        one-transition : (m : Transition P) (h : History S) (h′ : History S′) → AllOk (takenIn m) → Pasts h h′ → Pasts (withTransition v settings h m) (withTransition w settings h′ m)
+        one-transition : (m : Transition P) (h : History S) (h′ : History S′) → AllOk (takenIn m) → Pasts h h′ → Pasts (withTransition v name h m) (withTransition w name h′ m)
         unfolding behind withMessages
         one-transition m h h′ o g =
-            let k = settings (m .cycles) in
+            let k = inForce name (h .set) in
             let c = g .holds in
             let s = c .same in
             chosen Pasts (numbered (m .call)) (numbered (m .call)) refl
             (record {
-              holds = next k (h .holds) (h′ .holds) c;
+              holds = subst (λ (x : InUse). Cores (cycled v k (h .holds)) (cycled w (inForce name x) (h′ .holds))) (g .set) (next k (h .holds) (h′ .holds) c);
               reached = λ j. cond (eqb (answer k (h .holds) (h′ .holds) c j) 0) (at (s .position j)) (g .reached j);
+              set = g .set;
             })
             (record {
               holds = record {
@@ -279,23 +284,25 @@ module _ {S S′ : Type 0} (R : S → S′ → Type 0) (Ok : Line → Event → 
                 ok = all-append _ (h .holds .waits) (takenIn m) (c .ok) o;
               };
               reached = g .reached;
+              set = λ j. setWith (g .set j) m;
             })
 
-        all-transitions : (ms : List (Transition P)) (h : History S) (h′ : History S′) → AllOk (allTaken ms) → Pasts h h′ → Pasts (historyFrom v settings h ms) (historyFrom w settings h′ ms)
+        all-transitions : (ms : List (Transition P)) (h : History S) (h′ : History S′) → AllOk (allTaken ms) → Pasts h h′ → Pasts (historyFrom v name h ms) (historyFrom w name h′ ms)
         unfolding allTaken historyFrom
         all-transitions [] h h′ o g = g
         all-transitions (m ∷ ms) h h′ o g =
             let p = all-parts (λ (l : Line). Ok l (l .event)) (takenIn m) (allTaken ms) o in
-            all-transitions ms (withTransition v settings h m) (withTransition w settings h′ m) (p .1) (one-transition m h h′ (p .0) g)
+            all-transitions ms (withTransition v name h m) (withTransition w name h′ m) (p .1) (one-transition m h h′ (p .0) g)
 
-        past : (ms : List (Transition P)) → AllOk (allTaken ms) → Pasts (historyOf v settings ms) (historyOf w settings ms)
-        past ms o = all-transitions ms _ _ o (record { holds = begin [] tt; reached = refl })
+        past : (ms : List (Transition P)) → AllOk (allTaken ms) → Pasts (historyOf v name inUse ms) (historyOf w name inUse ms)
+        past ms o = all-transitions ms _ _ o (record { holds = begin (startingTempo inUse) [] tt; reached = refl; set = refl })
 
         pub past-related : (ms : List (Transition P)) → AllOk (allTaken ms)
-            → StateAs R (historyOf v settings ms .holds) (historyOf w settings ms .holds) × (historyOf v settings ms .reached ≡ historyOf w settings ms .reached)
-        past-related ms o = let p = past ms o in (p .holds .same, p .reached)
+            → StateAs R (historyOf v name inUse ms .holds) (historyOf w name inUse ms .holds) × (historyOf v name inUse ms .reached ≡ historyOf w name inUse ms .reached)
+            × (historyOf v name inUse ms .set ≡ historyOf w name inUse ms .set)
+        past-related ms o = let p = past ms o in (p .holds .same, p .reached, p .set)
 
         pub past-block-related : (q : Settings) (ms : List (Transition P)) → AllOk (allTaken ms)
-            → blockOf v q (dueOf (historyOf v settings ms .holds)) (historyOf v settings ms .holds .plays)
-            ≡ blockOf w q (dueOf (historyOf w settings ms .holds)) (historyOf w settings ms .holds .plays)
-        past-block-related q ms o = block q (historyOf v settings ms .holds) (historyOf w settings ms .holds) (past ms o .holds)
+            → blockOf v q (dueOf (historyOf v name inUse ms .holds)) (historyOf v name inUse ms .holds .plays)
+            ≡ blockOf w q (dueOf (historyOf w name inUse ms .holds)) (historyOf w name inUse ms .holds .plays)
+        past-block-related q ms o = block q (historyOf v name inUse ms .holds) (historyOf w name inUse ms .holds) (past ms o .holds)

@@ -137,18 +137,18 @@ named-related is e =
     related is (both-true (distinct (map titleOf is)) (allObeyNameRules is) (both-true (leb (length is) 8) (distinct (map titleOf is) && allObeyNameRules is) e .1) .1)
 
 pub every-piece : EveryPiece
-every-piece is settings ls n e o =
+every-piece is start settings ls n e o =
     let r = named-related is e in
-    let h = holds-related (HeldAs is) (Fits is) r settings ls n o in
+    let h = holds-related (HeldAs is) (Fits is) r start settings ls n o in
     record {
-      answers = answers-related (HeldAs is) (Fits is) r settings ls n o;
-      blocks = blocks-related (HeldAs is) (Fits is) r settings ls n o;
+      answers = answers-related (HeldAs is) (Fits is) r start settings ls n o;
+      blocks = blocks-related (HeldAs is) (Fits is) r start settings ls n o;
       position = h .position;
       missed = λ i. h .counts i .missed;
     }
 
 pub every-past : EveryPast
-every-past P is settings ms e o =
+every-past P is chosen k ms e o =
     let r = named-related is e in
-    let p = past-related (HeldAs is) (Fits is) r settings ms o in
-    record { holds = p .0; reached = p .1; block = λ s. past-block-related (HeldAs is) (Fits is) r settings s ms o }
+    let p = past-related (HeldAs is) (Fits is) r chosen k ms o in
+    record { holds = p .0; reached = p .1; set = p .2; block = λ s. past-block-related (HeldAs is) (Fits is) r chosen k s ms o }

@@ -17,10 +17,10 @@ find-spec =
     tie.close (tie.spec
     (λ n name table m i₀ i. (i ≤ m) × (m ≤ 8) × (lookupIn name (drop i (take n table)) ≡ lookupIn name (take n table)))
     (λ n name table m i₀ i. m - i) (λ c κs. tt)
-    (λ c. (omega (arith, c .within .ensures), omega (arith, c .within .ensures), refl))
+    (λ c. (omega (arith, c .at-most .ensures), omega (arith, c .at-most .ensures), refl))
     (λ c. omega arith) (λ c. omega arith)
     (λ c. let s = c .before .before .before .before .before .before in
-    let w = c .before .before .before .before .before .within .ensures in
+    let w = c .before .before .before .before .before .at-most .ensures in
     let at = c .before .before .before .before .loop in
     let t = s .args .t1 in
     let g = get-take t (s .args .n) 8 _ (at .i) (s .good .0 .1 .0 .1) w (c .before .before .before .loop-test .taken) _ in
@@ -29,7 +29,7 @@ find-spec =
     ∙ found-yes _ _ _ _ _ h (ap (λ (x : Instrument). eqb (x .name) (s .args .name)) g ∙ eq-eqb _ _ (c .if1 .taken)) (at .inv .2))
     (λ c. omega arith) (λ c. omega arith)
     (λ c. let s = c .before .before .before .before .before .before in
-    let w = c .before .before .before .before .before .within .ensures in
+    let w = c .before .before .before .before .before .at-most .ensures in
     let at = c .before .before .before .before .loop in
     let t = s .args .t1 in
     let g = get-take t (s .args .n) 8 _ (at .i) (s .good .0 .1 .0 .1) w (c .before .before .before .loop-test .taken) _ in
@@ -37,5 +37,5 @@ find-spec =
     (omega arith, at .inv .1, found-no _ _ _ _ _ h (ap (λ (x : Instrument). eqb (x .name) (s .args .name)) g ∙ ne-eqb _ _ (c .if1 .left)) (at .inv .2)))
     (λ c. unfold blank in let s = c .before .before .before in
     let h : length (take (s .args .n) (s .args .t1)) ≤ c .before .loop .i =
-    omega (arith, length-take (s .args .n) (s .args .t1), c .before .before .within .ensures, s .good .0 .1 .0 .1, c .loop-test .left) in
+    omega (arith, length-take (s .args .n) (s .args .t1), c .before .before .at-most .ensures, s .good .0 .1 .0 .1, c .loop-test .left) in
     found-end _ _ _ _ h (c .before .loop .inv .2)))

@@ -1,11 +1,9 @@
 use mathlib.Core.Path.{refl, ap, _∙_}
 use mathlib.Core.List.{List}
 use lib.Ieee.{Float}
-use lib.ListN.{take}
 use borrow.Author.Needs.{needs}
 use Rattle.engine_limiter.specs.Block.{limited}
 use Rattle.player_model.specs.Cycle.{runAll}
-use Rattle.note_events.proofs.Rendered.{run-notes-are}
 use Rattle.engine_block.proofs.sound.Statement.{statement}
 use Rattle.engine_block.proofs.sound.Tie as tie
 
@@ -15,6 +13,6 @@ sound-spec =
     (λ c. unfold runAll in let r = c .before .before .before .before .before in
     let g = r .run-notes .ensures in
     let a = r .before .before .before .before .before .args in (
-      (refl, run-notes-are (take (a .n) (a .table)) (a .code .now) (a .vals .now) (a .v .notes) (a .v .count) _ _ (g .0)),
+      (refl, g .0),
       c .before .limit .ensures ∙ ap (λ (m : List Float). limited (a .ceiling) m (a .block .now)) (g .1),
     )))

@@ -14,12 +14,12 @@ admit-lines-spec =
     (λ table n old lines timed m q₀ i₀ q i. m - i) (λ c κs. tt)
     (λ c. let s = c .before .before in
     let l : length (s .args .h .lines) ≡ 65 = simp length-map at (s .good .1 .1 .1 .0 .1 .1 .0 .1 .0 .1) in
-    (omega (arith, c .capped-count .ensures), pushing-none _ _ _ _ _ (omega (arith, l, c .capped-count .ensures))))
+    (omega (arith, c .at-most .ensures), pushing-none _ _ _ _ _ (omega (arith, l, c .at-most .ensures))))
     (λ c. omega arith) (λ c. omega arith) (λ c κs. tt) (λ c κs. tt)
     (λ c. let at = c .before .before .before .before .before .loop in
     let s = c .before .before .before .before .before .before .before .before in
     let l : length (s .args .h .lines) ≡ 65 = simp length-map at (s .good .1 .1 .1 .0 .1 .1 .0 .1 .0 .1) in
-    all-pushed _ _ _ (s .args .h .lines) (s .args .h .count) _ (c .before .before .before .before .before .before .capped-count .ensures) l _
+    all-pushed _ _ _ (s .args .h .lines) (s .args .h .count) _ (c .before .before .before .before .before .before .at-most .ensures) l _
     (pushing-off _ _ _ (s .args .h .lines) _ _ _ (omega arith) (at .inv .1) _ _ (c .before .before .admit-line .ensures) (sym (c .before .is-taken .ensures) ∙ not-true _ (c .if1 .taken))))
     (λ c. omega arith) (λ c. omega arith)
     (λ c. let at = c .before .before .before .before .before .before .loop in
@@ -27,5 +27,5 @@ admit-lines-spec =
     (at .inv .0, pushing-next _ _ _ (s .args .h .lines) _ _ _ (omega arith) (at .inv .1) _ _ (c .before .before .before .admit-line .ensures) (sym (c .before .before .is-taken .ensures) ∙ not-false _ (c .before .if1 .left))))
     (λ c. let s = c .before .before .before .before in
     let l : length (s .args .h .lines) ≡ 65 = simp length-map at (s .good .1 .1 .1 .0 .1 .1 .0 .1 .0 .1) in
-    all-pushed _ _ _ (s .args .h .lines) (s .args .h .count) _ (c .before .before .capped-count .ensures) l _
+    all-pushed _ _ _ (s .args .h .lines) (s .args .h .count) _ (c .before .before .at-most .ensures) l _
     (pushing-end _ _ _ (s .args .h .lines) _ _ _ (c .loop-test .left) (c .before .loop .inv .1))))

@@ -14,8 +14,8 @@ score-lines-spec =
     (λ s lines₀ c₀ m i₀ lines c i. m - i)
     (λ c κs. tt) (λ c κs. tt) (λ c κs. tt)
     (λ c. (
-      omega (arith, c .capped-count .ensures),
-      score-start _ (c .before .before .before .before .pre) _ (c .before .first .ensures) _ (c .capped-count .ensures) _ (c .before .before .blank-line .ensures),
+      omega (arith, c .at-most .ensures),
+      score-start _ (c .before .before .before .before .pre) _ (c .before .first .ensures) _ (c .at-most .ensures) _ (c .before .before .blank-line .ensures),
     ))
     (λ c κs. tt) (λ c. omega arith) (λ c. omega arith) (λ c. omega arith) (λ c. omega arith)
     (λ c. let at = c .before .before .before .before .loop in

@@ -13,7 +13,7 @@ text-lines-spec =
     (λ s count lines₀ m at₀ i₀ lines at i. m - i)
     (λ c κs. tt) (λ c κs. tt)
     (λ c. let pre = c .before .before .before .pre in
-    (omega (arith, c .capped-count .ensures), text-start _ (pre .0) _ (pre .1) _ (c .capped-count .ensures) _ (c .before .blank-line .ensures)))
+    (omega (arith, c .at-most .ensures), text-start _ (pre .0) _ (pre .1) _ (c .at-most .ensures) _ (c .before .blank-line .ensures)))
     (λ c κs. tt) (λ c. omega arith) (λ c. omega arith) (λ c. omega arith) (λ c. omega arith)
     (λ c. let at = c .before .before .before .before .loop in
     (at .inv .0, gather-next _ _ _ _ _ _ (omega arith) (at .inv .1) _ _ (text-steps _ _ _ (c .before .before .line-at .ensures))))

@@ -19,7 +19,7 @@ control-lines-spec =
     × (v .notes ≡ over (controlledAll (take n table) (take (v₀ .count) (v₀ .notes)) (take i lines)) (v₀ .notes)))
     (λ table n m lines w v₀ i₀ v i. w - i)
     (λ c κs. tt)
-    (λ c. unfold controlledAll fold in (omega (arith, c .within .ensures), omega (arith, c .within .ensures), refl, over-self (c .before .args .notes .count) (c .before .args .notes .notes)))
+    (λ c. unfold controlledAll fold in (omega (arith, c .at-most .ensures), omega (arith, c .at-most .ensures), refl, over-self (c .before .args .notes .count) (c .before .args .notes .notes)))
     (λ c. omega arith) (λ c. omega arith) (λ c κs. tt) (λ c. omega arith) (λ c. omega arith)
     (λ c. let s = c .before .before .before .before .before in
     let at = c .before .before .before .loop in
@@ -36,5 +36,5 @@ control-lines-spec =
     let at = c .before .loop in (
       at .inv .2,
       at .inv .3 ∙ ap (λ (ls : List Line). over (controlledAll (take (s .args .n) (s .args .table)) (take (s .args .notes .count) (s .args .notes .notes)) ls) (s .args .notes .notes))
-          (take-end (s .args .t4) (s .args .m) 64 _ (s .good .1 .1 .1 .0 .1 .0 .1) _ (c .before .before .within .ensures) (at .inv .0) (c .loop-test .left)),
+          (take-end (s .args .t4) (s .args .m) 64 _ (s .good .1 .1 .1 .0 .1 .0 .1) _ (c .before .before .at-most .ensures) (at .inv .0) (c .loop-test .left)),
     )))

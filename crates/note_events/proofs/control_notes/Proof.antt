@@ -18,7 +18,7 @@ control-notes-spec =
     (λ table n v label variable value notes m a₀ j₀ a j. (j ≤ m) × (m ≤ 16) × (a ≡ over (each (controlledIn (take n table) label variable value) (take j notes)) notes))
     (λ table n v label variable value notes m a₀ j₀ a j. m - j)
     (λ c κs. tt)
-    (λ c. unfold each in (omega (arith, c .within .ensures), omega (arith, c .within .ensures), refl))
+    (λ c. unfold each in (omega (arith, c .at-most .ensures), omega (arith, c .at-most .ensures), refl))
     (λ c. omega arith) (λ c. omega arith) (λ c κs. tt) (λ c κs. tt) (λ c. omega arith) (λ c. omega arith) (λ c. omega arith) (λ c. omega arith)
     (λ c. let s = c .before .before .before .before .before .before .before .before in
     let at = c .before .before .before .before .before .loop in
@@ -33,5 +33,5 @@ control-notes-spec =
       refl,
       c .before .loop .inv .2
           ∙ ap (λ (ns : List Note). over (each g ns) (s .args .v .notes))
-          (take-end (s .args .v .notes) (s .args .v .count) 16 _ l _ (c .before .before .within .ensures) (c .before .loop .inv .0) (c .loop-test .left)),
+          (take-end (s .args .v .notes) (s .args .v .count) 16 _ l _ (c .before .before .at-most .ensures) (c .before .loop .inv .0) (c .loop-test .left)),
     )))

@@ -25,7 +25,7 @@ run-notes-spec =
     (λ table n code vals count mix₀ notes m room₀ a₀ j₀ mix room a j. (j ≤ m) × (m ≤ 16) × Running (take n table) code vals notes a mix₀ mix j × (numbersIn room ≡ numbersIn (workingAreaOf vals)))
     (λ table n code vals count mix₀ notes m room₀ a₀ j₀ mix room a j. m - j)
     (λ c κs. tt) (λ c κs. search needs)
-    (λ c. let w = c .before .within .ensures in
+    (λ c. let w = c .before .at-most .ensures in
     (omega (arith, w), omega (arith, w), running-none _ _ _ _ _ (c .before .before .before .before .before .good .1 .1 .1 .1 .0 .1 .0 .1), ap numbersIn (c .working-area .ensures)))
     (λ c. omega arith) (λ c. omega arith) (λ c κs. tt) (λ c κs. search needs) (λ c. omega arith) (λ c. omega arith) (λ c. omega arith)
     (λ c. omega arith)
@@ -41,7 +41,7 @@ run-notes-spec =
     (λ c. c .before .loop .inv .2 .samples)
     (λ c. let s = c .before .before .before .before .before .before .before in
     let r = c .before .loop .inv .2 in
-    let w = c .before .before .before .within .ensures in
+    let w = c .before .before .before .at-most .ensures in
     let i = c .before .loop .inv .0 in
     let v = voices (take (s .args .n) (s .args .table)) (s .args .code .now) (s .args .vals .now) in
     let e : runFrom v (notesIn (s .args .t5) (c .before .loop .j)) (s .args .mix .now) ≡ runFrom v (notesIn (s .args .t5) (s .args .count)) (s .args .mix .now) =

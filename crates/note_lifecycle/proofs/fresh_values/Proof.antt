@@ -3,8 +3,8 @@ use Prim.Native.Nat.{ℕ, _-_, min}
 use native.Mathlib.Omega.{arith}
 use borrow.Author.Needs.{needs}
 use lib.ListN.{take}
+use Rattle.base_laws.proofs.Lists.{take-min}
 use Rattle.code_interpreter.specs.Passes.{freshOf}
-use Rattle.player_model.proofs.Loops.{take-min}
 use Rattle.note_lifecycle.proofs.Values.{take-both}
 use Rattle.note_lifecycle.proofs.fresh_values.Statement.{statement}
 use Rattle.note_lifecycle.proofs.fresh_values.Tie as tie
@@ -16,6 +16,6 @@ fresh-values-spec =
     (λ c. let w = c .before .before .before in
     let s = w .before .before in
     let a = s .args in
-    let e : w .within2 .result - 0 ≡ min (a .fields) (min (a .count) 8) = omega (arith, w .within2 .ensures, w .before .within .ensures) in
+    let e : w .at-most2 .result - 0 ≡ min (a .fields) (min (a .count) 8) = omega (arith, w .at-most2 .ensures, w .before .at-most .ensures) in
     c .initial-values .ensures ∙ ap freshOf (ap (λ (k : ℕ). take k (a .t1)) e ∙ take-both (a .fields) (min (a .count) 8) (a .t1)
     ∙ ap (take (a .fields)) (take-min (a .t1) (a .count) 8 (s .good .0 .1 .0 .1)))))

@@ -14,7 +14,7 @@ copied-over-spec =
     tie.close (tie.spec
     (λ count new m a₀ i₀ a i. (i ≤ m) × (m ≤ 16) × (length a ≡ 16) × (a ≡ over (take i new) a₀))
     (λ count new m a₀ i₀ a i. m - i) (λ c κs. tt)
-    (λ c. (omega (arith, c .within .ensures), omega (arith, c .within .ensures), c .before .good .1 .1 .0 .1 .0 .1, refl))
+    (λ c. (omega (arith, c .at-most .ensures), omega (arith, c .at-most .ensures), c .before .good .1 .1 .0 .1 .0 .1, refl))
     (λ c. omega arith) (λ c. omega arith) (λ c. omega arith) (λ c. omega arith) (λ c. omega arith) (λ c. omega arith)
     (λ c. let s = c .before .before .before .before in
     let at = c .before .before .loop in
@@ -23,4 +23,4 @@ copied-over-spec =
     (omega arith, at .inv .1, simp length-set (at .inv .2), laid-step _ _ _ _ _ h k (at .inv .3)))
     (λ c. let s = c .before .before .before in
     c .before .loop .inv .3
-    ∙ ap (λ (l : List Note). over l (s .args .old)) (take-end (s .args .t1) (s .args .count) 16 _ (s .good .0 .1 .0 .1) _ (c .before .before .within .ensures) (c .before .loop .inv .0) (c .loop-test .left))))
+    ∙ ap (λ (l : List Note). over l (s .args .old)) (take-end (s .args .t1) (s .args .count) 16 _ (s .good .0 .1 .0 .1) _ (c .before .before .at-most .ensures) (c .before .loop .inv .0) (c .loop-test .left))))

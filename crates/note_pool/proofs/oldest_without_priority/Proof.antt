@@ -3,8 +3,9 @@ use Prim.Native.Nat.{_≤_, _-_}
 use native.Mathlib.Omega.{arith}
 use lib.ListN.{length, take, length-map}
 use lib.Seq.{length-take-le, getD-take}
+use borrow.Author.Tests.{not-true, not-false}
 use Rattle.note_state.specs.declared.Note.{Note}
-use Rattle.note_pool.proofs.Cutting.{Past, past-none, past-one, past-here, past-all, not-true, not-false}
+use Rattle.note_pool.proofs.Cutting.{Past, past-none, past-one, past-here, past-all}
 use Rattle.note_pool.proofs.oldest_without_priority.Statement.{statement}
 use Rattle.note_pool.proofs.oldest_without_priority.Tie as tie
 
@@ -20,8 +21,8 @@ oldest-without-priority-spec =
     let l : length (s .args .v .notes) ≡ 16 = simp length-map at (s .good .0 .1 .1 .0 .1 .0 .1) in
     let k = length-take-le (s .args .v .count) (s .args .v .notes) (omega (arith, s .pre)) in
     let t = c .before .before .before .loop-test .taken in
-    past-here (take (s .args .v .count) (s .args .v .notes)) (at .loop .i) _ (omega (arith, k, t))
-    (ap (λ (n : Note). n .priority) (getD-take (s .args .v .count) (s .args .v .notes) (at .loop .i) _ t) ∙ not-true _ (c .if1 .taken)) (at .loop .inv .2))
+    past-here (take (s .args .v .count) (s .args .v .notes)) (at .loop .oldest) _ (omega (arith, k, t))
+    (ap (λ (n : Note). n .priority) (getD-take (s .args .v .count) (s .args .v .notes) (at .loop .oldest) _ t) ∙ not-true _ (c .if1 .taken)) (at .loop .inv .2))
     (λ c. omega arith) (λ c. omega arith)
     (λ c. let at = c .before .before .before .before in
     let s = at .before .before in
@@ -30,13 +31,13 @@ oldest-without-priority-spec =
     let t = c .before .before .before .loop-test .taken in (
       omega arith,
       at .loop .inv .1,
-      past-one (take (s .args .v .count) (s .args .v .notes)) (at .loop .i) _ (omega (arith, k, t))
-          (ap (λ (n : Note). n .priority) (getD-take (s .args .v .count) (s .args .v .notes) (at .loop .i) _ t) ∙ not-false _ (c .if1 .left)) (at .loop .inv .2),
+      past-one (take (s .args .v .count) (s .args .v .notes)) (at .loop .oldest) _ (omega (arith, k, t))
+          (ap (λ (n : Note). n .priority) (getD-take (s .args .v .count) (s .args .v .notes) (at .loop .oldest) _ t) ∙ not-false _ (c .if1 .left)) (at .loop .inv .2),
     ))
     (λ c. let at = c .before in
     let s = at .before .before in
     let l : length (s .args .v .notes) ≡ 16 = simp length-map at (s .good .0 .1 .1 .0 .1 .0 .1) in
     let k = length-take-le (s .args .v .count) (s .args .v .notes) (omega (arith, s .pre)) in
-    let i : at .loop .i ≡ s .args .v .count = omega (arith, at .loop .inv .0, c .loop-test .left) in
-    let e = past-all (take (s .args .v .count) (s .args .v .notes)) (at .loop .i) (omega (arith, k, i)) (at .loop .inv .2) in
+    let i : at .loop .oldest ≡ s .args .v .count = omega (arith, at .loop .inv .0, c .loop-test .left) in
+    let e = past-all (take (s .args .v .count) (s .args .v .notes)) (at .loop .oldest) (omega (arith, k, i)) (at .loop .inv .2) in
     omega (arith, i, e)))

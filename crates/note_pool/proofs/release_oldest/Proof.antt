@@ -17,13 +17,13 @@ release-oldest-spec =
     let at = h .before .before .before in
     let s = at .before .before in
     let l : length (s .args .v .notes) ≡ 16 = simp length-map at (s .good .0 .1 .1 .0 .1 .0 .1) in
-    marks-one _ _ (s .args .v) (s .pre) l (at .loop .i) _ (h .before .before .loop-test .taken) (at .loop .inv .2) (sym (h .is-held .ensures) ∙ c .before .if1 .taken) _ (c .release .ensures))
+    marks-one _ _ (s .args .v) (s .pre) l (at .loop .place) _ (h .before .before .loop-test .taken) (at .loop .inv .2) (sym (h .is-held .ensures) ∙ c .before .if1 .taken) _ (c .release .ensures))
     (λ c. omega arith) (λ c. omega arith)
     (λ c. let at = c .before .before .before .before in
     let s = at .before .before in
     let l : length (s .args .v .notes) ≡ 16 = simp length-map at (s .good .0 .1 .1 .0 .1 .0 .1) in
-    (omega arith, at .loop .inv .1, unheld-more _ _ (s .args .v .notes) (at .loop .i) _ (omega arith) (at .loop .inv .2) (sym (c .before .is-held .ensures) ∙ c .if1 .left)))
+    (omega arith, at .loop .inv .1, unheld-more _ _ (s .args .v .notes) (at .loop .place) _ (omega arith) (at .loop .inv .2) (sym (c .before .is-held .ensures) ∙ c .if1 .left)))
     (λ c. let at = c .before in
     let s = at .before .before in
     let l : length (s .args .v .notes) ≡ 16 = simp length-map at (s .good .0 .1 .1 .0 .1 .0 .1) in
-    marks-none _ _ (s .args .v) (s .pre) l (at .loop .i) (c .loop-test .left) (at .loop .inv .2) (at .loop .inv .0)))
+    marks-none _ _ (s .args .v) (s .pre) l (at .loop .place) (c .loop-test .left) (at .loop .inv .2) (at .loop .inv .0)))

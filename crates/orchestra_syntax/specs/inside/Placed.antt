@@ -1,4 +1,4 @@
--- The placed form of a tree, which the player's code is made of: a name is 16 * rate + place, the rates being numbers. What is said of it here is
+-- The placed form of a tree, which the player's code is made of: a name is a number, of its rate and its place (`placedAs`). What is said of it here is
 -- what document 01 says of the tree as it is written (`Translation`).
 use Prim.Native.Nat.{ℕ, suc, _+_, _*_, _/_, _%_, max}
 use mathlib.Core.Bool.{Bool, true, _&&_, cond}
@@ -18,10 +18,20 @@ speed aRate = 2
 abbrev pub speedOfKind : ℕ → ℕ
 speedOfKind d = speed (rateOfKind d)
 
+-- a name by its place: its rate and its place as one number
+abbrev pub placedAs : ℕ → ℕ → ℕ
+placedAs r p = 16 * r + p
+
+abbrev pub rateOf : ℕ → ℕ
+rateOf c = c / 16 % 4
+
+abbrev pub placeOf : ℕ → ℕ
+placeOf c = c % 16
+
 -- a declared name, where the first of the list has the place p; 0 where there is none
 unfoldable pub placeFrom : ℕ → ℕ → List Named → ℕ
 placeFrom p n [] = 0
-placeFrom p n (m ∷ ms) = cond (eqb (m .name) n) (16 * speedOfKind (m .kind) + p) (placeFrom (suc p) n ms)
+placeFrom p n (m ∷ ms) = cond (eqb (m .name) n) (placedAs (speedOfKind (m .kind)) p) (placeFrom (suc p) n ms)
 
 abbrev pub place : List Named → ℕ → ℕ
 place ms n = placeFrom 0 n ms
@@ -44,12 +54,6 @@ abbrev pub placed : Instrument → Instrument
 placed i = record { name = i .name; fields = i .fields; declarations = i .declarations; body = put (namesOf i) (i .body) }
 
 -- ---- the rate rules on placed names
-
-abbrev pub rateOf : ℕ → ℕ
-rateOf c = c / 16 % 4
-
-abbrev pub placeOf : ℕ → ℕ
-placeOf c = c % 16
 
 unfoldable pub rate : Expr → ℕ
 rate (number x) = 0

@@ -2,7 +2,7 @@ use lib.Ieee.{nan}
 use Rattle.orchestra_tokens.specs.inside.Token.{zeroF}
 use mathlib.Core.Path.{sym}
 use lib.ListN.{List·getD-eq-default}
-use Rattle.orchestra_tokens.proofs.Past.{getD-any}
+use Rattle.base_laws.proofs.Lists.{getD-any}
 use borrow.Author.Needs.{needs}
 use Rattle.orchestra_tokens.proofs.real_at.Statement.{statement}
 use Rattle.orchestra_tokens.proofs.real_at.Tie as tie

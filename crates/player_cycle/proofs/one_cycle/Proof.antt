@@ -24,7 +24,7 @@ one-cycle-spec =
     (λ c. unfold stopped in let d = c .before .before .due-lines .ensures in
     let due = take-over _ _ (d .0) (d .1) in
     let over = c .before .ends-piece .ensures in
-    (cycle-stops _ _ _ _ _ due _ over (c .if2 .taken), block-stays _ _ _ _ _ due _ over _ (c .if2 .taken)))
+    (cycle-stops _ _ _ _ _ _ due _ over (c .if2 .taken), block-stays _ _ _ _ _ _ due _ over _ (c .if2 .taken)))
     (λ c κs. near-law _ _ (sym (c .before .before .ends-piece .ensures) ∙ c .before .if2 .left))
     (λ c κs. search needs) (λ c κs. search needs) (λ c. search needs)
     (λ c. let a = c .before .before .before in
@@ -33,4 +33,4 @@ one-cycle-spec =
     let due = take-over _ _ (d .0) (d .1) in
     let over = o .before .ends-piece .ensures in
     let left = a .advance .ensures in
-    (cycle-plays _ _ _ _ _ due _ over (o .if2 .left) _ (left .0) _ (c .before .queue-after-cycle .ensures) _ (c .emptied .ensures), block-plays _ _ _ _ _ due _ over _ (o .if2 .left) _ (left .1))))
+    (cycle-plays _ _ _ _ _ _ due _ over (o .if2 .left) _ (left .0) _ (c .before .queue-after-cycle .ensures) _ (c .emptied .ensures), block-plays _ _ _ _ _ _ due _ over _ (o .if2 .left) _ (left .1))))

@@ -14,4 +14,4 @@ idle-cycle-spec =
     (λ c κs. search needs) (λ c κs. search needs) (λ c. search needs)
     (λ c. unfold silence in let m = c .before .before .before .before .before .before in
     let t = m .before .before in
-    (rested-law _ _ (t .ticks-per-cycle .ensures) _ (m .before .within .ensures) _ (m .add-missed .ensures), t .before .before .limit .ensures)))
+    (rested-law _ _ (t .ticks-per-cycle .ensures) _ (m .before .at-most .ensures) _ (m .add-missed .ensures), t .before .before .limit .ensures)))

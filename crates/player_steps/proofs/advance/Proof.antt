@@ -14,4 +14,4 @@ advance-spec =
     (λ c. search needs)
     (λ c. let t = c .before .before .before .perform .ensures in
     let at = c .before .before .before .before .before in
-    (advance-law _ _ _ _ _ _ _ _ (t .0) _ (at .tempo-after .ensures) _ (c .ticks-per-cycle .ensures), t .1)))
+    (advance-law _ _ _ _ _ _ _ _ _ (t .0) _ (at .tempo-after .ensures) _ (c .ticks-per-cycle .ensures), t .1)))

@@ -7,7 +7,8 @@ use Rattle.replay.proofs.run.Tie as tie
 pub run-spec : {M : Type 1} → statement M
 run-spec =
     tie.close (tie.spec
-    (λ input₀ out₀ data₀ r₀ left₀ input out «data» r left. (length input ≡ length input₀) × (length out ≡ length out₀))
-    (λ input₀ out₀ data₀ r₀ left₀ input out «data» r left. left) (λ c. search needs) (λ c κs. search needs) (λ c κs. search needs)
-    (λ c κs. search needs) (λ c. search needs) (λ c. search needs) (λ c. search needs) (λ c. search needs) (λ c κs. search needs) (λ c. search needs)
-    (λ c. search needs) (λ c. search needs) (λ c. search needs) (λ c. search needs) (λ c. search needs))
+    (λ area₀ input₀ out₀ data₀ n₀ left₀ area input out «data» n left. (length input ≡ length input₀) × (length out ≡ length out₀))
+    (λ area₀ input₀ out₀ data₀ n₀ left₀ area input out «data» n left. left)
+    (λ c. search needs) (λ c. search needs) (λ c κs. search needs) (λ c κs. search needs) (λ c κs. search needs) (λ c. search needs)
+    (λ c. search needs) (λ c. search needs) (λ c. search needs) (λ c κs. search needs) (λ c. search needs) (λ c. search needs)
+    (λ c. search needs) (λ c. search needs) (λ c. search needs) (λ c. search needs))

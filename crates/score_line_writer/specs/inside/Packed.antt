@@ -8,14 +8,15 @@ use Rattle.base_bitstream.specs.Fields.{farthest, over}
 use Rattle.base_formats.specs.Format.{Field, of, fieldWords, fieldBits}
 use Rattle.base_formats.specs.inside.Lengths.{fieldWidths, widths}
 use Rattle.score_line_writer.specs.declared.Fields.{Fields}
-use Rattle.score_line_writer.specs.Writing.{toEighteen}
+use Rattle.score_line_writer.specs.Writing.{toSlot}
+use Rattle.score_line.specs.LineFormat.{slotWords}
 
 unfoldable pub packed : List Field → Fields
-packed fs = record { count = length fs; bits = widths fs; widths = toEighteen (fieldWidths fs); values = toEighteen (fieldWords fs) }
+packed fs = record { count = length fs; bits = widths fs; widths = toSlot (fieldWidths fs); values = toSlot (fieldWords fs) }
 
 -- there is room for n fields more, and the bits so far are few
 pub record Room (f : Fields) (n : ℕ) : Type 0 where
-  pub room : f .count + n ≤ 18
+  pub room : f .count + n ≤ slotWords
   pub few : f .bits ≤ 32 * f .count
 
 -- r is f and these fields behind it, at most n
@@ -37,7 +38,7 @@ fieldsIn n ws vs = zipped (take n ws) (take n vs)
 
 -- that many bits have these fields at a position
 pub record Writable (bits at n : ℕ) (ws vs : List ℕ) : Type 0 where
-  pub few : n ≤ 18
+  pub few : n ≤ slotWords
   pub narrow : (i : ℕ) → getD ws i 0 ≤ 32
   pub near : at + widths (fieldsIn n ws vs) ≤ farthest
   pub within : at + widths (fieldsIn n ws vs) ≤ bits

@@ -1,7 +1,7 @@
 -- The text of a line as the code puts it together, piece by piece. Definitions only.
 use Prim.Native.Nat.{ℕ}
 use mathlib.Core.Path.{_≡_}
-use mathlib.Core.Bool.{true, false}
+use mathlib.Core.Bool.{true, false, cond}
 use mathlib.Core.List.{List, [], _∷_, _++_}
 use mathlib.Core.Option.{Option, none, some, Option·map}
 use lib.Ieee.{Float}
@@ -25,6 +25,19 @@ beside (some x) (some y) = some (x ++ y)
 abbrev pub Holds : Draft → Option (List ℕ) → Type 0
 Holds d none = d .there ≡ false
 Holds d (some bytes) = (d .there ≡ true) × (d .text ≡ pushAll emptyText bytes)
+
+-- the draft itself, where a text is there or none is: then it holds no byte
+unfoldable pub drafted : Option (List ℕ) → Draft
+drafted none = record { there = false; text = emptyText }
+drafted (some bytes) = record { there = true; text = pushAll emptyText bytes }
+
+pub record Drafted (r : Draft) (piece : Option (List ℕ)) : Type 0 where
+  pub told : r ≡ drafted piece
+  pub holds : Holds r piece
+
+-- a draft of which nothing is kept where a number is missing
+unfoldable pub kept : Draft → Draft
+kept d = cond (d .there) d (record { there = false; text = emptyText })
 
 -- r is d and these bytes behind it
 pub record Joined (d : Draft) (piece : Option (List ℕ)) (r : Draft) : Type 0 where

@@ -1,5 +1,6 @@
 -- The notes by place and the notes as they are written: the same lines make the same of both. Statements and what they need.
 use Prim.Native.Nat.{ℕ}
+use lib.Ieee.{Float}
 use mathlib.Core.Path.{_≡_}
 use mathlib.Core.Bool.{true}
 use mathlib.Core.List.{List}
@@ -7,6 +8,7 @@ use Rattle.score_line.specs.declared.Line.{Line}
 use Rattle.orchestra_syntax.specs.Tree.{Instrument}
 use Rattle.orchestra_syntax.specs.Names.{namesOf, nameRules}
 use Rattle.player_model.specs.Lists.{All}
+use Rattle.settings_records.specs.declared.InUse.{InUse}
 use Rattle.player_model.specs.PlayerState.{Settings, dueOf, blockOf}
 use Rattle.player_model.specs.Calls.{Transition, allTaken}
 use Rattle.player_model.specs.History.{historyOf}
@@ -24,27 +26,28 @@ pub record HeldAs (is : List Instrument) (s : byPlace.VoiceState) (t : VoiceStat
   pub values : Stands (namesOf (instrumentOf is (s .instrument))) (s .values) (t .memory .values)
 
 -- with such lines the plain player by place is the plain player as written, in every cycle
-pub record PlaysAsWritten (is : List Instrument) (settings : ℕ → Settings) (ls : List Line) (n : ℕ) : Type 0 where
-  pub answers : answerAt (treeVoices is) settings ls n ≡ answerAt (writtenVoices is) settings ls n
-  pub blocks : blockAt (treeVoices is) settings ls n ≡ blockAt (writtenVoices is) settings ls n
+pub record PlaysAsWritten (is : List Instrument) (start : Float) (settings : ℕ → Settings) (ls : List Line) (n : ℕ) : Type 0 where
+  pub answers : answerAt (treeVoices is) start settings ls n ≡ answerAt (writtenVoices is) start settings ls n
+  pub blocks : blockAt (treeVoices is) start settings ls n ≡ blockAt (writtenVoices is) start settings ls n
   -- before the cycle
-  pub position : plainAt (treeVoices is) settings ls n .plays .position ≡ plainAt (writtenVoices is) settings ls n .plays .position
-  pub missed : plainAt (treeVoices is) settings ls n .plays .counts .missed ≡ plainAt (writtenVoices is) settings ls n .plays .counts .missed
+  pub position : plainAt (treeVoices is) start settings ls n .plays .position ≡ plainAt (writtenVoices is) start settings ls n .plays .position
+  pub missed : plainAt (treeVoices is) start settings ls n .plays .counts .missed ≡ plainAt (writtenVoices is) start settings ls n .plays .counts .missed
 
 abbrev pub EveryPiece : Type 0
 EveryPiece =
-    (is : List Instrument) (settings : ℕ → Settings) (ls : List Line) (n : ℕ) → nameRules is ≡ true → All (λ (l : Line). Fits is l (l .event)) ls
-    → PlaysAsWritten is settings ls n
+    (is : List Instrument) (start : Float) (settings : ℕ → Settings) (ls : List Line) (n : ℕ) → nameRules is ≡ true → All (λ (l : Line). Fits is l (l .event)) ls
+    → PlaysAsWritten is start settings ls n
 
 -- and so is what a list of calls leaves by its history, and the block of the cycle that follows it
-pub record PastAsWritten {P : Type 0} (is : List Instrument) (settings : ℕ → Settings) (ms : List (Transition P)) : Type 0 where
-  pub holds : StateAs (HeldAs is) (historyOf (treeVoices is) settings ms .holds) (historyOf (writtenVoices is) settings ms .holds)
-  pub reached : historyOf (treeVoices is) settings ms .reached ≡ historyOf (writtenVoices is) settings ms .reached
+pub record PastAsWritten {P : Type 0} (is : List Instrument) (chosen : ℕ) (k : InUse) (ms : List (Transition P)) : Type 0 where
+  pub holds : StateAs (HeldAs is) (historyOf (treeVoices is) chosen k ms .holds) (historyOf (writtenVoices is) chosen k ms .holds)
+  pub set : historyOf (treeVoices is) chosen k ms .set ≡ historyOf (writtenVoices is) chosen k ms .set
+  pub reached : historyOf (treeVoices is) chosen k ms .reached ≡ historyOf (writtenVoices is) chosen k ms .reached
   pub block : (s : Settings)
-      → blockOf (treeVoices is) s (dueOf (historyOf (treeVoices is) settings ms .holds)) (historyOf (treeVoices is) settings ms .holds .plays)
-      ≡ blockOf (writtenVoices is) s (dueOf (historyOf (writtenVoices is) settings ms .holds)) (historyOf (writtenVoices is) settings ms .holds .plays)
+      → blockOf (treeVoices is) s (dueOf (historyOf (treeVoices is) chosen k ms .holds)) (historyOf (treeVoices is) chosen k ms .holds .plays)
+      ≡ blockOf (writtenVoices is) s (dueOf (historyOf (writtenVoices is) chosen k ms .holds)) (historyOf (writtenVoices is) chosen k ms .holds .plays)
 
 abbrev pub EveryPast : Type 1
 EveryPast =
-    (P : Type 0) (is : List Instrument) (settings : ℕ → Settings) (ms : List (Transition P)) → nameRules is ≡ true
-    → All (λ (l : Line). Fits is l (l .event)) (allTaken ms) → PastAsWritten is settings ms
+    (P : Type 0) (is : List Instrument) (chosen : ℕ) (k : InUse) (ms : List (Transition P)) → nameRules is ≡ true
+    → All (λ (l : Line). Fits is l (l .event)) (allTaken ms) → PastAsWritten is chosen k ms

@@ -9,6 +9,6 @@ pub cycle-spec : {M : Type 1} → statement M
 cycle-spec =
     tie.close (tie.spec (λ c κs. search needs) (λ c. search needs)
     (λ c. unfold blockAfter in let y = c .before .before in
-    let a = y .before .before .before .before .before .before .before .args in
+    let a = y .before .before .before .before .before .before .args in
     let p = panelOf (a .self) (a .code .now) (a .vals .now) in
     (cycles p _ _ (y .cycle-call .ensures .0), y .cycle-call .ensures .1)))

@@ -1,0 +1,7 @@
+use borrow.Author.Needs.{needs}
+use Rattle.panel.proofs.Entering.{undoes}
+use Rattle.panel.proofs.Panel.undo.Statement.{statement}
+use Rattle.panel.proofs.Panel.undo.Tie as tie
+
+pub undo-spec : {M : Type 1} → statement M
+undo-spec = tie.close (tie.spec (λ c κs. search needs) (λ c. undoes _ _ _ (c .before .undo-unless-ended .ensures)))

@@ -1,0 +1,4 @@
+pub mod Form
+pub mod Changes
+pub mod Claims
+pub mod inside
