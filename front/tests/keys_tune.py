@@ -1,9 +1,4 @@
-#!/usr/bin/env python3
-"""Writes keys.mid, a short tune for two hands: a MIDI file of format 1, with a tempo that slows down at the end.
-
-    demo/keys_tune.py        writes keys.mid beside this file
-"""
-import os
+"""How demo/keys.mid was written, a short tune for two hands: a MIDI file of format 1, with a tempo that slows down at the end."""
 import struct
 
 TICKS = 96      # of a quarter note
@@ -67,8 +62,3 @@ def tune():
     for text, velocity in ((RIGHT, VELOCITY["right"]), (LEFT, VELOCITY["left"])):
         tracks.append(track(*hand(text, velocity)))
     return b"MThd" + struct.pack(">IHHH", 6, 1, len(tracks), TICKS) + b"".join(tracks)
-
-
-if __name__ == "__main__":
-    with open(os.path.join(os.path.dirname(os.path.abspath(__file__)), "keys.mid"), "wb") as file:
-        file.write(tune())
