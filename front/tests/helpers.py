@@ -2,6 +2,7 @@
 from __future__ import annotations
 
 import os
+import signal
 import stat
 import struct
 import subprocess
@@ -24,6 +25,12 @@ instr pad(pitch) {
 }
 """
 SCORE = "0 tempo 120\n0 lead 1 440 0.2 44 1\n1 pad 2 220\n4 end\n"
+
+
+def interrupts_as_at_a_terminal() -> None:
+    """A shell starts what runs in the background with interrupts ignored, and so would the command be under test."""
+    for number in (signal.SIGINT, signal.SIGHUP):
+        signal.signal(number, signal.SIG_DFL)
 
 
 class Folder(unittest.TestCase):
@@ -62,7 +69,7 @@ class Folder(unittest.TestCase):
     def start(self, *arguments: str, command: str = "play", **options) -> subprocess.Popen:
         """A command that is running."""
         settings = {"cwd": self.folder, "stdin": subprocess.DEVNULL, "stdout": subprocess.PIPE, "stderr": subprocess.PIPE,
-                    "env": self.environment(), **options}
+                    "env": self.environment(), "preexec_fn": interrupts_as_at_a_terminal, **options}
         return subprocess.Popen([sys.executable, "-B", os.path.join(ROOT, "bin", command), *arguments], **settings)
 
     def run_command(self, *arguments: str, **options) -> tuple[int, bytes, str]:
