@@ -4,7 +4,7 @@
     .ci/check_documents.py        a line for each thing that is not so; ends with status 1 where there is one
 
 - An edit's `old:` text stands exactly once in its file, after the pairs before it.
-- Every edit is named in docs/PROMISES.md behind *edit* or *edits*, and every edit named there exists. A crate in brackets holds for all names since the
+- Every edit, of the gate or of must-fail/more/, is named in docs/PROMISES.md behind *edit* or *edits*, and every edit named there exists. A crate in brackets holds for all names since the
   last bracket; a name that several crates have, without a bracket, is of the crate that was named last.
 - Every `crate: name` of PROMISES.md is declared in that crate's specs/ or proofs/, every `crate::name` in its src/, and every other name in backticks in some crate.
 - The table in docs/DECISIONS.md has exactly the public functions that have a `requires`.
@@ -41,8 +41,8 @@ def crates():
 def edits():
     """The crates that have an edit of a name, by its name."""
     found = {}
-    for path in sorted(glob.glob(f"{ROOT}/crates/*/must-fail/*.edit")):
-        label, crate = os.path.basename(path)[:-5], path.split("/")[-3]
+    for path in sorted(glob.glob(f"{ROOT}/crates/*/must-fail/**/*.edit", recursive=True)):
+        label, crate = os.path.basename(path)[:-5], os.path.relpath(path, f"{ROOT}/crates").split("/")[0]
         found.setdefault(label, []).append(crate)
     return found
 
@@ -50,7 +50,8 @@ def edits():
 def misplaced(crate, label):
     """What is wrong with the places that an edit changes."""
     texts, name, old = {}, None, None
-    for line in text_of(f"{ROOT}/crates/{crate}/must-fail/{label}.edit").split("\n"):
+    [path] = glob.glob(f"{ROOT}/crates/{crate}/must-fail/**/{label}.edit", recursive=True)
+    for line in text_of(path).split("\n"):
         word, _, rest = line.partition(":")
         rest = rest.removeprefix(" ")
         if word == "file":
@@ -154,7 +155,8 @@ def main():
     wrong += [f"PROMISES: {crate}/{label} is in no row" for crate, label in sorted(pairs - named)]
     wrong += [f"PROMISES: {label} ({crate}): there is no such edit" for crate, label in sorted(named - pairs)]
     wrong += names_missing(promises) + conditions_wrong(decisions)
-    print("\n".join(wrong) if wrong else f"documents: {len(pairs)} edits, {len(CRATES)} crates, as they say")
+    gate = len(glob.glob(f"{ROOT}/crates/*/must-fail/*.edit"))
+    print("\n".join(wrong) if wrong else f"documents: {len(pairs)} edits, {gate} of them in the gate, {len(CRATES)} crates, as they say")
     sys.exit(1 if wrong else 0)
 
 
