@@ -3,6 +3,7 @@ use mathlib.Core.Path.{_≡_, sym, ap, _∙_}
 use mathlib.Core.Bool.{Bool, true, false}
 use mathlib.Core.List.{List}
 use Prim.Native.Nat.{ℕ}
+use lib.Ieee.{Float}
 use Rattle.score_reader.specs.Score.{Score}
 use Rattle.base_answer.specs.declared.Answer.the-variants.{Ended}
 use Rattle.settings_records.specs.Changes as records
@@ -15,11 +16,16 @@ use Rattle.player_start.specs.declared.Start.{Start}
 use Rattle.entrance_readers.specs.Entrances.{entranceReadOf, scoreIn}
 use Rattle.entrance_readers.specs.declared.EntranceRead.{EntranceRead}
 use Rattle.entrance_admission.proofs.Pushing.{handed-timed, handed-brings}
-use Rattle.panel.specs.State.{tableOf, voicesOf, settingsIn, withState, withInUse, panelAt}
+use Rattle.panel.specs.State.{instrumentsOf, voicesWith, settingsIn, inState, inSettings, panelOf, panelAt}
 use Rattle.panel.specs.Calls.{freshOf, submittedOf, submitOf, receiveOf, playKeysOf, changedIn, areaIn, undoneIn, changeOf, undoOf, cycleOf}
-use Rattle.panel.specs.declared.Panel.{Panel}
+use Rattle.panel.specs.declared.Core.{Core}
 use Rattle.entrance_admission.specs.declared.AdmissionResult.{AdmissionResult}
+use Rattle.panel.specs.declared.CoreEntranceResult.{CoreEntranceResult}
+use Rattle.panel.specs.declared.CoreBurstResult.{CoreBurstResult}
+use Rattle.panel.specs.declared.CoreResult.{CoreResult}
 use Rattle.panel.specs.declared.EntranceResult.{EntranceResult}
+use Rattle.panel.specs.declared.BurstResult.{BurstResult}
+use Rattle.panel.specs.declared.PanelResult.{PanelResult}
 use Rattle.score_bursts.specs.inside.Reading.{burstOf}
 use Rattle.player_calls.specs.OnState as onState
 use Rattle.player_cycle.specs.CycleCall.{cycledOf}
@@ -53,46 +59,60 @@ module _ {ended : Bool} (k : InUse) (area : List ℕ) where
   unfolding undoneIn
   undo-open e q = q ∙ sym (cond-false _ _ e)
 
--- a call on the panel, from the call on its state or its settings
-module _ (p : Panel) where
-  pub brings-in : (timed : Bool) (s : Score) (r : BroughtIn) → r ≡ onState.submittedOf (tableOf (p .program)) (p .state) timed s
-      → record { panel = withState p (r .state); answer = r .answer; line = r .line } ≡ submittedOf p timed s
+-- a call on the core, from the call on its state or its settings
+module _ (c : Core) where
+  pub brings-in : (timed : Bool) (s : Score) (r : BroughtIn) → r ≡ onState.submittedOf (instrumentsOf c) (c .state) timed s
+      → record { core = inState c (r .state); answer = r .answer; line = r .line } ≡ submittedOf c timed s
   unfolding submittedOf
-  brings-in timed s r e = ap (λ (x : BroughtIn). record { panel = withState p (x .state); answer = x .answer; line = x .line }) e
+  brings-in timed s r e = ap (λ (x : BroughtIn). record { core = inState c (x .state); answer = x .answer; line = x .line }) e
 
-  pub receives : (bytes : List ℕ) (places : ℕ) (r : ReceivedIn) → r ≡ burstSubmittedOf (tableOf (p .program)) (p .state) places (burstOf bytes)
-      → record { panel = withState p (r .state); answer = r .answer; units = r .units } ≡ receiveOf p bytes places
+  pub receives : (bytes : List ℕ) (places : ℕ) (r : ReceivedIn) → r ≡ burstSubmittedOf (instrumentsOf c) (c .state) places (burstOf bytes)
+      → record { core = inState c (r .state); answer = r .answer; units = r .units } ≡ receiveOf c bytes places
   unfolding receiveOf
-  receives bytes places r e = ap (λ (x : ReceivedIn). record { panel = withState p (x .state); answer = x .answer; units = x .units }) e
+  receives bytes places r e = ap (λ (x : ReceivedIn). record { core = inState c (x .state); answer = x .answer; units = x .units }) e
 
-  pub presses : (bytes : List ℕ) (r : CallResult) → r ≡ keyboardCallOf (p .state) bytes → record { panel = withState p (r .state); answer = r .answer } ≡ playKeysOf p bytes
+  pub presses : (bytes : List ℕ) (r : CallResult) → r ≡ keyboardCallOf (c .state) bytes → record { core = inState c (r .state); answer = r .answer } ≡ playKeysOf c bytes
   unfolding playKeysOf
-  presses bytes r e = ap (λ (x : CallResult). record { panel = withState p (x .state); answer = x .answer }) e
+  presses bytes r e = ap (λ (x : CallResult). record { core = inState c (x .state); answer = x .answer }) e
 
-  pub changes : (area handed : List ℕ) (r : Changed) → r ≡ changedIn (p .state .playing .ended) (p .settings) area handed
-      → record { panel = withInUse p (r .settings); answer = r .answer } ≡ changeOf p area handed
+  pub changes : (area handed : List ℕ) (r : Changed) → r ≡ changedIn (c .state .playing .ended) (c .settings) area handed
+      → record { core = inSettings c (r .settings); answer = r .answer } ≡ changeOf c area handed
   unfolding changeOf
-  changes area handed r e = ap (λ (x : Changed). record { panel = withInUse p (x .settings); answer = x .answer }) e
+  changes area handed r e = ap (λ (x : Changed). record { core = inSettings c (x .settings); answer = x .answer }) e
 
-  pub undoes : (area : List ℕ) (r : Changed) → r ≡ undoneIn (p .state .playing .ended) (p .settings) area
-      → record { panel = withInUse p (r .settings); answer = r .answer } ≡ undoOf p area
+  pub undoes : (area : List ℕ) (r : Changed) → r ≡ undoneIn (c .state .playing .ended) (c .settings) area
+      → record { core = inSettings c (r .settings); answer = r .answer } ≡ undoOf c area
   unfolding undoOf
-  undoes area r e = ap (λ (x : Changed). record { panel = withInUse p (x .settings); answer = x .answer }) e
+  undoes area r e = ap (λ (x : Changed). record { core = inSettings c (x .settings); answer = x .answer }) e
 
-  pub cycles : (n : ℕ) (r : CallResult) → r ≡ cycledOf (voicesOf (p .program)) (settingsIn p) (p .state) n
-      → record { panel = withState p (r .state); answer = r .answer } ≡ cycleOf p n
+  pub cycles : (code : List ℕ) (vals : List Float) (n : ℕ) (r : CallResult) → r ≡ cycledOf (voicesWith code vals c) (settingsIn c) (c .state) n
+      → record { core = inState c (r .state); answer = r .answer } ≡ cycleOf code vals c n
   unfolding cycleOf
-  cycles n r e = ap (λ (x : CallResult). record { panel = withState p (x .state); answer = x .answer }) e
+  cycles code vals n r e = ap (λ (x : CallResult). record { core = inState c (x .state); answer = x .answer }) e
 
 -- what is handed over at an entrance does what the whole reading does
-module _ (p : Panel) (d : Entrance) (handed : List ℕ) where
+module _ (c : Core) (d : Entrance) (handed : List ℕ) where
   abbrev given : EntranceRead
   given = entranceReadOf (mustBeTimed d) (reads d handed)
 
-  pub by-entrance : (h : EntranceRead) → h ≡ given → (x : EntranceResult) → x ≡ submittedOf p (h .timed) (scoreIn h) → x ≡ submitOf p d handed
+  pub by-entrance : (h : EntranceRead) → h ≡ given → (x : CoreEntranceResult) → x ≡ submittedOf c (h .timed) (scoreIn h) → x ≡ submitOf c d handed
   unfolding submitOf submittedOf onState.submittedOf
   by-entrance h e x q =
-      q ∙ ap (λ (y : EntranceRead). submittedOf p (y .timed) (scoreIn y)) e
-      ∙ ap (λ (t : Bool). submittedOf p t (scoreIn given)) (handed-timed (mustBeTimed d) (reads d handed))
-      ∙ ap (λ (r : AdmissionResult). record { panel = withState p (onState.withQueue (p .state) (r .queue)); answer = r .answer; line = r .line })
-      (handed-brings (p .state .playing .ended) (mustBeTimed d) (tableOf (p .program)) (p .state .queue) (reads d handed))
+      q ∙ ap (λ (y : EntranceRead). submittedOf c (y .timed) (scoreIn y)) e
+      ∙ ap (λ (t : Bool). submittedOf c t (scoreIn given)) (handed-timed (mustBeTimed d) (reads d handed))
+      ∙ ap (λ (r : AdmissionResult). record { core = inState c (onState.withQueue (c .state) (r .queue)); answer = r .answer; line = r .line })
+      (handed-brings (c .state .playing .ended) (mustBeTimed d) (instrumentsOf c) (c .state .queue) (reads d handed))
+
+-- a panel's call is its core's
+module _ {code : List ℕ} {vals : List Float} where
+  pub enters-on : {r : EntranceResult} {x y : CoreEntranceResult} → r ≡ record { panel = panelOf (x .core) code vals; answer = x .answer; line = x .line } → x ≡ y
+      → r ≡ record { panel = panelOf (y .core) code vals; answer = y .answer; line = y .line }
+  enters-on e q = e ∙ ap (λ (x : CoreEntranceResult). record { panel = panelOf (x .core) code vals; answer = x .answer; line = x .line }) q
+
+  pub receives-on : {x y : CoreBurstResult} → x ≡ y
+      → _≡_ {A = BurstResult} (record { panel = panelOf (x .core) code vals; answer = x .answer; units = x .units }) (record { panel = panelOf (y .core) code vals; answer = y .answer; units = y .units })
+  receives-on q = ap (λ (x : CoreBurstResult). record { panel = panelOf (x .core) code vals; answer = x .answer; units = x .units }) q
+
+  pub leaves-on : {r : PanelResult} {x y : CoreResult} → r ≡ record { panel = panelOf (x .core) code vals; answer = x .answer } → x ≡ y
+      → r ≡ record { panel = panelOf (y .core) code vals; answer = y .answer }
+  leaves-on e q = e ∙ ap (λ (x : CoreResult). record { panel = panelOf (x .core) code vals; answer = x .answer }) q

@@ -1,3 +1,3 @@
 pub mod State
+pub mod Display
 pub mod Calls
-pub mod Core

@@ -3,7 +3,6 @@ use base_answer::Answer;
 use code_operations::CODE;
 use code_operations::PROGRAM;
 use code_program::Instrument;
-use code_program::Program;
 use entrance_readers::EntranceRead;
 use player_state::Settings;
 use player_state::State;
@@ -13,48 +12,11 @@ ghost use mathlib.Core.Path.{_≡_};
 ghost use lib.ListN.{length};
 ghost use Rattle.player_model.specs.Calls.{stick, unit, keypad, text};
 ghost use Rattle.entrance_readers.specs.Entrances.{scoreIn};
-ghost use Rattle.panel.specs.Core.{panelOf, SubmittedAs, ReceivedAs, AreaAs, PlayedAs, cycledWith};
+ghost use Rattle.panel.specs.State.{panelOf, entranceOn, burstOn, resultOn};
+ghost use Rattle.panel.specs.Display.{displayOf};
 ghost use Rattle.panel.specs.Calls.{freshOf, areaFresh, submittedOf, submitOf, receiveOf, areaAfter, playKeysOf, changedIn, areaIn, undoneIn, changeOf, areaChanged, undoOf, cycleOf, blockAfter};
 
-// What the calls change, the settings in use among it, beside what a fresh start fixes.
-pub struct Panel {
-    state: State,
-    settings: InUse,
-    chosen: u16,
-    program: Program,
-}
-
-pub struct Fresh {
-    pub panel: Panel,
-    pub answer: Answer,
-}
-
-// What a call at any entrance leaves; `line` is the number of the line that a refusal is about.
-pub struct EntranceResult {
-    pub panel: Panel,
-    pub answer: Answer,
-    pub line: usize,
-}
-
-// What a burst leaves; `units` is how many of its units were answered.
-pub struct BurstResult {
-    pub panel: Panel,
-    pub answer: Answer,
-    pub units: usize,
-}
-
-// What a call at the keyboard, a change or an undo leaves.
-pub struct KeyboardResult {
-    pub panel: Panel,
-    pub answer: Answer,
-}
-
-pub struct CycleResult {
-    pub panel: Panel,
-    pub answer: Answer,
-}
-
-// A panel without its code, which a host keeps and lends: what the calls change, beside what a fresh start fixes.
+// What the calls change, the settings in use among it, beside what a fresh start fixes. The code of its instruments is lent to each cycle.
 pub struct Core {
     state: State,
     settings: InUse,
@@ -63,27 +25,60 @@ pub struct Core {
     count: usize,
 }
 
-// A panel in two: its code and the numbers in it are lent to each cycle.
+// A core with its code and the numbers in it, which it lends to each cycle.
+pub struct Panel {
+    core: Core,
+    code: [u64; CODE],
+    vals: [f32; PROGRAM],
+}
+
+// A panel in two, for a host that keeps the code and lends it.
 pub struct SplitPanel {
     pub core: Core,
     pub code: [u64; CODE],
     pub vals: [f32; PROGRAM],
 }
 
+// What a call at any entrance leaves; `line` is the number of the line that a refusal is about.
 pub struct CoreEntranceResult {
     pub core: Core,
     pub answer: Answer,
     pub line: usize,
 }
 
+// What a burst leaves; `units` is how many of its units were answered.
 pub struct CoreBurstResult {
     pub core: Core,
     pub answer: Answer,
     pub units: usize,
 }
 
+// What a call at the keyboard, a change, an undo or a cycle leaves.
 pub struct CoreResult {
     pub core: Core,
+    pub answer: Answer,
+}
+
+// The same of a panel.
+pub struct EntranceResult {
+    pub panel: Panel,
+    pub answer: Answer,
+    pub line: usize,
+}
+
+pub struct BurstResult {
+    pub panel: Panel,
+    pub answer: Answer,
+    pub units: usize,
+}
+
+pub struct PanelResult {
+    pub panel: Panel,
+    pub answer: Answer,
+}
+
+pub struct Fresh {
+    pub panel: Panel,
     pub answer: Answer,
 }
 
@@ -120,8 +115,8 @@ fn undo_unless_ended(ended: bool, settings: InUse, area: &[u8]) -> settings_reco
 }
 
 // What was handed in at an entrance, read, into the waiting lines.
-fn submit_core(mut c: Core, h: EntranceRead) -> CoreEntranceResult
-    ensures { λ r. ⌜ SubmittedAs c r (λ p. submittedOf p (h .timed) (scoreIn h)) ⌝ }
+fn submit(mut c: Core, h: EntranceRead) -> CoreEntranceResult
+    ensures { λ r. ⌜ r ≡ submittedOf c (h .timed) (scoreIn h) ⌝ }
 {
     let table = c.table;
     let state = c.state;
@@ -136,35 +131,40 @@ fn submit_core(mut c: Core, h: EntranceRead) -> CoreEntranceResult
     }
 }
 
-// A stick, an access unit, a keypad line, a text, a burst, keyboard bytes and a cycle, each as on the panel.
 impl Core {
+    // A stick: the whole score, or nothing of it.
     pub fn load_score(self, s: &[u8]) -> CoreEntranceResult
-        ensures { λ r. ⌜ SubmittedAs self r (λ p. submitOf p stick (now (s .entry))) ⌝ }
+        ensures { λ r. ⌜ r ≡ submitOf self stick (now (s .entry)) ⌝ }
     {
-        submit_core(self, entrance_readers::stick(s))
+        submit(self, entrance_readers::stick(s))
     }
 
+    // An access unit.
     pub fn receive_unit(self, s: &[u8]) -> CoreEntranceResult
-        ensures { λ r. ⌜ SubmittedAs self r (λ p. submitOf p unit (now (s .entry))) ⌝ }
+        ensures { λ r. ⌜ r ≡ submitOf self unit (now (s .entry)) ⌝ }
     {
-        submit_core(self, entrance_readers::unit(s))
+        submit(self, entrance_readers::unit(s))
     }
 
+    // A keypad line.
     pub fn enter_line(self, words: &[u32]) -> CoreEntranceResult
-        ensures { λ r. ⌜ SubmittedAs self r (λ p. submitOf p keypad (now (words .entry))) ⌝ }
+        ensures { λ r. ⌜ r ≡ submitOf self keypad (now (words .entry)) ⌝ }
     {
-        submit_core(self, entrance_readers::keypad(words))
+        submit(self, entrance_readers::keypad(words))
     }
 
+    // A score as text: the whole of it, or nothing, as a stick.
     pub fn load_text(self, s: &[u8]) -> CoreEntranceResult
-        ensures { λ r. ⌜ SubmittedAs self r (λ p. submitOf p text (now (s .entry))) ⌝ }
+        ensures { λ r. ⌜ r ≡ submitOf self text (now (s .entry)) ⌝ }
     {
-        submit_core(self, entrance_readers::text(s))
+        submit(self, entrance_readers::text(s))
     }
 
+    // A burst of access units: each as if it came singly, in order, with its answer's number in the lent area; or a refusal, and nothing is
+    // taken or written.
     pub fn receive_burst(mut self, s: &[u8], answers: &mut [u8]) -> CoreBurstResult
-        ensures panel { λ r. ⌜ ReceivedAs self r (λ p. receiveOf p (now (s .entry)) (length (now (answers .entry)))) ⌝ }
-        ensures area { λ r. ⌜ AreaAs self (now (answers .exit)) (λ p. areaAfter p (now (s .entry)) (now (answers .entry))) ⌝ }
+        ensures panel { λ r. ⌜ r ≡ receiveOf self (now (s .entry)) (length (now (answers .entry))) ⌝ }
+        ensures area { λ r. ⌜ now (answers .exit) ≡ areaAfter self (now (s .entry)) (now (answers .entry)) ⌝ }
     {
         let table = self.table;
         let state = self.state;
@@ -179,8 +179,9 @@ impl Core {
         }
     }
 
+    // Bytes at the keyboard: all its note messages, or none of them.
     pub fn play_keys(mut self, bytes: &[u8]) -> CoreResult
-        ensures { λ r. ⌜ PlayedAs self r (λ p. playKeysOf p (now (bytes .entry))) ⌝ }
+        ensures { λ r. ⌜ r ≡ playKeysOf self (now (bytes .entry)) ⌝ }
     {
         let state = self.state;
         let r = player_calls::play_keys(state, bytes);
@@ -193,9 +194,10 @@ impl Core {
         }
     }
 
+    // A settings record behind those in use, in the lent area.
     pub fn change(mut self, area: &mut [u8], handed: &[u8]) -> CoreResult
-        ensures panel { λ r. ⌜ PlayedAs self r (λ p. changeOf p (now (area .entry)) (now (handed .entry))) ⌝ }
-        ensures area { λ r. ⌜ AreaAs self (now (area .exit)) (λ p. areaChanged p (now (area .entry)) (now (handed .entry))) ⌝ }
+        ensures panel { λ r. ⌜ r ≡ changeOf self (now (area .entry)) (now (handed .entry)) ⌝ }
+        ensures area { λ r. ⌜ now (area .exit) ≡ areaChanged self (now (area .entry)) (now (handed .entry)) ⌝ }
     {
         let settings = self.settings;
         let r = change_unless_ended(self.state.playing.ended, settings, area, handed);
@@ -208,8 +210,9 @@ impl Core {
         }
     }
 
+    // The last settings record out of use; its bytes stay.
     pub fn undo(mut self, area: &[u8]) -> CoreResult
-        ensures { λ r. ⌜ PlayedAs self r (λ p. undoOf p (now (area .entry))) ⌝ }
+        ensures { λ r. ⌜ r ≡ undoOf self (now (area .entry)) ⌝ }
     {
         let settings = self.settings;
         let r = undo_unless_ended(self.state.playing.ended, settings, area);
@@ -222,9 +225,10 @@ impl Core {
         }
     }
 
+    // A cycle of sound into a block of 320 samples, by the code that is lent.
     pub fn cycle<'a>(mut self, code: &'a [u64], vals: &'a [f32], block: &mut [i16]) -> CoreResult
-        ensures panel { λ r. ⌜ cycledWith (now (code .entry)) (now (vals .entry)) r ≡ cycleOf (panelOf self (now (code .entry)) (now (vals .entry))) (length (now (block .entry))) ⌝ }
-        ensures block { λ r. ⌜ now (block .exit) ≡ blockAfter (panelOf self (now (code .entry)) (now (vals .entry))) (now (block .entry)) ⌝ }
+        ensures panel { λ r. ⌜ r ≡ cycleOf (now (code .entry)) (now (vals .entry)) self (length (now (block .entry))) ⌝ }
+        ensures block { λ r. ⌜ now (block .exit) ≡ blockAfter (now (code .entry)) (now (vals .entry)) self (now (block .entry)) ⌝ }
     {
         let table = self.table;
         let state = self.state;
@@ -244,21 +248,39 @@ impl Core {
     }
 
     pub fn missed_notes(self) -> u64
-        ensures { λ r. ⌜ r ≡ self .state .playing .missed ⌝ }
+        ensures { λ r. ⌜ r ≡ displayOf self .missed ⌝ }
     {
         self.state.playing.missed
     }
 
     pub fn waiting_lines(self) -> usize
-        ensures { λ r. ⌜ r ≡ self .state .queue .count ⌝ }
+        ensures { λ r. ⌜ r ≡ displayOf self .lines ⌝ }
     {
         self.state.queue.count
     }
 
+    pub fn waiting_messages(self) -> usize
+        ensures { λ r. ⌜ r ≡ displayOf self .messages ⌝ }
+    {
+        self.state.messages.count
+    }
+
     pub fn sounding_notes(self) -> usize
-        ensures { λ r. ⌜ r ≡ self .state .playing .notes .count ⌝ }
+        ensures { λ r. ⌜ r ≡ displayOf self .notes ⌝ }
     {
         self.state.playing.notes.count
+    }
+
+    pub fn has_ended(self) -> bool
+        ensures { λ r. ⌜ r ≡ displayOf self .ended ⌝ }
+    {
+        self.state.playing.ended
+    }
+
+    pub fn position_in_ticks(self) -> u64
+        ensures { λ r. ⌜ r ≡ displayOf self .position ⌝ }
+    {
+        self.state.playing.position
     }
 
     // What the settings in use are: ceiling, notes and starting tempo of the last record.
@@ -276,23 +298,33 @@ impl Core {
     }
 }
 
-// What was handed in at an entrance, read, into the waiting lines.
-fn submit(mut p: Panel, h: EntranceRead) -> EntranceResult
-    ensures { λ r. ⌜ r ≡ submittedOf p (h .timed) (scoreIn h) ⌝ }
+// A panel with its core as a call has left it.
+fn entrance_on(mut p: Panel, c: CoreEntranceResult) -> EntranceResult
+    ensures { λ r. ⌜ r ≡ entranceOn p c ⌝ }
 {
-    let table = p.program.table;
-    let state = p.state;
-    let r = player_calls::submit(table, p.program.count, state, h);
-    let left = r.state;
-    let given = r.answer;
-    p.state = left;
+    let core = c.core;
+    let answer = c.answer;
+    p.core = core;
     EntranceResult {
         panel: p,
-        answer: given,
-        line: r.line,
+        answer: answer,
+        line: c.line,
     }
 }
 
+fn result_on(mut p: Panel, c: CoreResult) -> PanelResult
+    ensures { λ r. ⌜ r ≡ resultOn p c ⌝ }
+{
+    let core = c.core;
+    let answer = c.answer;
+    p.core = core;
+    PanelResult {
+        panel: p,
+        answer: answer,
+    }
+}
+
+// Each call is its core's; a cycle is lent the panel's own code.
 impl Panel {
     // The tempo that a panel starts at where its first settings record is of version 1: it is the value that such a record is read with.
     pub const STARTING_TEMPO: u16 = settings_records::STARTING_TEMPO;
@@ -307,211 +339,168 @@ impl Panel {
         let state = s.state;
         let settings = s.settings;
         let program = s.program;
+        let table = program.table;
+        let code = program.code;
+        let vals = program.vals;
         let answer = s.answer;
         Fresh {
             panel: Panel {
-                state: state,
-                settings: settings,
-                chosen: s.chosen,
-                program: program,
+                core: Core {
+                    state: state,
+                    settings: settings,
+                    chosen: s.chosen,
+                    table: table,
+                    count: program.count,
+                },
+                code: code,
+                vals: vals,
             },
             answer: answer,
         }
     }
 
-    // A stick: the whole score, or nothing of it.
     pub fn load_score(self, s: &[u8]) -> EntranceResult
-        ensures { λ r. ⌜ r ≡ submitOf self stick (now (s .entry)) ⌝ }
+        ensures { λ r. ⌜ r ≡ entranceOn self (submitOf (self .core) stick (now (s .entry))) ⌝ }
     {
-        submit(self, entrance_readers::stick(s))
+        let core = self.core;
+        entrance_on(self, Core::load_score(core, s))
     }
 
-    // An access unit.
     pub fn receive_unit(self, s: &[u8]) -> EntranceResult
-        ensures { λ r. ⌜ r ≡ submitOf self unit (now (s .entry)) ⌝ }
+        ensures { λ r. ⌜ r ≡ entranceOn self (submitOf (self .core) unit (now (s .entry))) ⌝ }
     {
-        submit(self, entrance_readers::unit(s))
+        let core = self.core;
+        entrance_on(self, Core::receive_unit(core, s))
     }
 
-    // A keypad line.
     pub fn enter_line(self, words: &[u32]) -> EntranceResult
-        ensures { λ r. ⌜ r ≡ submitOf self keypad (now (words .entry)) ⌝ }
+        ensures { λ r. ⌜ r ≡ entranceOn self (submitOf (self .core) keypad (now (words .entry))) ⌝ }
     {
-        submit(self, entrance_readers::keypad(words))
+        let core = self.core;
+        entrance_on(self, Core::enter_line(core, words))
     }
 
-    // A score as text: the whole of it, or nothing, as a stick.
     pub fn load_text(self, s: &[u8]) -> EntranceResult
-        ensures { λ r. ⌜ r ≡ submitOf self text (now (s .entry)) ⌝ }
+        ensures { λ r. ⌜ r ≡ entranceOn self (submitOf (self .core) text (now (s .entry))) ⌝ }
     {
-        submit(self, entrance_readers::text(s))
+        let core = self.core;
+        entrance_on(self, Core::load_text(core, s))
     }
 
-    // A burst of access units: each as if it came singly, in order, with its answer's number in the lent area; or a refusal, and nothing is
-    // taken or written.
     pub fn receive_burst(mut self, s: &[u8], answers: &mut [u8]) -> BurstResult
-        ensures panel { λ r. ⌜ r ≡ receiveOf self (now (s .entry)) (length (now (answers .entry))) ⌝ }
-        ensures area { λ r. ⌜ now (answers .exit) ≡ areaAfter self (now (s .entry)) (now (answers .entry)) ⌝ }
+        ensures panel { λ r. ⌜ r ≡ burstOn self (receiveOf (self .core) (now (s .entry)) (length (now (answers .entry)))) ⌝ }
+        ensures area { λ r. ⌜ now (answers .exit) ≡ areaAfter (self .core) (now (s .entry)) (now (answers .entry)) ⌝ }
     {
-        let table = self.program.table;
-        let state = self.state;
-        let r = player_calls::receive_burst(table, self.program.count, state, s, answers);
-        let left = r.state;
-        let given = r.answer;
-        self.state = left;
+        let core = self.core;
+        let r = Core::receive_burst(core, s, answers);
+        let left = r.core;
+        let answer = r.answer;
+        self.core = left;
         BurstResult {
             panel: self,
-            answer: given,
+            answer: answer,
             units: r.units,
         }
     }
 
-    // Bytes at the keyboard: all its note messages, or none of them.
-    pub fn play_keys(mut self, bytes: &[u8]) -> KeyboardResult
-        ensures { λ r. ⌜ r ≡ playKeysOf self (now (bytes .entry)) ⌝ }
+    pub fn play_keys(self, bytes: &[u8]) -> PanelResult
+        ensures { λ r. ⌜ r ≡ resultOn self (playKeysOf (self .core) (now (bytes .entry))) ⌝ }
     {
-        let state = self.state;
-        let r = player_calls::play_keys(state, bytes);
-        let left = r.state;
-        let given = r.answer;
-        self.state = left;
-        KeyboardResult {
-            panel: self,
-            answer: given,
-        }
+        let core = self.core;
+        result_on(self, Core::play_keys(core, bytes))
     }
 
-    // A settings record behind those in use, in the lent area.
-    pub fn change(mut self, area: &mut [u8], handed: &[u8]) -> KeyboardResult
-        ensures panel { λ r. ⌜ r ≡ changeOf self (now (area .entry)) (now (handed .entry)) ⌝ }
-        ensures area { λ r. ⌜ now (area .exit) ≡ areaChanged self (now (area .entry)) (now (handed .entry)) ⌝ }
+    pub fn change(self, area: &mut [u8], handed: &[u8]) -> PanelResult
+        ensures panel { λ r. ⌜ r ≡ resultOn self (changeOf (self .core) (now (area .entry)) (now (handed .entry))) ⌝ }
+        ensures area { λ r. ⌜ now (area .exit) ≡ areaChanged (self .core) (now (area .entry)) (now (handed .entry)) ⌝ }
     {
-        let settings = self.settings;
-        let r = change_unless_ended(self.state.playing.ended, settings, area, handed);
-        let left = r.settings;
-        let given = r.answer;
-        self.settings = left;
-        KeyboardResult {
-            panel: self,
-            answer: given,
-        }
+        let core = self.core;
+        result_on(self, Core::change(core, area, handed))
     }
 
-    // The last settings record out of use; its bytes stay.
-    pub fn undo(mut self, area: &[u8]) -> KeyboardResult
-        ensures { λ r. ⌜ r ≡ undoOf self (now (area .entry)) ⌝ }
+    pub fn undo(self, area: &[u8]) -> PanelResult
+        ensures { λ r. ⌜ r ≡ resultOn self (undoOf (self .core) (now (area .entry))) ⌝ }
     {
-        let settings = self.settings;
-        let r = undo_unless_ended(self.state.playing.ended, settings, area);
-        let left = r.settings;
-        let given = r.answer;
-        self.settings = left;
-        KeyboardResult {
-            panel: self,
-            answer: given,
-        }
+        let core = self.core;
+        result_on(self, Core::undo(core, area))
     }
 
-    // A cycle of sound into a block of 320 samples.
-    pub fn cycle(mut self, block: &mut [i16]) -> CycleResult
-        ensures panel { λ r. ⌜ r ≡ cycleOf self (length (now (block .entry))) ⌝ }
-        ensures block { λ r. ⌜ now (block .exit) ≡ blockAfter self (now (block .entry)) ⌝ }
+    pub fn cycle(self, block: &mut [i16]) -> PanelResult
+        ensures panel { λ r. ⌜ r ≡ resultOn self (cycleOf (self .code) (self .vals) (self .core) (length (now (block .entry)))) ⌝ }
+        ensures block { λ r. ⌜ now (block .exit) ≡ blockAfter (self .code) (self .vals) (self .core) (now (block .entry)) ⌝ }
     {
-        let table = self.program.table;
-        let state = self.state;
-        let settings = Settings {
-            ceiling: self.settings.last.ceiling,
-            notes: self.settings.last.notes,
-            chosen: self.chosen,
-        };
-        let r = player_cycle::cycle_call(
-            table,
-            self.program.count,
-            &self.program.code,
-            &self.program.vals,
-            state,
-            settings,
-            block,
-        );
-        let left = r.state;
-        let given = r.answer;
-        self.state = left;
-        CycleResult {
-            panel: self,
-            answer: given,
-        }
+        let core = self.core;
+        let r = Core::cycle(core, &self.code, &self.vals, block);
+        result_on(self, r)
     }
 
     // The panel in two, for a host that lends its code.
     pub fn split(self) -> SplitPanel
         ensures { λ r. ⌜ panelOf (r .core) (r .code) (r .vals) ≡ self ⌝ }
     {
-        let state = self.state;
-        let settings = self.settings;
-        let program = self.program;
-        let table = program.table;
-        let code = program.code;
-        let vals = program.vals;
+        let core = self.core;
+        let code = self.code;
+        let vals = self.vals;
         SplitPanel {
-            core: Core {
-                state: state,
-                settings: settings,
-                chosen: self.chosen,
-                table: table,
-                count: program.count,
-            },
+            core: core,
             code: code,
             vals: vals,
         }
     }
 
     pub fn missed_notes(self) -> u64
-        ensures { λ r. ⌜ r ≡ self .state .playing .missed ⌝ }
+        ensures { λ r. ⌜ r ≡ displayOf (self .core) .missed ⌝ }
     {
-        self.state.playing.missed
+        let core = self.core;
+        Core::missed_notes(core)
     }
 
     pub fn waiting_lines(self) -> usize
-        ensures { λ r. ⌜ r ≡ self .state .queue .count ⌝ }
+        ensures { λ r. ⌜ r ≡ displayOf (self .core) .lines ⌝ }
     {
-        self.state.queue.count
+        let core = self.core;
+        Core::waiting_lines(core)
     }
 
     pub fn waiting_messages(self) -> usize
-        ensures { λ r. ⌜ r ≡ self .state .messages .count ⌝ }
+        ensures { λ r. ⌜ r ≡ displayOf (self .core) .messages ⌝ }
     {
-        self.state.messages.count
+        let core = self.core;
+        Core::waiting_messages(core)
     }
 
     pub fn sounding_notes(self) -> usize
-        ensures { λ r. ⌜ r ≡ self .state .playing .notes .count ⌝ }
+        ensures { λ r. ⌜ r ≡ displayOf (self .core) .notes ⌝ }
     {
-        self.state.playing.notes.count
-    }
-
-    // What the settings in use are: ceiling, notes and starting tempo of the last record.
-    pub fn settings_in_use(self) -> Setting
-        ensures { λ r. ⌜ r ≡ self .settings .last ⌝ }
-    {
-        self.settings.last
-    }
-
-    // How many settings records are in use.
-    pub fn records_in_use(self) -> usize
-        ensures { λ r. ⌜ r ≡ self .settings .count ⌝ }
-    {
-        self.settings.count
+        let core = self.core;
+        Core::sounding_notes(core)
     }
 
     pub fn has_ended(self) -> bool
-        ensures { λ r. ⌜ r ≡ self .state .playing .ended ⌝ }
+        ensures { λ r. ⌜ r ≡ displayOf (self .core) .ended ⌝ }
     {
-        self.state.playing.ended
+        let core = self.core;
+        Core::has_ended(core)
     }
 
     pub fn position_in_ticks(self) -> u64
-        ensures { λ r. ⌜ r ≡ self .state .playing .position ⌝ }
+        ensures { λ r. ⌜ r ≡ displayOf (self .core) .position ⌝ }
     {
-        self.state.playing.position
+        let core = self.core;
+        Core::position_in_ticks(core)
+    }
+
+    pub fn settings_in_use(self) -> Setting
+        ensures { λ r. ⌜ r ≡ self .core .settings .last ⌝ }
+    {
+        let core = self.core;
+        Core::settings_in_use(core)
+    }
+
+    pub fn records_in_use(self) -> usize
+        ensures { λ r. ⌜ r ≡ self .core .settings .count ⌝ }
+    {
+        let core = self.core;
+        Core::records_in_use(core)
     }
 }

@@ -14,10 +14,10 @@ use Rattle.player_model.proofs.Lists.{cond-false}
 use Rattle.entrance_admission.specs.Submission.{lineAdmitted, admittedAll, submittedIn}
 use Rattle.entrance_admission.specs.declared.AdmissionResult.{AdmissionResult}
 use Rattle.player_calls.specs.OnState as onState
-use Rattle.panel.specs.State.{tableOf, withQueue}
+use Rattle.panel.specs.State.{programOf, tableOf, withQueue}
 use Rattle.panel.specs.Calls.{submittedOf, submitOf}
 use Rattle.panel.specs.declared.Panel.{Panel}
-use Rattle.panel_claims.specs.Claims.{afterOf, asUnits, BurstAsUnits, ReadsAlone, lastAnswer, EntrancesAlike}
+use Rattle.panel_claims.specs.Claims.{coreAfter, afterOf, asUnits, BurstAsUnits, ReadsAlone, lastAnswer, EntrancesAlike}
 use Rattle.panel_claims.proofs.Bursts.{burst-as-units}
 
 -- that an entrance asks for a time changes nothing for a line that has one
@@ -29,13 +29,13 @@ line-alike false table q l h = refl
 -- a timed line into the waiting lines, whoever reads it
 entered : Panel → Line → AdmissionResult
 entered p l =
-    cond (p .state .playing .ended) (record { queue = p .state .queue; answer = answer.Ended; line = 0 })
-    (admittedAll false (tableOf (p .program)) (p .state .queue) (p .state .queue) 0 (l ∷ []))
+    cond (p .core .state .playing .ended) (record { queue = p .core .state .queue; answer = answer.Ended; line = 0 })
+    (admittedAll false (tableOf (programOf p)) (p .core .state .queue) (p .core .state .queue) 0 (l ∷ []))
 
 by-entrance : (p : Panel) (d : Entrance) (a : List ℕ) (l : Line) → hasTime (l .when) ≡ true → reads d a .answer ≡ answer.Taken → reads d a .lines ≡ l ∷ []
-    → submittedIn (p .state .playing .ended) (mustBeTimed d) (tableOf (p .program)) (p .state .queue) (reads d a) ≡ entered p l
+    → submittedIn (p .core .state .playing .ended) (mustBeTimed d) (tableOf (programOf p)) (p .core .state .queue) (reads d a) ≡ entered p l
 unfolding submittedIn admittedAll entered
-by-entrance p d a l h t q = rw (t, q, line-alike (mustBeTimed d) (tableOf (p .program)) (p .state .queue) l h)
+by-entrance p d a l h t q = rw (t, q, line-alike (mustBeTimed d) (tableOf (programOf p)) (p .core .state .queue) l h)
 
 -- what every entrance leaves that reads it alone
 record Enters (p : Panel) (l : Line) (a : After Panel) : Type 0 where
@@ -44,14 +44,14 @@ record Enters (p : Panel) (l : Line) (a : After Panel) : Type 0 where
 
 bring-enters : (p : Panel) (d : Entrance) (handed : List ℕ) (l : Line) → hasTime (l .when) ≡ true → reads d handed .answer ≡ answer.Taken → reads d handed .lines ≡ l ∷ []
     → Enters p l (afterOf p (submit d handed))
-unfolding afterOf submitOf submittedOf onState.submittedOf withQueue
+unfolding afterOf coreAfter submitOf submittedOf onState.submittedOf withQueue
 bring-enters p d handed l h t q =
     let e = by-entrance p d handed l h t q in
     record { told = ap (λ (x : AdmissionResult). record { number = numberOf (x .answer); line = x .line }) e; left = ap (λ (x : AdmissionResult). withQueue p (x .queue)) e }
 
 -- of a burst of one unit, what its unit leaves
 one-unit : (p : Panel) (u : List ℕ) (area : List ℕ) (l : Line) → Enters p l (afterOf p (submit unit u)) → Enters p l (asUnits p area (u ∷ []))
-unfolding afterOf each afterAll answersAll
+unfolding afterOf coreAfter each afterAll answersAll
 one-unit p u area l x = record { told = x .told; left = x .left }
 
 burst-enters : (p : Panel) (bytes area : List ℕ) (l : Line) → hasTime (l .when) ≡ true → ReadsAlone (burst bytes area) l → Enters p l (afterOf p (burst bytes area))

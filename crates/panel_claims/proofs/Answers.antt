@@ -38,14 +38,14 @@ use Rattle.player_model.specs.Calls.{Entrance, unit, mustBeTimed, reads, Call, 
 use Rattle.player_model.specs.History.{History}
 use Rattle.entrance_admission.specs.Submission.{admittedAll, submittedIn}
 use Rattle.player_calls.specs.OnState as onState
-use Rattle.panel.specs.State.{tableOf, withQueue}
+use Rattle.panel.specs.State.{programOf, tableOf, withQueue}
 use Rattle.panel.specs.Calls.{submittedOf, submitOf, playKeysOf, changedIn, undoneIn, changeOf, undoOf, cycleOf}
 use Rattle.panel.specs.declared.Panel.{Panel}
 use Rattle.code_loader_claims.specs.Claims.{StandsFor}
 use Rattle.panel_claims.specs.Verdict.{Verdict, AtEntrance, AtCycle, over, badText, cut, notCarried, outOfRange, tooManyValues, leftOver, faulty, taken, otherLength, overBefore, findsEnd, plays, AtKeyboard, keysOver, keysCut, keysNotCarried, keysFull, keysTaken, NotReached, setOver, areaLength, usedFault, Stand, AtChange, changeNot, newFault, newLeftOver, newNoRoom, changeTaken, AtUndo, undoNot, undoNothing, undoTaken, withLines, InTurn, none, next, AtBurst, burstCut, burstTooLong, burstNoRoom, burstTaken, once}
-use Rattle.panel_claims.specs.Claims.{unitAnswer, afterOf, BurstAsUnits, panelAfter, Given}
+use Rattle.panel_claims.specs.Claims.{unitAnswer, coreAfter, afterOf, BurstAsUnits, panelAfter, Given}
 use Rattle.panel_claims.proofs.Entrances.{Brings, takes, refuses, brings}
-use Rattle.panel_claims.proofs.Bursts.{first-number, unit-line, singly, singly-answers, burst-as-units}
+use Rattle.panel_claims.proofs.Bursts.{at-unit, first-number, unit-line, singly, singly-answers, burst-as-units}
 use Rattle.midi_messages.proofs.Meaning.{one-parse}
 use Rattle.panel_claims.proofs.Past.{own, stands, invariant-after, past-is, placedPast}
 use Rattle.panel_claims.proofs.Pushing.{told, Has, all-fit, first-faulty}
@@ -53,26 +53,26 @@ use Rattle.panel_claims.proofs.Readings.{reads-so}
 
 -- ---- each verdict is given
 
-module _ (is : List Instrument) (p : Panel) (r : StandsFor is (p .program)) (long : length (p .state .queue .lines) ≡ 64) where
-  has-own : (d : Entrance) → Has is (p .program) r d (own p .reached) (p .state .queue) (length (own p .holds .waits))
+module _ (is : List Instrument) (p : Panel) (r : StandsFor is (programOf p)) (long : length (p .core .state .queue .lines) ≡ 64) where
+  has-own : (d : Entrance) → Has is (programOf p) r d (own p .reached) (p .core .state .queue) (length (own p .holds .waits))
   has-own d = record { long = long; many = refl; is-reached = refl }
 
   when-over : (d : Entrance) (b : List ℕ) → own p .holds .plays .ended ≡ true → afterOf p (submit d b) .answers ≡ one 9 0
-  unfolding afterOf submitOf submittedOf onState.submittedOf submittedIn
+  unfolding afterOf coreAfter submitOf submittedOf onState.submittedOf submittedIn
   when-over d b e = rw e
 
   when-unread : (d : Entrance) (b : List ℕ) (a : kind.Answer) → own p .holds .plays .ended ≡ false → reads d b .answer ≡ a → isTaken a ≡ false
       → afterOf p (submit d b) .answers ≡ one (numberOf a) (reads d b .line)
-  unfolding afterOf submitOf submittedOf onState.submittedOf submittedIn
+  unfolding afterOf coreAfter submitOf submittedOf onState.submittedOf submittedIn
   when-unread d b a e q t = rw (e, q, t)
 
   when-read : (d : Entrance) (b : List ℕ) (ls : List Line) → own p .holds .plays .ended ≡ false → reads d b .answer ≡ answer.Taken → reads d b .lines ≡ ls
-      → afterOf p (submit d b) .answers ≡ told (admittedAll (mustBeTimed d) (tableOf (p .program)) (p .state .queue) (p .state .queue) 0 ls)
-  unfolding afterOf submitOf submittedOf onState.submittedOf submittedIn
+      → afterOf p (submit d b) .answers ≡ told (admittedAll (mustBeTimed d) (tableOf (programOf p)) (p .core .state .queue) (p .core .state .queue) 0 ls)
+  unfolding afterOf coreAfter submitOf submittedOf onState.submittedOf submittedIn
   when-read d b ls e q s = rw (e, q, s)
 
   at-cycle-given : (b : List ℤ) (n l : ℕ) → AtCycle is (own p) b n l → afterOf p (cycle b) .answers ≡ one n l
-  unfolding afterOf cycleOf cycledOf
+  unfolding afterOf coreAfter cycleOf cycledOf
   at-cycle-given b n l (otherLength w) = rw w
   at-cycle-given b n l (overBefore w e) = rw (w, e)
   at-cycle-given b n l (findsEnd w e y) = rw (w, y, e)
@@ -89,12 +89,12 @@ module _ (is : List Instrument) (p : Panel) (r : StandsFor is (p .program)) (lon
   at-entrance-given d b n l (faulty {number = m} before x later s t f) =
       let i-same : 0 + length before ≡ length before = omega arith in
       when-read d b (before ++ (x ∷ later)) (s .0) (s .1) (s .2)
-      ∙ first-faulty is (p .program) r d (own p .reached) (p .state .queue) before x later m (p .state .queue) _ 0 (has-own d) t f ∙ ap (one m) i-same
+      ∙ first-faulty is (programOf p) r d (own p .reached) (p .core .state .queue) before x later m (p .core .state .queue) _ 0 (has-own d) t f ∙ ap (one m) i-same
   at-entrance-given d b n l (taken ls s t) =
-      when-read d b ls (s .0) (s .1) (s .2) ∙ all-fit is (p .program) r d (own p .reached) (p .state .queue) ls (p .state .queue) _ 0 (has-own d) t
+      when-read d b ls (s .0) (s .1) (s .2) ∙ all-fit is (programOf p) r d (own p .reached) (p .core .state .queue) ls (p .core .state .queue) _ 0 (has-own d) t
 
   at-keyboard-given : (bytes : List ℕ) (n l : ℕ) → AtKeyboard is (own p) bytes n l → afterOf p (keyboard bytes) .answers ≡ one n l
-  unfolding afterOf playKeysOf keyboardCallOf enqueuedIn
+  unfolding afterOf coreAfter playKeysOf keyboardCallOf enqueuedIn
   at-keyboard-given bytes n l (keysOver e) = rw e
   at-keyboard-given bytes n l (keysCut e s) = rw (e, one-parse bytes _ s)
   at-keyboard-given bytes n l (keysNotCarried e s) = rw (e, one-parse bytes _ s)
@@ -106,11 +106,11 @@ module _ (is : List Instrument) (p : Panel) (r : StandsFor is (p .program)) (lon
 -- the panel past a unit: its history has the unit's line where it was taken, and it keeps its program and its 64 places
 pub record Past (p : Panel) (u : List ℕ) (number : ℕ) (q : Panel) : Type 0 where
   pub is-own : own q ≡ withLines (own p) (cond (eqb number 0) (reads unit u .lines) [])
-  pub has : q .program ≡ p .program
-  pub long : length (q .state .queue .lines) ≡ 64
+  pub has : programOf q ≡ programOf p
+  pub long : length (q .core .state .queue .lines) ≡ 64
 
-pub past-unit : (p : Panel) → length (p .state .queue .lines) ≡ 64 → (u : List ℕ) → Past p u (numberOf (submitOf p unit u .answer)) (submitOf p unit u .panel)
-unfolding afterOf first-number behind withQueue
+pub past-unit : (p : Panel) → length (p .core .state .queue .lines) ≡ 64 → (u : List ℕ) → Past p u (numberOf (at-unit p u .answer)) (at-unit p u .panel)
+unfolding afterOf coreAfter first-number behind withQueue
 past-unit p long u = go (brings p unit u)
   where
     AsTold : After Panel → Type 0
@@ -125,19 +125,19 @@ past-unit p long u = go (brings p unit u)
         subst⁻¹ AsTold x
         (record { is-own = rw (z, append-nil); has = refl; long = long })
 
-in-turn-given : (is : List Instrument) (us : List (List ℕ)) (p : Panel) → StandsFor is (p .program) → length (p .state .queue .lines) ≡ 64
+in-turn-given : (is : List Instrument) (us : List (List ℕ)) (p : Panel) → StandsFor is (programOf p) → length (p .core .state .queue .lines) ≡ 64
     → (given : List Answer) → InTurn is (own p) us given → each unitAnswer (singly p us .numbers) ≡ given
-unfolding singly each afterOf
+unfolding singly each afterOf coreAfter
 in-turn-given is [] p r long given none = refl
 in-turn-given is (u ∷ us) p r long _ (next {number = number} {line = line} {given = given} v rest) =
-    let told-so : one (numberOf (submitOf p unit u .answer)) (submitOf p unit u .line) ≡ one number line = at-entrance-given is p r long unit u number line v in
+    let told-so : one (numberOf (at-unit p u .answer)) (at-unit p u .line) ≡ one number line = at-entrance-given is p r long unit u number line v in
     let y = past-unit p long u in
-    let a : unitAnswer (numberOf (submitOf p unit u .answer)) ≡ record { number = number; line = line } = cc (unit-line p u) in
+    let a : unitAnswer (numberOf (at-unit p u .answer)) ≡ record { number = number; line = line } = cc (unit-line p u) in
     let own-is = y .is-own ∙ ap (λ (x : Answer). withLines (own p) (cond (eqb (x .number) 0) (reads unit u .lines) [])) a in
-    let others = in-turn-given is us (submitOf p unit u .panel) (rw (y .has) r) (y .long) given (subst⁻¹ (λ (h : History VoiceState). InTurn is h us given) own-is rest) in
+    let others = in-turn-given is us (at-unit p u .panel) (rw (y .has) r) (y .long) given (subst⁻¹ (λ (h : History VoiceState). InTurn is h us given) own-is rest) in
     λ i. a i ∷ others i
 
-at-burst-given : (is : List Instrument) (p : Panel) → StandsFor is (p .program) → length (p .state .queue .lines) ≡ 64
+at-burst-given : (is : List Instrument) (p : Panel) → StandsFor is (programOf p) → length (p .core .state .queue .lines) ≡ 64
     → (bytes area : List ℕ) (given : List Answer) → AtBurst is (own p) bytes area given → afterOf p (burst bytes area) .answers ≡ given
 unfolding BurstAsUnits
 at-burst-given is p r long bytes area _ (burstCut s) = cc (burst-as-units p bytes area .cut s)
@@ -158,7 +158,7 @@ change-number k area handed {f} e =
 
 module _ (is : List Instrument) (p : Panel) (area : List ℕ) where
   abbrev k : InUse
-  k = p .settings
+  k = p .core .settings
 
   in-use : {f : Found} → ParsesRecords (k .count) area f → f ≡ recordsIn (k .count) area
   in-use r = sym (one-meaning-records (k .count) area _ r)
@@ -172,12 +172,12 @@ module _ (is : List Instrument) (p : Panel) (area : List ℕ) where
         records-end (k .count) area (ap (λ (f : Found). isTaken (f .answer)) (sym (in-use (s .valid)))) .most,
       )
 
-  open-change : (handed : List ℕ) {f : Found} → p .state .playing .ended ≡ false → f ≡ changing (k .count) area handed → afterOf p (change area handed) .answers ≡ one (numberOf (f .answer)) 0
-  unfolding afterOf changeOf changedIn
+  open-change : (handed : List ℕ) {f : Found} → p .core .state .playing .ended ≡ false → f ≡ changing (k .count) area handed → afterOf p (change area handed) .answers ≡ one (numberOf (f .answer)) 0
+  unfolding afterOf coreAfter changeOf changedIn
   open-change handed e q = ap (λ (x : Changed). one (numberOf (x .answer)) 0) (cond-false _ _ e) ∙ ap (λ (n : ℕ). one n 0) (change-number k area handed q)
 
-  over-change : (handed : List ℕ) → p .state .playing .ended ≡ true → afterOf p (change area handed) .answers ≡ one 9 0
-  unfolding afterOf changeOf changedIn
+  over-change : (handed : List ℕ) → p .core .state .playing .ended ≡ true → afterOf p (change area handed) .answers ≡ one 9 0
+  unfolding afterOf coreAfter changeOf changedIn
   over-change handed e = ap (λ (x : Changed). one (numberOf (x .answer)) 0) (cond-true _ _ e)
 
   not-change : (handed : List ℕ) (n : ℕ) → NotReached is (own p) area n → afterOf p (change area handed) .answers ≡ one n 0
@@ -198,12 +198,12 @@ module _ (is : List Instrument) (p : Panel) (area : List ℕ) where
       open-change handed (s .goesOn)
       (goes-in (k .count) area handed (s .whole) (in-use (s .valid)) refl refl (sym (read-meaning handed _ x)) refl refl (omega arith) (omega (arith, m)))
 
-  open-undo : {c : Changed} → p .state .playing .ended ≡ false → c ≡ records.undoOf k area → afterOf p (undo area) .answers ≡ one (numberOf (c .answer)) 0
-  unfolding afterOf undoOf undoneIn
+  open-undo : {c : Changed} → p .core .state .playing .ended ≡ false → c ≡ records.undoOf k area → afterOf p (undo area) .answers ≡ one (numberOf (c .answer)) 0
+  unfolding afterOf coreAfter undoOf undoneIn
   open-undo e q = ap (λ (x : Changed). one (numberOf (x .answer)) 0) (cond-false _ _ e ∙ sym q)
 
-  over-undo : p .state .playing .ended ≡ true → afterOf p (undo area) .answers ≡ one 9 0
-  unfolding afterOf undoOf undoneIn
+  over-undo : p .core .state .playing .ended ≡ true → afterOf p (undo area) .answers ≡ one 9 0
+  unfolding afterOf coreAfter undoOf undoneIn
   over-undo e = ap (λ (x : Changed). one (numberOf (x .answer)) 0) (cond-true _ _ e)
 
   not-undo : (n : ℕ) → NotReached is (own p) area n → afterOf p (undo area) .answers ≡ one n 0
@@ -216,7 +216,7 @@ module _ (is : List Instrument) (p : Panel) (area : List ℕ) where
   at-undo-given _ _ (undoNothing s m) = open-undo (s .goesOn) (undo-nothing k area (s .whole) (in-use (s .valid)) refl refl m)
   at-undo-given _ _ (undoTaken s m) = open-undo (s .goesOn) (undo-taken k area (s .whole) (in-use (s .valid)) refl refl m refl)
 
-module _ (is : List Instrument) (p : Panel) (r : StandsFor is (p .program)) (long : length (p .state .queue .lines) ≡ 64) where
+module _ (is : List Instrument) (p : Panel) (r : StandsFor is (programOf p)) (long : length (p .core .state .queue .lines) ≡ 64) where
   given : (c : Call) (told : List Answer) → Verdict is (own p) c told → afterOf p c .answers ≡ told
   given (submit d b) _ (once v) = at-entrance-given is p r long d b _ _ v
   given (burst bytes area) told v = at-burst-given is p r long bytes area told v

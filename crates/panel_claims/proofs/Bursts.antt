@@ -28,13 +28,17 @@ use Rattle.entrance_admission.specs.declared.AdmissionResult.{AdmissionResult}
 use Rattle.entrance_burst.specs.Singly.{singlyIn, burstSubmittedIn, areaIn}
 use Rattle.player_calls.specs.OnState as onState
 use Rattle.player_calls.specs.OnState.{burstSubmittedOf}
-use Rattle.panel.specs.State.{tableOf, withState, withQueue}
+use Rattle.panel.specs.State.{programOf, tableOf, withState, withQueue, entranceOn}
 use Rattle.panel.specs.Calls.{submittedOf, submitOf, receiveOf, areaAfter}
 use Rattle.panel.specs.declared.Panel.{Panel}
-use Rattle.panel_claims.specs.Claims.{unitAnswer, afterOf, panel, unchanged, asUnits, BurstAsUnits}
+use Rattle.panel.specs.declared.EntranceResult.{EntranceResult}
+use Rattle.panel_claims.specs.Claims.{unitAnswer, coreAfter, afterOf, panel, unchanged, asUnits, BurstAsUnits}
 use Rattle.panel_claims.proofs.Entrances.{Behind, behind-more, Brings, takes, refuses, brings}
 
 -- ---- a unit's answer is about its only line
+
+abbrev pub at-unit : Panel → List ℕ → EntranceResult
+at-unit p u = entranceOn p (submitOf (p .core) unit u)
 
 alone-line : (ended : Bool) (table : List Instrument) (q : Queue) (r : LineRead) → submittedIn ended false table q (single r) .line ≡ 0
 unfolding submittedIn admittedAll
@@ -43,9 +47,9 @@ alone-line false table q r =
     by-test (isTaken (r .answer))
     (λ e. rw e (either-way (λ (x : AdmissionResult). x .line ≡ 0) (isTaken (lineAdmitted false table q (r .line) .answer)) refl refl)) (λ e. rw e)
 
-pub unit-line : (p : Panel) (u : List ℕ) → submitOf p unit u .line ≡ 0
+pub unit-line : (p : Panel) (u : List ℕ) → at-unit p u .line ≡ 0
 unfolding submitOf submittedOf onState.submittedOf
-unit-line p u = alone-line (p .state .playing .ended) (tableOf (p .program)) (p .state .queue) (unitOf (bitsOf u))
+unit-line p u = alone-line (p .core .state .playing .ended) (tableOf (programOf p)) (p .core .state .queue) (unitOf (bitsOf u))
 
 -- ---- units that come singly, by the public unit call: the panel after them, and the number of each one's answer
 
@@ -56,33 +60,33 @@ pub record Singly : Type 0 where
 unfoldable pub singly : Panel → List (List ℕ) → Singly
 singly p [] = record { panel = p; numbers = [] }
 singly p (u ∷ us) =
-    let r = submitOf p unit u in
+    let r = at-unit p u in
     let rest = singly (r .panel) us in
     record { panel = rest .panel; numbers = numberOf (r .answer) ∷ rest .numbers }
 
 -- they change nothing but the waiting lines
 abbrev in-turn : Panel → List (List ℕ) → Singly
 in-turn p us =
-    let r = singlyIn (p .state .playing .ended) (tableOf (p .program)) (p .state .queue) us in
+    let r = singlyIn (p .core .state .playing .ended) (tableOf (programOf p)) (p .core .state .queue) us in
     record { panel = withQueue p (r .queue); numbers = r .numbers }
 
 singly-is : (us : List (List ℕ)) (p : Panel) → in-turn p us ≡ singly p us
 unfolding singly singlyIn submitOf submittedOf onState.submittedOf withQueue
 singly-is [] p = refl
 singly-is (u ∷ us) p =
-    let r = submittedIn (p .state .playing .ended) (mustBeTimed unit) (tableOf (p .program)) (p .state .queue) (reads unit u) in
+    let r = submittedIn (p .core .state .playing .ended) (mustBeTimed unit) (tableOf (programOf p)) (p .core .state .queue) (reads unit u) in
     ap (λ (x : Singly). record { panel = x .panel; numbers = numberOf (r .answer) ∷ x .numbers }) (singly-is us (withQueue p (r .queue)))
 
 pub singly-player : (us : List (List ℕ)) (p : Panel) → singly p us .panel ≡ afterAll panel p (each (submit unit) us)
-unfolding singly each afterAll afterOf
+unfolding singly each afterAll afterOf coreAfter
 singly-player [] p = refl
-singly-player (u ∷ us) p = singly-player us (submitOf p unit u .panel)
+singly-player (u ∷ us) p = singly-player us (at-unit p u .panel)
 
 pub singly-answers : (us : List (List ℕ)) (p : Panel) → each unitAnswer (singly p us .numbers) ≡ answersAll panel p (each (submit unit) us)
-unfolding singly each answersAll afterOf
+unfolding singly each answersAll afterOf coreAfter
 singly-answers [] p = refl
 singly-answers (u ∷ us) p =
-    λ i. record { number = numberOf (submitOf p unit u .answer); line = sym (unit-line p u) i } ∷ singly-answers us (submitOf p unit u .panel) i
+    λ i. record { number = numberOf (at-unit p u .answer); line = sym (unit-line p u) i } ∷ singly-answers us (at-unit p u .panel) i
 
 numbers-back : (ns : List ℕ) → each (λ (a : Answer). a .number) (each unitAnswer ns) ≡ ns
 unfolding each
@@ -92,18 +96,18 @@ numbers-back (n ∷ ns) = ap (λ (l : List ℕ). n ∷ l) (numbers-back ns)
 pub length-singly : (us : List (List ℕ)) (p : Panel) → length (singly p us .numbers) ≡ length us
 unfolding singly
 length-singly [] p = refl
-length-singly (u ∷ us) p = ap suc (length-singly us (submitOf p unit u .panel))
+length-singly (u ∷ us) p = ap suc (length-singly us (at-unit p u .panel))
 
 -- ---- what the call leaves, by what its bytes are
 
 pub left : Panel → List ℕ → Burst → After Panel
 left p area b =
-    let r = burstSubmittedOf (tableOf (p .program)) (p .state) (length area) b in
-    let a = areaIn (p .state .playing .ended) (tableOf (p .program)) (p .state .queue) area b in
+    let r = burstSubmittedOf (tableOf (programOf p)) (p .core .state) (length area) b in
+    let a = areaIn (p .core .state .playing .ended) (tableOf (programOf p)) (p .core .state .queue) area b in
     record { player = withState p (r .state); answers = one (numberOf (r .answer)) 0 ++ each unitAnswer (take (r .units) a); buffers = onlyAnswers a }
 
 pub left-is : (p : Panel) (bytes area : List ℕ) (b : Burst) → burstOf bytes ≡ b → afterOf p (burst bytes area) ≡ left p area b
-unfolding afterOf receiveOf areaAfter left
+unfolding afterOf coreAfter receiveOf areaAfter left
 left-is p bytes area b e = ap (left p area) e
 
 pub left-fault : (p : Panel) (bytes area : List ℕ) (a : kind.Answer) → left p area (fault a) ≡ unchanged p (burst bytes area) (numberOf a)
@@ -176,24 +180,24 @@ taken-of us ns = takenOf (each (λ (u : List ℕ). reads unit u .lines) us) (eac
 pub record Leaves (p : Panel) (taken : List Line) (p′ : Panel) : Type 0 where
   pub queue : Queue
   pub same : p′ ≡ withQueue p queue
-  pub behind : Behind (p .state .queue) taken queue
-  pub none : p .state .playing .ended ≡ true → taken ≡ []
+  pub behind : Behind (p .core .state .queue) taken queue
+  pub none : p .core .state .playing .ended ≡ true → taken ≡ []
 
 unfoldable pub first-number : List Answer → ℕ
 first-number [] = 0
 first-number (a ∷ given) = a .number
 
-pub leaves : (us : List (List ℕ)) (p : Panel) → length (p .state .queue .lines) ≡ 64 → Leaves p (taken-of us (singly p us .numbers)) (singly p us .panel)
-unfolding singly each withQueue afterOf first-number
+pub leaves : (us : List (List ℕ)) (p : Panel) → length (p .core .state .queue .lines) ≡ 64 → Leaves p (taken-of us (singly p us .numbers)) (singly p us .panel)
+unfolding singly each withQueue afterOf coreAfter first-number
 leaves [] p long =
-    record { queue = p .state .queue; same = refl; behind = record { waits = sym (append-nil (waitingIn (p .state .queue))); long = long; ran = refl; last = refl }; none = λ e. refl }
+    record { queue = p .core .state .queue; same = refl; behind = record { waits = sym (append-nil (waitingIn (p .core .state .queue))); long = long; ran = refl; last = refl }; none = λ e. refl }
 leaves (u ∷ us) p long = go (brings p unit u) (λ q h. leaves us q h)
   where
     Rest : After Panel → Type 0
     Rest a = Leaves p (cond (eqb (first-number (a .answers)) 0) (reads unit u .lines) [] ++ taken-of us (singly (a .player) us .numbers)) (singly (a .player) us .panel)
 
     go : Brings p (reads unit u .lines) (afterOf p (submit unit u))
-        → ((q : Panel) → length (q .state .queue .lines) ≡ 64 → Leaves q (taken-of us (singly q us .numbers)) (singly q us .panel)) → Rest (afterOf p (submit unit u))
+        → ((q : Panel) → length (q .core .state .queue .lines) ≡ 64 → Leaves q (taken-of us (singly q us .numbers)) (singly q us .panel)) → Rest (afterOf p (submit unit u))
     go (takes l q e f x) rec =
         let b = f long in
         let y = rec (withQueue p q) (b .long) in

@@ -18,48 +18,37 @@ use Rattle.player_model.specs.Lists.{All, each}
 use Rattle.player_model.specs.PlayerState.{dueOf}
 use Rattle.player_model.specs.Calls.{Call, submit, burst, keyboard, cycle, change, undo, numbered, one, noBuffers, onlyBlock, onlyAnswers, onlySettings, After, isZero, Last, none, Transition, cyclesWith, lastWith, transitionOf, traceFrom, afterAll}
 use Rattle.player_model.proofs.Ceiling.{block-within, Counted, AllBound, bound-within}
-use Rattle.panel.specs.State.{voicesOf, playerStateOf, settingsIn, withState, withInUse}
+use Rattle.panel.specs.State.{programOf, voicesOf, playerStateOf, settingsIn, panelOf}
 use Rattle.panel.specs.Calls.{submittedOf, submitOf, receiveOf, playKeysOf, changeOf, undoOf, cycleOf}
-use Rattle.panel.specs.Core.{panelOf}
 use Rattle.panel.specs.declared.Panel.{Panel}
 use Rattle.panel.specs.declared.Core.{Core}
-use Rattle.panel_claims.specs.Claims.{unitAnswer, afterOf, panel, firstInUse, fresh, CeilingBinds}
-use Rattle.panel_claims.specs.Core.{coreOf, core, CoreByContract, transitionOnCore, GoesAsPanel, CoreAsPanel, LentCall, lentFrom, CoreCeilingBinds}
+use Rattle.panel_claims.specs.Claims.{unitAnswer, coreAfter, afterOf, panel, firstInUse, fresh, CeilingBinds}
+use Rattle.panel_claims.specs.Core.{core, CoreByContract, transitionOnCore, GoesAsPanel, CoreAsPanel, LentCall, lentFrom, CoreCeilingBinds}
 use Rattle.panel_claims.proofs.Cycles.{Cycles, off, over-before, ends, plays, cycles}
 use Rattle.panel_claims.proofs.Settings.{Sets, set-taken, set-refused, changes, undoes}
 use Rattle.panel_claims.proofs.Past.{fresh-invariant, fresh-own}
 
--- no call changes more of a panel than its state and its settings
-stays : (p : Panel) (c : Call) → withInUse (withState p (afterOf p c .player .state)) (afterOf p c .player .settings) ≡ afterOf p c .player
-unfolding afterOf submitOf submittedOf receiveOf playKeysOf cycleOf changeOf undoOf
-stays p (submit d handed) = refl
-stays p (burst bytes area) = refl
-stays p (keyboard bytes) = refl
-stays p (cycle b) = refl
-stays p (change area handed) = refl
-stays p (undo area) = refl
-
 -- ---- the ceiling
 
 -- a call that answers 0 leaves no block, or a cycle's, within the ceiling that is set
-module _ (p : Panel) (l : Valid (p .settings .last)) where
-  sound-within : (b : List ℤ) → isZero (afterOf p (cycle b) .answers) ≡ true → All (Within (p .settings .last .ceiling)) (afterOf p (cycle b) .buffers .block)
+module _ (p : Panel) (l : Valid (p .core .settings .last)) where
+  sound-within : (b : List ℤ) → isZero (afterOf p (cycle b) .answers) ≡ true → All (Within (p .core .settings .last .ceiling)) (afterOf p (cycle b) .buffers .block)
   sound-within b t = go (cycles p b)
     where
       not-zero : {a : After Panel} → afterOf p (cycle b) ≡ a → isZero (a .answers) ≡ true
       not-zero x = ap (λ (a : After Panel). isZero (a .answers)) (sym x) ∙ t
 
-      go : Cycles p b (afterOf p (cycle b)) → All (Within (p .settings .last .ceiling)) (afterOf p (cycle b) .buffers .block)
+      go : Cycles p b (afterOf p (cycle b)) → All (Within (p .core .settings .last .ceiling)) (afterOf p (cycle b) .buffers .block)
       go (off w x) = absurd (false≢true (not-zero x))
       go (over-before w e x) = absurd (false≢true (not-zero x))
       go (ends w e d x) = absurd (false≢true (not-zero x))
       go (plays w e d x) =
-          subst⁻¹ (λ (a : After Panel). All (Within (p .settings .last .ceiling)) (a .buffers .block)) x
-          (block-within (voicesOf (p .program)) (settingsIn p) (l .ceiling .0) (l .ceiling .1) (dueOf (playerStateOf p)) (playerStateOf p .plays))
+          subst⁻¹ (λ (a : After Panel). All (Within (p .core .settings .last .ceiling)) (a .buffers .block)) x
+          (block-within (voicesOf (programOf p)) (settingsIn (p .core)) (l .ceiling .0) (l .ceiling .1) (dueOf (playerStateOf p)) (playerStateOf p .plays))
 
   -- a call that is no cycle of the list leaves none
   no-sound : (c : Call) → numbered c ≡ false → isZero (afterOf p c .answers) ≡ true → afterOf p c .buffers .block ≡ []
-  unfolding afterOf
+  unfolding afterOf coreAfter
   no-sound (submit d handed) w t = refl
   no-sound (burst bytes area) w t = refl
   no-sound (keyboard bytes) w t = refl
@@ -73,7 +62,7 @@ module _ (p : Panel) (l : Valid (p .settings .last)) where
       go (ends v e d x) = absurd (true≢false (sym v ∙ w))
       go (plays v e d x) = absurd (true≢false (sym v ∙ w))
 
-  heard : (c : Call) → numbered c ≡ true → isZero (afterOf p c .answers) ≡ true → All (Within (p .settings .last .ceiling)) (afterOf p c .buffers .block)
+  heard : (c : Call) → numbered c ≡ true → isZero (afterOf p c .answers) ≡ true → All (Within (p .core .settings .last .ceiling)) (afterOf p c .buffers .block)
   heard (submit d handed) w t = absurd (false≢true w)
   heard (burst bytes area) w t = absurd (false≢true w)
   heard (keyboard bytes) w t = absurd (false≢true w)
@@ -82,31 +71,31 @@ module _ (p : Panel) (l : Valid (p .settings .last)) where
   heard (cycle b) w t = sound-within b t
 
   -- what is set afterwards, and that it is valid
-  same-set : (b : Bool) → cond b (p .settings) (p .settings) ≡ p .settings
-  same-set b = either-way (λ (x : InUse). x ≡ p .settings) b refl refl
+  same-set : (b : Bool) → cond b (p .core .settings) (p .core .settings) ≡ p .core .settings
+  same-set b = either-way (λ (x : InUse). x ≡ p .core .settings) b refl refl
 
   abbrev setAfter : Call → InUse
-  setAfter c = cond (numbered c) (p .settings) (cond (isZero (afterOf p c .answers)) (setBy (p .settings) c) (p .settings))
+  setAfter c = cond (numbered c) (p .core .settings) (cond (isZero (afterOf p c .answers)) (setBy (p .core .settings) c) (p .core .settings))
 
-  by-sets : (c : Call) {left : List ℕ} → numbered c ≡ false → Sets p c left (afterOf p c) → (afterOf p c .player .settings ≡ setAfter c) × Valid (afterOf p c .player .settings .last)
+  by-sets : (c : Call) {left : List ℕ} → numbered c ≡ false → Sets p c left (afterOf p c) → (afterOf p c .player .core .settings ≡ setAfter c) × Valid (afterOf p c .player .core .settings .last)
   by-sets c w (set-taken e n x) = (
-    ap (λ (a : After Panel). a .player .settings) x
-        ∙ sym (cond-false _ _ w ∙ ap (λ (a : After Panel). cond (isZero (a .answers)) (setBy (p .settings) c) (p .settings)) x),
-    subst⁻¹ (λ (a : After Panel). Valid (a .player .settings .last)) x n,
+    ap (λ (a : After Panel). a .player .core .settings) x
+        ∙ sym (cond-false _ _ w ∙ ap (λ (a : After Panel). cond (isZero (a .answers)) (setBy (p .core .settings) c) (p .core .settings)) x),
+    subst⁻¹ (λ (a : After Panel). Valid (a .player .core .settings .last)) x n,
   )
   by-sets c w (set-refused n z x) = (
-    ap (λ (a : After Panel). a .player .settings) x
-        ∙ sym (cond-false _ _ w ∙ ap (λ (a : After Panel). cond (isZero (a .answers)) (setBy (p .settings) c) (p .settings)) x ∙ cond-false _ _ z),
-    subst⁻¹ (λ (a : After Panel). Valid (a .player .settings .last)) x l,
+    ap (λ (a : After Panel). a .player .core .settings) x
+        ∙ sym (cond-false _ _ w ∙ ap (λ (a : After Panel). cond (isZero (a .answers)) (setBy (p .core .settings) c) (p .core .settings)) x ∙ cond-false _ _ z),
+    subst⁻¹ (λ (a : After Panel). Valid (a .player .core .settings .last)) x l,
   )
 
-  set-so : (c : Call) → (afterOf p c .player .settings ≡ setAfter c) × Valid (afterOf p c .player .settings .last)
-  unfolding afterOf submitOf submittedOf receiveOf playKeysOf cycleOf
+  set-so : (c : Call) → (afterOf p c .player .core .settings ≡ setAfter c) × Valid (afterOf p c .player .core .settings .last)
+  unfolding afterOf coreAfter submitOf submittedOf receiveOf playKeysOf cycleOf
   set-so (submit d handed) = (sym (same-set (isZero (afterOf p (submit d handed) .answers))), l)
   set-so (burst bytes area) = (sym (same-set (isZero (afterOf p (burst bytes area) .answers))), l)
   set-so (keyboard bytes) = (sym (same-set (isZero (afterOf p (keyboard bytes) .answers))), l)
   set-so (cycle b) =
-      (sym (ap (λ (x : InUse). cond (numbered (cycle b)) (p .settings) x) (same-set (isZero (afterOf p (cycle b) .answers))) ∙ same-set (numbered (cycle b))), l)
+      (sym (ap (λ (x : InUse). cond (numbered (cycle b)) (p .core .settings) x) (same-set (isZero (afterOf p (cycle b) .answers))) ∙ same-set (numbered (cycle b))), l)
   set-so (change area handed) = by-sets (change area handed) refl (changes p area handed)
   set-so (undo area) = by-sets (undo area) refl (undoes p area)
 
@@ -115,7 +104,7 @@ unfolding traceFrom
 counted [] n z p = tt
 counted (c ∷ cs) n z p = (refl, counted cs _ _ (afterOf p c .player))
 
-panel-bound : (cs : List Call) (n : ℕ) (z : Last) (p : Panel) → Valid (p .settings .last) → AllBound (p .settings) (traceFrom panel n z p cs)
+panel-bound : (cs : List Call) (n : ℕ) (z : Last) (p : Panel) → Valid (p .core .settings .last) → AllBound (p .core .settings) (traceFrom panel n z p cs)
 unfolding traceFrom
 panel-bound [] n z p l = tt
 panel-bound (c ∷ cs) n z p l =
@@ -138,21 +127,21 @@ core-counted [] n z c = tt
 core-counted (l ∷ ls) n z c = (refl, core-counted ls _ _ _)
 
 core-bound : (ls : List LentCall) (n : ℕ) (z : Last) (c : Core) → Valid (c .settings .last) → AllBound (c .settings) (lentFrom n z c ls)
-unfolding lentFrom
+unfolding lentFrom afterOf
 core-bound [] n z c l = tt
 core-bound (x ∷ xs) n z c l =
     let p = panelOf c (x .code) (x .vals) in
     let m = transitionOf (core (x .code) (x .vals)) n z c (x .call) in
     let s = set-so p l (x .call) in (
       record { block = heard p l (x .call); none = no-sound p l (x .call) },
-      subst (λ (y : InUse). AllBound y (lentFrom (cyclesWith m) (lastWith m) (coreOf (afterOf p (x .call) .player)) xs)) (s .0)
-          (core-bound xs _ _ (coreOf (afterOf p (x .call) .player)) (s .1)),
+      subst (λ (y : InUse). AllBound y (lentFrom (cyclesWith m) (lastWith m) (coreAfter (x .code) (x .vals) c (x .call) .player) xs)) (s .0)
+          (core-bound xs _ _ (coreAfter (x .code) (x .vals) c (x .call) .player) (s .1)),
     )
 
 pub core-ceiling-binds : CoreCeilingBinds
 unfolding CoreCeilingBinds
 core-ceiling-binds u is g c code vals e ls =
-    let q : c .settings ≡ fresh u .settings = ap (λ (p : Panel). p .settings) e in
+    let q : c .settings ≡ fresh u .core .settings = ap (λ (p : Panel). p .core .settings) e in
     bound-within (u .chosen) (firstInUse u) (lentFrom 0 none c ls) (core-counted ls 0 none c)
     (subst (λ (x : InUse). AllBound x (lentFrom 0 none c ls)) (q ∙ ap (λ (h : History VoiceState). h .set) (fresh-own u is g))
     (core-bound ls 0 none c (subst⁻¹ (λ (x : InUse). Valid (x .last)) q (fresh-invariant u is g .valid))))
@@ -160,40 +149,32 @@ core-ceiling-binds u is g c code vals e ls =
 -- ---- the panel in two
 
 pub core-by-contract : CoreByContract
-unfolding CoreByContract afterOf
+unfolding CoreByContract coreAfter
 core-by-contract c code vals =
     record {
-      entrance = λ d handed r e. λ i. let x = sym (e code vals) i in record { player = coreOf (x .panel); answers = one (numberOf (x .answer)) (x .line); buffers = noBuffers };
+      entrance = λ d handed r e. λ i. let x = sym e i in record { player = x .core; answers = one (numberOf (x .answer)) (x .line); buffers = noBuffers };
       units = λ bytes area left r e f. λ i.
-          let x = sym (e code vals) i in
-          let l = sym (f code vals) i in
-          record { player = coreOf (x .panel); answers = one (numberOf (x .answer)) 0 ++ each unitAnswer (take (x .units) l); buffers = onlyAnswers l };
-      keys = λ bytes r e. λ i. let x = sym (e code vals) i in record { player = coreOf (x .panel); answers = one (numberOf (x .answer)) 0; buffers = noBuffers };
-      settings = λ area handed left r e f. λ i.
-          let x = sym (e code vals) i in record { player = coreOf (x .panel); answers = one (numberOf (x .answer)) 0; buffers = onlySettings (sym (f code vals) i) };
-      back = λ area r e. λ i. let x = sym (e code vals) i in record { player = coreOf (x .panel); answers = one (numberOf (x .answer)) 0; buffers = onlySettings area };
-      sound = λ lent left r e f. λ i. let x = sym e i in record { player = coreOf (x .panel); answers = one (numberOf (x .answer)) 0; buffers = onlyBlock (sym f i) };
+          let x = sym e i in
+          let l = sym f i in
+          record { player = x .core; answers = one (numberOf (x .answer)) 0 ++ each unitAnswer (take (x .units) l); buffers = onlyAnswers l };
+      keys = λ bytes r e. λ i. let x = sym e i in record { player = x .core; answers = one (numberOf (x .answer)) 0; buffers = noBuffers };
+      settings = λ area handed left r e f. λ i. let x = sym e i in record { player = x .core; answers = one (numberOf (x .answer)) 0; buffers = onlySettings (sym f i) };
+      back = λ area r e. λ i. let x = sym e i in record { player = x .core; answers = one (numberOf (x .answer)) 0; buffers = onlySettings area };
+      sound = λ lent left r e f. λ i. let x = sym e i in record { player = x .core; answers = one (numberOf (x .answer)) 0; buffers = onlyBlock (sym f i) };
     }
 
 module _ (code : List ℕ) (vals : List Float) where
-  -- core and code make the panel that a call leaves
-  made : (c : Core) (call : Call) → panelOf (coreOf (afterOf (panelOf c code vals) call .player)) code vals ≡ afterOf (panelOf c code vals) call .player
-  made c call = ap (λ (q : Panel). panelOf (coreOf q) code vals) (sym (stays (panelOf c code vals) call)) ∙ stays (panelOf c code vals) call
-
   along : (cs : List Call) (n : ℕ) (z : Last) (c : Core) → traceFrom (core code vals) n z c cs ≡ each transitionOnCore (traceFrom panel n z (panelOf c code vals) cs)
-  unfolding traceFrom each
+  unfolding traceFrom each afterOf
   along [] n z c = refl
   along (call ∷ cs) n z c =
-      let m = transitionOf panel n z (panelOf c code vals) call in
-      ap (λ (ms : List (Transition Core)). transitionOnCore m ∷ ms)
-      (along cs (cyclesWith m) (lastWith m) (coreOf (m .after .player))
-      ∙ ap (λ (q : Panel). each transitionOnCore (traceFrom panel (cyclesWith m) (lastWith m) q cs)) (made c call))
+      let m = transitionOf (core code vals) n z c call in
+      ap (λ (ms : List (Transition Core)). m ∷ ms) (along cs (cyclesWith m) (lastWith m) (m .after .player))
 
   ends-as : (cs : List Call) (c : Core) → panelOf (afterAll (core code vals) c cs) code vals ≡ afterAll panel (panelOf c code vals) cs
-  unfolding afterAll
+  unfolding afterAll afterOf
   ends-as [] c = refl
-  ends-as (call ∷ cs) c =
-      ends-as cs (coreOf (afterOf (panelOf c code vals) call .player)) ∙ ap (λ (q : Panel). afterAll panel q cs) (made c call)
+  ends-as (call ∷ cs) c = ends-as cs (coreAfter code vals c call .player)
 
 pub core-as-panel : CoreAsPanel
 unfolding CoreAsPanel

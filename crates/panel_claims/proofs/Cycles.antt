@@ -32,10 +32,10 @@ use Rattle.player_state.specs.States.{queueAfter}
 use Rattle.player_cycle.specs.OneCycle as oneCycle
 use Rattle.player_cycle.specs.CycleCall.{cycledOf, blockLeft}
 use Rattle.player_calls.specs.declared.CallResult.{CallResult}
-use Rattle.panel.specs.State.{voicesOf, playerStateOf, settingsIn, withState, endedOf}
+use Rattle.panel.specs.State.{programOf, voicesOf, playerStateOf, settingsIn, withState, endedOf}
 use Rattle.panel.specs.Calls.{cycleOf, blockAfter}
 use Rattle.panel.specs.declared.Panel.{Panel}
-use Rattle.panel_claims.specs.Claims.{afterOf, reachedOf}
+use Rattle.panel_claims.specs.Claims.{coreAfter, afterOf, reachedOf}
 
 -- ---- what is laid over an array is read back
 
@@ -55,21 +55,21 @@ plays-back old p =
 
 -- steps 2 to 8
 unfoldable pub playedOf : Panel → Panel
-playedOf p = withState p (oneCycle.playedOf (voicesOf (p .program)) (settingsIn p) (p .state))
+playedOf p = withState p (oneCycle.playedOf (voicesOf (programOf p)) (settingsIn (p .core)) (p .core .state))
 
 pub holds-played : (p : Panel) → playerStateOf (playedOf p)
     ≡ record {
       waits = laterThan (playerStateOf p .plays .position) (playerStateOf p .waits);
       messages = [];
-      plays = capped (played (voicesOf (p .program)) (settingsIn p) (dueOf (playerStateOf p)) (playerStateOf p .plays));
+      plays = capped (played (voicesOf (programOf p)) (settingsIn (p .core)) (dueOf (playerStateOf p)) (playerStateOf p .plays));
     }
 unfolding playedOf oneCycle.playedOf queueAfter advanced
 holds-played p =
     let later = laterThan (playerStateOf p .plays .position) (playerStateOf p .waits) in
     λ i. record {
-      waits = take-append-seam later (drop (length later) (p .state .queue .lines)) i;
+      waits = take-append-seam later (drop (length later) (p .core .state .queue .lines)) i;
       messages = [];
-      plays = plays-back (p .state .playing) (capped (played (voicesOf (p .program)) (settingsIn p) (dueOf (playerStateOf p)) (playerStateOf p .plays))) i;
+      plays = plays-back (p .core .state .playing) (capped (played (voicesOf (programOf p)) (settingsIn (p .core)) (dueOf (playerStateOf p)) (playerStateOf p .plays))) i;
     }
 
 pub reached-played : (p : Panel) → reachedOf (playedOf p) ≡ at (playerStateOf p .plays .position)
@@ -77,39 +77,39 @@ unfolding playedOf oneCycle.playedOf queueAfter
 reached-played p = refl
 
 -- a played panel still has its 64 places
-pub played-long : (p : Panel) → length (p .state .queue .lines) ≡ 64 → length (playedOf p .state .queue .lines) ≡ 64
+pub played-long : (p : Panel) → length (p .core .state .queue .lines) ≡ 64 → length (playedOf p .core .state .queue .lines) ≡ 64
 unfolding playedOf oneCycle.playedOf queueAfter laterThan
 played-long p h =
-    let k : Line → Bool = λ (l : Line). not (isDue (p .state .playing .position) l) in
-    let w = waitingIn (p .state .queue) in
-    length-over (filter k w) (p .state .queue .lines) (omega (arith, length-filter k w, length-take (p .state .queue .count) (p .state .queue .lines))) ∙ h
+    let k : Line → Bool = λ (l : Line). not (isDue (p .core .state .playing .position) l) in
+    let w = waitingIn (p .core .state .queue) in
+    length-over (filter k w) (p .core .state .queue .lines) (omega (arith, length-filter k w, length-take (p .core .state .queue .count) (p .core .state .queue .lines))) ∙ h
 
 -- ---- what the call leaves
 
 pub data Cycles (p : Panel) (b : List ℤ) (a : After Panel) : Type 0 where
   off : numbered (cycle-call b) ≡ false → a ≡ record { player = p; answers = one 10 0; buffers = onlyBlock b } → Cycles p b a
-  over-before : numbered (cycle-call b) ≡ true → p .state .playing .ended ≡ true → a ≡ record { player = p; answers = one 9 0; buffers = onlyBlock b } → Cycles p b a
-  ends : numbered (cycle-call b) ≡ true → p .state .playing .ended ≡ false → endsBy (dueOf (playerStateOf p)) (playerStateOf p .plays) ≡ true
+  over-before : numbered (cycle-call b) ≡ true → p .core .state .playing .ended ≡ true → a ≡ record { player = p; answers = one 9 0; buffers = onlyBlock b } → Cycles p b a
+  ends : numbered (cycle-call b) ≡ true → p .core .state .playing .ended ≡ false → endsBy (dueOf (playerStateOf p)) (playerStateOf p .plays) ≡ true
       → a ≡ record { player = endedOf p; answers = one 9 0; buffers = onlyBlock b } → Cycles p b a
-  plays : numbered (cycle-call b) ≡ true → p .state .playing .ended ≡ false → endsBy (dueOf (playerStateOf p)) (playerStateOf p .plays) ≡ false
-      → a ≡ record { player = playedOf p; answers = one 0 0; buffers = onlyBlock (blockOf (voicesOf (p .program)) (settingsIn p) (dueOf (playerStateOf p)) (playerStateOf p .plays)) }
+  plays : numbered (cycle-call b) ≡ true → p .core .state .playing .ended ≡ false → endsBy (dueOf (playerStateOf p)) (playerStateOf p .plays) ≡ false
+      → a ≡ record { player = playedOf p; answers = one 0 0; buffers = onlyBlock (blockOf (voicesOf (programOf p)) (settingsIn (p .core)) (dueOf (playerStateOf p)) (playerStateOf p .plays)) }
       → Cycles p b a
 
 pub cycles : (p : Panel) (b : List ℤ) → Cycles p b (afterOf p (cycle-call b))
-unfolding afterOf cycleOf cycledOf blockAfter blockLeft playedOf endedOf
-cycles p b = go (eqb (length b) samples) (p .state .playing .ended) (endsBy (dueOf (playerStateOf p)) (playerStateOf p .plays)) refl refl refl
+unfolding afterOf coreAfter cycleOf cycledOf blockAfter blockLeft playedOf endedOf
+cycles p b = go (eqb (length b) samples) (p .core .state .playing .ended) (endsBy (dueOf (playerStateOf p)) (playerStateOf p .plays)) refl refl refl
   where
     sound : List ℤ
-    sound = blockOf (voicesOf (p .program)) (settingsIn p) (dueOf (playerStateOf p)) (playerStateOf p .plays)
+    sound = blockOf (voicesOf (programOf p)) (settingsIn (p .core)) (dueOf (playerStateOf p)) (playerStateOf p .plays)
 
     out : Bool → Bool → Bool → CallResult
     out w e d =
         cond w
-        (cond e (record { state = p .state; answer = answer.Ended })
-        (cond d (record { state = endedOf p .state; answer = answer.Ended }) (record { state = playedOf p .state; answer = answer.Taken })))
-        (record { state = p .state; answer = answer.BlockLength })
+        (cond e (record { state = p .core .state; answer = answer.Ended })
+        (cond d (record { state = endedOf p .core .state; answer = answer.Ended }) (record { state = playedOf p .core .state; answer = answer.Taken })))
+        (record { state = p .core .state; answer = answer.BlockLength })
 
-    go : (w e d : Bool) → eqb (length b) samples ≡ w → p .state .playing .ended ≡ e → endsBy (dueOf (playerStateOf p)) (playerStateOf p .plays) ≡ d
+    go : (w e d : Bool) → eqb (length b) samples ≡ w → p .core .state .playing .ended ≡ e → endsBy (dueOf (playerStateOf p)) (playerStateOf p .plays) ≡ d
         → Cycles p b (record { player = withState p (out w e d .state); answers = one (numberOf (out w e d .answer)) 0; buffers = onlyBlock (cond (isTaken (out w e d .answer)) sound b) })
     go true true d hw he hd = over-before hw he refl
     go true false true hw he hd = ends hw he hd refl

@@ -21,10 +21,10 @@ use Rattle.player_model.proofs.Lists.{by-test, either-way}
 use Rattle.entrance_admission.specs.Submission.{lineAdmitted, admittedAll, submittedIn}
 use Rattle.entrance_admission.specs.declared.AdmissionResult.{AdmissionResult}
 use Rattle.player_calls.specs.OnState as onState
-use Rattle.panel.specs.State.{tableOf, withQueue}
+use Rattle.panel.specs.State.{programOf, tableOf, withQueue}
 use Rattle.panel.specs.Calls.{submittedOf, submitOf}
 use Rattle.panel.specs.declared.Panel.{Panel}
-use Rattle.panel_claims.specs.Claims.{afterOf, Takes, TakenCalls}
+use Rattle.panel_claims.specs.Claims.{coreAfter, afterOf, Takes, TakenCalls}
 
 -- ---- lines behind those that wait
 
@@ -73,28 +73,28 @@ module _ (timed : Bool) (table : List Instrument) where
 -- ---- what an entrance leaves: the lines read wait behind the others, or it is refused and the panel is as it was
 
 pub data Brings (p : Panel) (ls : List Line) (a : After Panel) : Type 0 where
-  takes : (l : ℕ) (q : Queue) → p .state .playing .ended ≡ false → (length (p .state .queue .lines) ≡ 64 → Behind (p .state .queue) ls q)
+  takes : (l : ℕ) (q : Queue) → p .core .state .playing .ended ≡ false → (length (p .core .state .queue .lines) ≡ 64 → Behind (p .core .state .queue) ls q)
       → a ≡ record { player = withQueue p q; answers = one 0 l; buffers = noBuffers } → Brings p ls a
   refuses : (n l : ℕ) → eqb n 0 ≡ false → a ≡ record { player = p; answers = one n l; buffers = noBuffers } → Brings p ls a
 
 pub brings : (p : Panel) (d : Entrance) (handed : List ℕ) → Brings p (reads d handed .lines) (afterOf p (submit d handed))
-unfolding afterOf submitOf submittedOf onState.submittedOf submittedIn withQueue
-brings p d handed = go (p .state .playing .ended) refl
+unfolding afterOf coreAfter submitOf submittedOf onState.submittedOf submittedIn withQueue
+brings p d handed = go (p .core .state .playing .ended) refl
   where
     left : AdmissionResult → After Panel
     left r = record { player = withQueue p (r .queue); answers = one (numberOf (r .answer)) (r .line); buffers = noBuffers }
 
-    by-lines : p .state .playing .ended ≡ false → (r : AdmissionResult) → Went (mustBeTimed d) (tableOf (p .program)) (p .state .queue) (p .state .queue) (reads d handed .lines) r
+    by-lines : p .core .state .playing .ended ≡ false → (r : AdmissionResult) → Went (mustBeTimed d) (tableOf (programOf p)) (p .core .state .queue) (p .core .state .queue) (reads d handed .lines) r
         → Brings p (reads d handed .lines) (left r)
     by-lines e r (in-all t f) = takes (r .line) (r .queue) e f (λ i. record { player = withQueue p (r .queue); answers = one (eqb-true (numberOf (r .answer)) 0 t i) (r .line); buffers = noBuffers })
     by-lines e r (in-none t s) = refuses (numberOf (r .answer)) (r .line) t (λ i. record { player = withQueue p (s i); answers = one (numberOf (r .answer)) (r .line); buffers = noBuffers })
 
-    go : (b : Bool) → p .state .playing .ended ≡ b
-        → Brings p (reads d handed .lines) (left (submittedIn b (mustBeTimed d) (tableOf (p .program)) (p .state .queue) (reads d handed)))
+    go : (b : Bool) → p .core .state .playing .ended ≡ b
+        → Brings p (reads d handed .lines) (left (submittedIn b (mustBeTimed d) (tableOf (programOf p)) (p .core .state .queue) (reads d handed)))
     go true e = refuses 9 0 refl refl
     go false e =
-        by-lines e (submittedIn false (mustBeTimed d) (tableOf (p .program)) (p .state .queue) (reads d handed))
-        (went (mustBeTimed d) (tableOf (p .program)) (p .state .queue) (reads d handed))
+        by-lines e (submittedIn false (mustBeTimed d) (tableOf (programOf p)) (p .core .state .queue) (reads d handed))
+        (went (mustBeTimed d) (tableOf (programOf p)) (p .core .state .queue) (reads d handed))
 
 pub taken-calls : TakenCalls
 unfolding TakenCalls

@@ -58,8 +58,8 @@ use Rattle.panel.specs.declared.EntranceResult.{EntranceResult}
 use Rattle.player_model.specs.Plain.{plainStart}
 use Rattle.player_model.specs.Calls.{unit, Call, submit, burst, keyboard, cycle, change, undo, After, Last, none as none-yet, traceFrom}
 use Rattle.panel_claims.specs.Fresh.{Setup, Check, First, fails, holds, all, Tokens, Tree, checks, orchestraChecks}
-use Rattle.panel_claims.specs.Claims.{afterOf, panel, firstInUse, freshBy, areaBy, Begun, endedBurst, endedAfter, AsEnded, FreshVerdict}
-use Rattle.panel_claims.proofs.Bursts.{Singly, singly, left, left-is, left-fault, left-short, left-taken}
+use Rattle.panel_claims.specs.Claims.{coreAfter, afterOf, panel, firstInUse, freshBy, areaBy, Begun, endedBurst, endedAfter, AsEnded, FreshVerdict}
+use Rattle.panel_claims.proofs.Bursts.{at-unit, Singly, singly, left, left-is, left-fault, left-short, left-taken}
 use Rattle.panel_claims.proofs.Cycles.{Cycles, off, over-before, ends, plays, cycles}
 use Rattle.panel_claims.proofs.Settings.{laid-there}
 use Rattle.panel_claims.proofs.Starts.{content-small, whole-taken}
@@ -152,19 +152,19 @@ module _ (u : Setup) (law : Passed u) where
       n (subst (Some (λ (i : Instrument). i .name ≡ u .chosen)) (unique (x .3) (a .derived) (one-decoding bs (x .0) (a .tokens) (x .2) (a .sized .encodes))) (x .4))))
 
 -- a unit on a panel that has ended
-unit-over : (p : Panel) (u : List ℕ) → p .state .playing .ended ≡ true → submitOf p unit u ≡ record { panel = p; answer = Ended; line = 0 }
+unit-over : (p : Panel) (u : List ℕ) → p .core .state .playing .ended ≡ true → at-unit p u ≡ record { panel = p; answer = Ended; line = 0 }
 unfolding submitOf submittedOf onState.submittedOf submittedIn
 unit-over p u e = rw e
 
 -- a burst on a panel that has ended: each unit answers 9
-units-over : (us : List (List ℕ)) (p : Panel) → p .state .playing .ended ≡ true → singly p us ≡ record { panel = p; numbers = each {B = ℕ} (λ (u : List ℕ). 9) us }
+units-over : (us : List (List ℕ)) (p : Panel) → p .core .state .playing .ended ≡ true → singly p us ≡ record { panel = p; numbers = each {B = ℕ} (λ (u : List ℕ). 9) us }
 unfolding singly each
 units-over [] p e = refl
 units-over (u ∷ us) p e =
     ap (λ (r : EntranceResult). record { panel = singly (r .panel) us .panel; numbers = numberOf (r .answer) ∷ singly (r .panel) us .numbers }) (unit-over p u e)
     ∙ ap (λ (x : Singly). record { panel = x .panel; numbers = 9 ∷ x .numbers }) (units-over us p e)
 
-burst-ended : (p : Panel) (bytes area : List ℕ) → p .state .playing .ended ≡ true → afterOf p (burst bytes area) ≡ endedAfter p (burst bytes area)
+burst-ended : (p : Panel) (bytes area : List ℕ) → p .core .state .playing .ended ≡ true → afterOf p (burst bytes area) ≡ endedAfter p (burst bytes area)
 burst-ended p bytes area e = left-is p bytes area (burstOf bytes) refl ∙ by-burst (burstOf bytes)
   where
     by-burst : (b : Burst) → left p area b ≡ endedBurst p bytes area b
@@ -174,7 +174,7 @@ burst-ended p bytes area e = left-is p bytes area (burstOf bytes) refl ∙ by-bu
         (λ q. rw q (left-taken p area us (leb-true (length us) (length area) q) ∙ rw (units-over us p e)))
         (λ q. rw q (left-short p area us bytes (leb-false (length us) (length area) q)))
 
-cycle-ended : (p : Panel) (b : List ℤ) → p .state .playing .ended ≡ true → afterOf p (cycle b) ≡ endedAfter p (cycle b)
+cycle-ended : (p : Panel) (b : List ℤ) → p .core .state .playing .ended ≡ true → afterOf p (cycle b) ≡ endedAfter p (cycle b)
 cycle-ended p b e = go (cycles p b)
   where
     go : Cycles p b (afterOf p (cycle b)) → afterOf p (cycle b) ≡ endedAfter p (cycle b)
@@ -184,17 +184,17 @@ cycle-ended p b e = go (cycles p b)
     go (plays w f d x) = absurd (true≢false (sym e ∙ f))
 
 -- a change or an undo on a panel that has ended
-change-over : (p : Panel) (area handed : List ℕ) → p .state .playing .ended ≡ true → afterOf p (change area handed) ≡ endedAfter p (change area handed)
-unfolding afterOf calls.changeOf changedIn areaIn
+change-over : (p : Panel) (area handed : List ℕ) → p .core .state .playing .ended ≡ true → afterOf p (change area handed) ≡ endedAfter p (change area handed)
+unfolding afterOf coreAfter calls.changeOf changedIn areaIn
 change-over p area handed e = rw e
 
-undo-over : (p : Panel) (area : List ℕ) → p .state .playing .ended ≡ true → afterOf p (undo area) ≡ endedAfter p (undo area)
-unfolding afterOf undoOf undoneIn
+undo-over : (p : Panel) (area : List ℕ) → p .core .state .playing .ended ≡ true → afterOf p (undo area) ≡ endedAfter p (undo area)
+unfolding afterOf coreAfter undoOf undoneIn
 undo-over p area e = rw e
 
 -- a panel that has ended
-ended-after : (p : Panel) (c : Call) → p .state .playing .ended ≡ true → afterOf p c ≡ endedAfter p c
-unfolding afterOf submitOf submittedOf onState.submittedOf submittedIn playKeysOf keyboardCallOf
+ended-after : (p : Panel) (c : Call) → p .core .state .playing .ended ≡ true → afterOf p c ≡ endedAfter p c
+unfolding afterOf coreAfter submitOf submittedOf onState.submittedOf submittedIn playKeysOf keyboardCallOf
 ended-after p (submit d b) e = rw e
 ended-after p (burst bytes area) e = burst-ended p bytes area e
 ended-after p (keyboard b) e = rw e
@@ -202,19 +202,19 @@ ended-after p (cycle b) e = cycle-ended p b e
 ended-after p (change area handed) e = change-over p area handed e
 ended-after p (undo area) e = undo-over p area e
 
-all-ended : (cs : List Call) (k : ℕ) (z : Last) (p : Panel) → p .state .playing .ended ≡ true → All AsEnded (traceFrom panel k z p cs)
+all-ended : (cs : List Call) (k : ℕ) (z : Last) (p : Panel) → p .core .state .playing .ended ≡ true → All AsEnded (traceFrom panel k z p cs)
 unfolding traceFrom
 all-ended [] k z p e = tt
 all-ended (c ∷ cs) k z p e = (
   ended-after p c e,
-  all-ended cs _ _ (afterOf p c .player) (ap (λ (a : After Panel). a .player .state .playing .ended) (ended-after p c e) ∙ still c),
+  all-ended cs _ _ (afterOf p c .player) (ap (λ (a : After Panel). a .player .core .state .playing .ended) (ended-after p c e) ∙ still c),
 )
   where
-    by-burst : (bytes area : List ℕ) (b : Burst) → endedBurst p bytes area b .player .state .playing .ended ≡ true
-    by-burst bytes area (units us) = either-way (λ (a : After Panel). a .player .state .playing .ended ≡ true) (leb (length us) (length area)) e e
+    by-burst : (bytes area : List ℕ) (b : Burst) → endedBurst p bytes area b .player .core .state .playing .ended ≡ true
+    by-burst bytes area (units us) = either-way (λ (a : After Panel). a .player .core .state .playing .ended ≡ true) (leb (length us) (length area)) e e
     by-burst bytes area (fault a) = e
 
-    still : (c : Call) → endedAfter p c .player .state .playing .ended ≡ true
+    still : (c : Call) → endedAfter p c .player .core .state .playing .ended ≡ true
     still (submit d b) = e
     still (burst bytes area) = by-burst bytes area (burstOf bytes)
     still (keyboard b) = e

@@ -40,7 +40,7 @@ use Rattle.code_program.specs.declared.Program.{Program}
 use Rattle.code_loader.specs.Loading.{loadOf}
 use Rattle.code_loader_claims.specs.Claims.{StandsFor}
 use Rattle.code_loader_claims.proofs.Loaded.{loaded}
-use Rattle.panel.specs.State.{tableOf, voicesOf, playerStateOf, settingsIn, panelAt, withInUse, withQueue, withMessages as panelWith, endedOf}
+use Rattle.panel.specs.State.{programOf, tableOf, voicesOf, playerStateOf, settingsIn, panelAt, withInUse, withQueue, withMessages as panelWith, endedOf}
 use Rattle.score_bursts.specs.Bursts.{Burst, unitsIn}
 use Rattle.score_bursts.specs.inside.Reading.{burstOf}
 use Rattle.panel.specs.Calls.{freshOf}
@@ -59,7 +59,7 @@ use Rattle.panel_claims.proofs.Cycles.{playedOf, holds-played, reached-
 
 -- the history that a panel's own fields tell
 abbrev pub own : Panel → History VoiceState
-own p = record { holds = playerStateOf p; reached = reachedOf p; set = p .settings }
+own p = record { holds = playerStateOf p; reached = reachedOf p; set = p .core .settings }
 
 -- every line read has a tempo of at least 1, if it is a tempo line
 reads-steady : (d : Entrance) (handed : List ℕ) → AllSteady (reads d handed .lines)
@@ -89,11 +89,11 @@ no-others n (l ∷ ls) = either-way (λ (l : List Line). l ++ [] ≡ []) (eqb n 
 
 module _ (program : Program) (chosen : ℕ) (is : List Instrument) (r : StandsFor is program) where
   pub record Invariant (p : Panel) : Type 0 where
-    pub has : p .program ≡ program
-    pub valid : Valid (p .settings .last)
-    pub choice : p .chosen ≡ chosen
-    pub long : length (p .state .queue .lines) ≡ 64
-    pub listed : length (p .state .messages .list) ≡ 64
+    pub has : programOf p ≡ program
+    pub valid : Valid (p .core .settings .last)
+    pub choice : p .core .chosen ≡ chosen
+    pub long : length (p .core .state .queue .lines) ≡ 64
+    pub listed : length (p .core .state .messages .list) ≡ 64
     pub slow : Slow (playerStateOf p)
     pub good : Notes Sixteen (playerStateOf p .plays .notes)
 
@@ -104,45 +104,45 @@ module _ (program : Program) (chosen : ℕ) (is : List Instrument) (r : StandsFo
   abbrev s : InUse → Settings
   s k = inForce chosen k
 
-  settings-are : (p : Panel) → Invariant p → settingsIn p ≡ s (p .settings)
+  settings-are : (p : Panel) → Invariant p → settingsIn (p .core) ≡ s (p .core .settings)
   settings-are p k =
-      let m : min (p .settings .last .notes) 16 ≡ p .settings .last .notes = omega (arith, k .valid .notes .1) in
-      λ i. settingsOf (p .settings .last .ceiling) (m i) (k .choice i)
+      let m : min (p .core .settings .last .notes) 16 ≡ p .core .settings .last .notes = omega (arith, k .valid .notes .1) in
+      λ i. settingsOf (p .core .settings .last .ceiling) (m i) (k .choice i)
 
   same : Alike Sixteen (voicesOf program) w
   same = alike is (tableOf program) (program .code) (program .vals) r
 
   few : (p : Panel) → Invariant p → length (playerStateOf p .waits) ≤ 64
-  few p k = omega (arith, length-take (p .state .queue .count) (p .state .queue .lines))
+  few p k = omega (arith, length-take (p .core .state .queue .count) (p .core .state .queue .lines))
 
   brief : (p : Panel) → Invariant p → length (playerStateOf p .messages) ≤ 64
-  brief p k = omega (arith, length-take (p .state .messages .count) (p .state .messages .list))
+  brief p k = omega (arith, length-take (p .core .state .messages .count) (p .core .state .messages .list))
 
   -- ---- lines and note messages behind
 
   -- what is held, with so many lines and note messages behind
   abbrev with : List Line → List NoteMessage → Panel → History VoiceState
-  with ls ms p = record { holds = withMessages ms (behind ls (playerStateOf p)); reached = reachedOf p; set = p .settings }
+  with ls ms p = record { holds = withMessages ms (behind ls (playerStateOf p)); reached = reachedOf p; set = p .core .settings }
 
-  own-takes : (p : Panel) (ls : List Line) (q : Queue) → Behind (p .state .queue) ls q
+  own-takes : (p : Panel) (ls : List Line) (q : Queue) → Behind (p .core .state .queue) ls q
       → own (withQueue p q) ≡ with ls [] p
   unfolding behind withMessages withQueue
   own-takes p ls q b = rw (append-nil, b .waits, b .ran, b .last)
 
-  invariant-takes : (p : Panel) (ls : List Line) (q : Queue) → Behind (p .state .queue) ls q → AllSteady ls → Invariant p → Invariant (withQueue p q)
+  invariant-takes : (p : Panel) (ls : List Line) (q : Queue) → Behind (p .core .state .queue) ls q → AllSteady ls → Invariant p → Invariant (withQueue p q)
   unfolding withQueue
   invariant-takes p ls q b t k =
       let lines = subst⁻¹ AllSteady (b .waits) (all-append _ (playerStateOf p .waits) ls (k .slow .lines) t) in search
 
-  own-presses : (p : Panel) (ms : List NoteMessage) → own (panelWith p (behindMessages (p .state .messages) ms)) ≡ with [] ms p
+  own-presses : (p : Panel) (ms : List NoteMessage) → own (panelWith p (behindMessages (p .core .state .messages) ms)) ≡ with [] ms p
   unfolding behind withMessages panelWith
-  own-presses p ms = rw (append-nil, waits-behind (p .state .messages) ms)
+  own-presses p ms = rw (append-nil, waits-behind (p .core .state .messages) ms)
 
-  invariant-presses : (p : Panel) (ms : List NoteMessage) → length (waitingMessages (p .state .messages)) + length ms ≤ mostMessages → Invariant p
-      → Invariant (panelWith p (behindMessages (p .state .messages) ms))
+  invariant-presses : (p : Panel) (ms : List NoteMessage) → length (waitingMessages (p .core .state .messages)) + length ms ≤ mostMessages → Invariant p
+      → Invariant (panelWith p (behindMessages (p .core .state .messages) ms))
   unfolding panelWith
   invariant-presses p ms l k =
-      let listed = length-behind (p .state .messages) ms (k .listed) l in search
+      let listed = length-behind (p .core .state .messages) ms (k .listed) l in search
 
   own-none : (p : Panel) → own p ≡ with [] [] p
   unfolding behind withMessages
@@ -185,28 +185,28 @@ module _ (program : Program) (chosen : ℕ) (is : List Instrument) (r : StandsFo
     abbrev due : Due
     due = dueOf (playerStateOf p)
 
-    block-is : blockOf (voicesOf (p .program)) (settingsIn p) due (playerStateOf p .plays) ≡ blockOf w (s (p .settings)) due (playerStateOf p .plays)
+    block-is : blockOf (voicesOf (programOf p)) (settingsIn (p .core)) due (playerStateOf p .plays) ≡ blockOf w (s (p .core .settings)) due (playerStateOf p .plays)
     block-is =
         (λ i. blockOf (voicesOf (k .has i)) (settings-are p k i) due (playerStateOf p .plays))
-        ∙ block-same Sixteen same (s (p .settings)) due (playerStateOf p .plays) (k .good)
+        ∙ block-same Sixteen same (s (p .core .settings)) due (playerStateOf p .plays) (k .good)
 
     module _ (d : endsBy due (playerStateOf p .plays) ≡ false) where
       near : playerStateOf p .plays .position ≤ positionLimit
       near = within-limit due (playerStateOf p .plays) d
 
-      plays-is : capped (played (voicesOf (p .program)) (settingsIn p) due (playerStateOf p .plays)) ≡ played w (s (p .settings)) due (playerStateOf p .plays)
+      plays-is : capped (played (voicesOf (programOf p)) (settingsIn (p .core)) due (playerStateOf p .plays)) ≡ played w (s (p .core .settings)) due (playerStateOf p .plays)
       plays-is =
           (λ i. capped (played (voicesOf (k .has i)) (settings-are p k i) due (playerStateOf p .plays)))
-          ∙ cap-none (voicesOf program) (s (p .settings)) (playerStateOf p) (few p k) (brief p k) (k .slow) near
-          ∙ played-same Sixteen same (s (p .settings)) due (playerStateOf p .plays) (k .good)
+          ∙ cap-none (voicesOf program) (s (p .core .settings)) (playerStateOf p) (few p k) (brief p k) (k .slow) near
+          ∙ played-same Sixteen same (s (p .core .settings)) due (playerStateOf p .plays) (k .good)
 
       own-played : own (playedOf p)
           ≡ record {
-            holds = record { waits = laterThan (playerStateOf p .plays .position) (playerStateOf p .waits); messages = []; plays = played w (s (p .settings)) due (playerStateOf p .plays) };
+            holds = record { waits = laterThan (playerStateOf p .plays .position) (playerStateOf p .waits); messages = []; plays = played w (s (p .core .settings)) due (playerStateOf p .plays) };
             reached = at (playerStateOf p .plays .position);
-            set = p .settings;
+            set = p .core .settings;
           }
-      own-played = let same-set : playedOf p .settings ≡ p .settings = unfold playedOf in refl in rw (holds-played p, reached-played p, plays-is, same-set)
+      own-played = let same-set : playedOf p .core .settings ≡ p .core .settings = unfold playedOf in refl in rw (holds-played p, reached-played p, plays-is, same-set)
 
       invariant-played : Invariant (playedOf p)
       invariant-played =
@@ -217,15 +217,15 @@ module _ (program : Program) (chosen : ℕ) (is : List Instrument) (r : StandsFo
             choice = unfold playedOf in k .choice;
             long = played-long p (k .long);
             listed = unfold playedOf oneCycle.playedOf in k .listed;
-            slow = subst⁻¹ Slow e (slow-played w (s (p .settings)) (playerStateOf p) (few p k) (brief p k) (k .slow) near);
-            good = subst⁻¹ (λ (h : PlayerState VoiceState). Notes Sixteen (h .plays .notes)) e (played-good Sixteen same (s (p .settings)) due (playerStateOf p .plays) (k .good));
+            slow = subst⁻¹ Slow e (slow-played w (s (p .core .settings)) (playerStateOf p) (few p k) (brief p k) (k .slow) near);
+            good = subst⁻¹ (λ (h : PlayerState VoiceState). Notes Sixteen (h .plays .notes)) e (played-good Sixteen same (s (p .core .settings)) due (playerStateOf p .plays) (k .good));
           }
 
     own-ended : own (endedOf p)
         ≡ record {
           holds = record { waits = playerStateOf p .waits; messages = playerStateOf p .messages; plays = markedEnded (playerStateOf p .plays) };
           reached = reachedOf p;
-          set = p .settings;
+          set = p .core .settings;
         }
     unfolding endedOf stopped markedEnded
     own-ended = refl
@@ -241,7 +241,7 @@ module _ (program : Program) (chosen : ℕ) (is : List Instrument) (r : StandsFo
       invariant : Invariant (afterOf p c .player)
       next : own (afterOf p c .player) ≡ withTransition w chosen (own p) (transitionOf panel n z p c)
       answer : numbered c ≡ true → afterOf p c .answers ≡ one (answerOf (playerStateOf p)) 0
-      block : isZero (afterOf p c .answers) ≡ true → numbered c ≡ true → afterOf p c .buffers .block ≡ blockOf w (s (p .settings)) (dueOf (playerStateOf p)) (playerStateOf p .plays)
+      block : isZero (afterOf p c .answers) ≡ true → numbered c ≡ true → afterOf p c .buffers .block ≡ blockOf w (s (p .core .settings)) (dueOf (playerStateOf p)) (playerStateOf p .plays)
       over : playerStateOf p .plays .ended ≡ true → takenOf (linesOf c) (afterOf p c .answers) ≡ []
 
     module _ (k : Invariant p) where
@@ -250,7 +250,7 @@ module _ (program : Program) (chosen : ℕ) (is : List Instrument) (r : StandsFo
       told c given = with (takenOf (linesOf c) given) (cond (isZero given) (messagesIn c) []) p
 
       -- a call that plays nothing: what it takes stands behind
-      still : (c : Call) {a : After Panel} → ((b : Bool) → cond b (setBy (p .settings) c) (p .settings) ≡ p .settings) → numbered c ≡ false → afterOf p c ≡ a
+      still : (c : Call) {a : After Panel} → ((b : Bool) → cond b (setBy (p .core .settings) c) (p .core .settings) ≡ p .core .settings) → numbered c ≡ false → afterOf p c ≡ a
           → Invariant (a .player) → own (a .player) ≡ told c (a .answers)
           → (playerStateOf p .plays .ended ≡ true → takenOf (linesOf c) (a .answers) ≡ []) → Step c
       still c unset u x y own-is no-more =
@@ -263,8 +263,8 @@ module _ (program : Program) (chosen : ℕ) (is : List Instrument) (r : StandsFo
             over = λ e. ap (λ (a : After Panel). takenOf (linesOf c) (a .answers)) x ∙ no-more e;
           }
 
-      unset-same : (b : Bool) → cond b (p .settings) (p .settings) ≡ p .settings
-      unset-same b = either-way (λ (x : InUse). x ≡ p .settings) b refl refl
+      unset-same : (b : Bool) → cond b (p .core .settings) (p .core .settings) ≡ p .core .settings
+      unset-same b = either-way (λ (x : InUse). x ≡ p .core .settings) b refl refl
 
       entrance-step : (d : Entrance) (handed : List ℕ) → Step (submit d handed)
       entrance-step d handed = go (brings p d handed)
@@ -310,7 +310,7 @@ module _ (program : Program) (chosen : ℕ) (is : List Instrument) (r : StandsFo
       -- a cycle of the list
       turns : (b : List ℤ) {q : Panel} {m : ℕ} {bs : List ℤ} {h : History VoiceState} → numbered (cycle b) ≡ true
           → afterOf p (cycle b) ≡ record { player = q; answers = one m 0; buffers = onlyBlock bs } → Invariant q → own q ≡ h → Turns (own p) m h
-          → (eqb m 0 ≡ true → bs ≡ blockOf w (s (p .settings)) (dueOf (playerStateOf p)) (playerStateOf p .plays)) → Step (cycle b)
+          → (eqb m 0 ≡ true → bs ≡ blockOf w (s (p .core .settings)) (dueOf (playerStateOf p)) (playerStateOf p .plays)) → Step (cycle b)
       turns b u x y own-is t sounds =
           record {
             invariant = subst⁻¹ (λ (a : After Panel). Invariant (a .player)) x y;
@@ -345,19 +345,19 @@ module _ (program : Program) (chosen : ℕ) (is : List Instrument) (r : StandsFo
           }
         where
           setNow : List Answer → InUse
-          setNow given = cond (isZero given) (setBy (p .settings) c) (p .settings)
+          setNow given = cond (isZero given) (setBy (p .core .settings) c) (p .core .settings)
 
           held : InUse → History VoiceState
           held x = record { holds = playerStateOf p; reached = reachedOf p; set = x }
 
           so : {left : List ℕ} → Sets p c left (afterOf p c) → Invariant (afterOf p c .player) × (own (afterOf p c .player) ≡ held (setNow (afterOf p c .answers)))
           so (set-taken e l x) = (
-            subst⁻¹ (λ (a : After Panel). Invariant (a .player)) x (invariant-sets (setBy (p .settings) c) l),
+            subst⁻¹ (λ (a : After Panel). Invariant (a .player)) x (invariant-sets (setBy (p .core .settings) c) l),
             ap (λ (a : After Panel). own (a .player)) x ∙ ap (λ (a : After Panel). held (setNow (a .answers))) (sym x),
           )
           so (set-refused m q x) = (
             subst⁻¹ (λ (a : After Panel). Invariant (a .player)) x k,
-            ap (λ (a : After Panel). own (a .player)) x ∙ ap held (sym (cond-false (setBy (p .settings) c) (p .settings) q)) ∙ ap (λ (a : After Panel). held (setNow (a .answers))) (sym x),
+            ap (λ (a : After Panel). own (a .player)) x ∙ ap held (sym (cond-false (setBy (p .core .settings) c) (p .core .settings) q)) ∙ ap (λ (a : After Panel). held (setNow (a .answers))) (sym x),
           )
 
           own-so : (given : List Answer) → held (setNow given)
@@ -412,7 +412,7 @@ module _ (program : Program) (chosen : ℕ) (is : List Instrument) (r : StandsFo
 
   -- a call that answers 0 leaves no block, or a cycle's
   pub sounded : (p : Panel) → Invariant p → (b : List ℤ) → isZero (afterOf p (cycle b) .answers) ≡ true
-      → afterOf p (cycle b) .buffers .block ≡ blockOf w (s (p .settings)) (dueOf (playerStateOf p)) (playerStateOf p .plays)
+      → afterOf p (cycle b) .buffers .block ≡ blockOf w (s (p .core .settings)) (dueOf (playerStateOf p)) (playerStateOf p .plays)
   sounded p k b t = step 0 none p k (cycle b) .block t (is-numbered (cycles p b))
     where
       is-numbered : Cycles p b (afterOf p (cycle b)) → numbered (cycle b) ≡ true

@@ -24,7 +24,7 @@ use Rattle.player_model.proofs.Lists.{by-test, cond-true, cond-false}
 use Rattle.panel.specs.State.{withInUse}
 use Rattle.panel.specs.Calls.{changedIn, areaIn, undoneIn, changeOf, areaChanged, undoOf}
 use Rattle.panel.specs.declared.Panel.{Panel}
-use Rattle.panel_claims.specs.Claims.{afterOf, unchanged, settingsSet, TakenSettings}
+use Rattle.panel_claims.specs.Claims.{coreAfter, afterOf, unchanged, settingsSet, TakenSettings}
 
 pub laid-there : (k : InUse) (area handed : List ℕ) → isTaken (records.changeOf k area handed .answer) ≡ true
     → records.areaChanged (k .count) area handed ≡ records.laidAt (recordsIn (k .count) area .size) handed area
@@ -35,7 +35,7 @@ laid-there k area handed t =
 
 -- a change or an undo: taken, or refused
 pub data Sets (p : Panel) (c : Call) (left : List ℕ) (a : After Panel) : Type 0 where
-  set-taken : p .state .playing .ended ≡ false → Valid (setBy (p .settings) c .last) → a ≡ settingsSet p (setBy (p .settings) c) left → Sets p c left a
+  set-taken : p .core .state .playing .ended ≡ false → Valid (setBy (p .core .settings) c .last) → a ≡ settingsSet p (setBy (p .core .settings) c) left → Sets p c left a
   set-refused : (n : ℕ) → eqb n 0 ≡ false → a ≡ unchanged p c n → Sets p c left a
 
 -- what is left of a panel for a result and an area
@@ -44,20 +44,20 @@ after p r area = record { player = withInUse p (r .settings); answers = one (num
 
 -- what a call sets that is taken, and the area that it leaves
 record Taking (p : Panel) (c : Call) (left : List ℕ) (x : Changed) (y : List ℕ) : Type 0 where
-  settings : x .settings ≡ setBy (p .settings) c
+  settings : x .settings ≡ setBy (p .core .settings) c
   area : y ≡ left
-  valid : Valid (setBy (p .settings) c .last)
+  valid : Valid (setBy (p .core .settings) c .last)
 
 module _ (p : Panel) (area : List ℕ) where
   abbrev ended : Bool
-  ended = p .state .playing .ended
+  ended = p .core .state .playing .ended
 
   abbrev over : Changed
-  over = records.changed (p .settings) Ended
+  over = records.changed (p .core .settings) Ended
 
   -- 9 first; then x is the result, and z the area
   sets-so : (c : Call) (left : List ℕ) (x : Changed) (y z : List ℕ) → buffersOf c ≡ onlySettings area → (ended ≡ true → z ≡ area) → (ended ≡ false → z ≡ y)
-      → (isTaken (x .answer) ≡ true → Taking p c left x y) → (isTaken (x .answer) ≡ false → (x .settings ≡ p .settings) × (y ≡ area))
+      → (isTaken (x .answer) ≡ true → Taking p c left x y) → (isTaken (x .answer) ≡ false → (x .settings ≡ p .core .settings) × (y ≡ area))
       → Sets p c left (after p (cond ended over x) z)
   sets-so c left x y z b f g t r =
       by-test ended
@@ -73,60 +73,60 @@ module _ (p : Panel) (area : List ℕ) where
 
   -- where a change lays its record
   abbrev pub behindUsed : List ℕ → List ℕ
-  behindUsed handed = records.laidAt (recordsIn (p .settings .count) area .size) handed area
+  behindUsed handed = records.laidAt (recordsIn (p .core .settings .count) area .size) handed area
 
   pub changes : (handed : List ℕ) → Sets p (change area handed) (behindUsed handed) (afterOf p (change area handed))
-  unfolding afterOf changeOf changedIn areaIn
+  unfolding afterOf coreAfter changeOf changedIn areaIn
   changes handed =
-      let k = p .settings in
+      let k = p .core .settings in
       sets-so (change area handed) (behindUsed handed) (records.changeOf k area handed) (records.areaChanged (k .count) area handed) _ refl
       (λ e. cond-true _ _ e) (λ e. cond-false _ _ e)
       (λ t. record { settings = change-sets k area handed t; area = laid-there k area handed t; valid = change-valid k area handed t })
       (λ t. refused-change k area handed t)
 
   pub undoes : Sets p (undo area) area (afterOf p (undo area))
-  unfolding afterOf undoOf undoneIn
+  unfolding afterOf coreAfter undoOf undoneIn
   undoes =
-      let k = p .settings in
+      let k = p .core .settings in
       sets-so (undo area) area (records.undoOf k area) area area refl (λ e. refl) (λ e. refl)
       (λ t. record { settings = undo-sets k area t; area = refl; valid = undo-valid k area t }) (λ t. (refused-undo k area t, refl))
 
 -- ---- for every panel
 
 module _ (p : Panel) (area : List ℕ) where
-  change-zero : (handed : List ℕ) → isZero (afterOf p (change area handed) .answers) ≡ true → isTaken (records.changeOf (p .settings) area handed .answer) ≡ true
-  unfolding afterOf changeOf changedIn
+  change-zero : (handed : List ℕ) → isZero (afterOf p (change area handed) .answers) ≡ true → isTaken (records.changeOf (p .core .settings) area handed .answer) ≡ true
+  unfolding afterOf coreAfter changeOf changedIn
   change-zero handed t =
-      by-test (p .state .playing .ended) (λ e. absurd (true≢false (sym t ∙ ap (λ (x : Changed). isTaken (x .answer)) (cond-true _ _ e))))
+      by-test (p .core .state .playing .ended) (λ e. absurd (true≢false (sym t ∙ ap (λ (x : Changed). isTaken (x .answer)) (cond-true _ _ e))))
       (λ e. ap (λ (x : Changed). isTaken (x .answer)) (sym (cond-false _ _ e)) ∙ t)
 
-  undo-zero : isZero (afterOf p (undo area) .answers) ≡ true → isTaken (records.undoOf (p .settings) area .answer) ≡ true
-  unfolding afterOf undoOf undoneIn
+  undo-zero : isZero (afterOf p (undo area) .answers) ≡ true → isTaken (records.undoOf (p .core .settings) area .answer) ≡ true
+  unfolding afterOf coreAfter undoOf undoneIn
   undo-zero t =
-      by-test (p .state .playing .ended) (λ e. absurd (true≢false (sym t ∙ ap (λ (x : Changed). isTaken (x .answer)) (cond-true _ _ e))))
+      by-test (p .core .state .playing .ended) (λ e. absurd (true≢false (sym t ∙ ap (λ (x : Changed). isTaken (x .answer)) (cond-true _ _ e))))
       (λ e. ap (λ (x : Changed). isTaken (x .answer)) (sym (cond-false _ _ e)) ∙ t)
 
 -- what is left of a call that is answered 0
-so : {p : Panel} {c : Call} {left : List ℕ} → Sets p c left (afterOf p c) → isZero (afterOf p c .answers) ≡ true → afterOf p c ≡ settingsSet p (setBy (p .settings) c) left
+so : {p : Panel} {c : Call} {left : List ℕ} → Sets p c left (afterOf p c) → isZero (afterOf p c .answers) ≡ true → afterOf p c ≡ settingsSet p (setBy (p .core .settings) c) left
 so (set-taken e l x) t = x
 so (set-refused n z x) t = absurd (true≢false (sym t ∙ ap (λ (a : After Panel). isZero (a .answers)) x ∙ z))
 
 pub taken-settings : TakenSettings
 unfolding TakenSettings
 taken-settings p area = (
-  (λ handed t. let j = change-joins (p .settings .count) area handed (changed-taken (p .settings) area handed (change-zero p area handed t)) in
+  (λ handed t. let j = change-joins (p .core .settings .count) area handed (changed-taken (p .core .settings) area handed (change-zero p area handed t)) in
       record {
         setting = foundIn handed .setting;
         new = subst (Parses handed) (j .new) (every-record handed);
-        last = recordsIn (p .settings .count) area .setting;
-        size = recordsIn (p .settings .count) area .size;
-        valid = all-valid (p .settings .count) area (j .stands);
+        last = recordsIn (p .core .settings .count) area .setting;
+        size = recordsIn (p .core .settings .count) area .size;
+        valid = all-valid (p .core .settings .count) area (j .stands);
         left = so (changes p area handed) t;
       }),
   (λ t. record {
-    setting = recordsIn (p .settings .count - 1) area .setting;
-    size = recordsIn (p .settings .count - 1) area .size;
-    valid = all-valid (p .settings .count - 1) area (undo-fewer (p .settings) area (undo-zero p area t));
+    setting = recordsIn (p .core .settings .count - 1) area .setting;
+    size = recordsIn (p .core .settings .count - 1) area .size;
+    valid = all-valid (p .core .settings .count - 1) area (undo-fewer (p .core .settings) area (undo-zero p area t));
     left = so (undoes p area) t;
   }),
 )

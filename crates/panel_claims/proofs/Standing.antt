@@ -17,7 +17,7 @@ use Rattle.player_model.proofs.Lists.{by-test, either-way, cond-true, cond-fals
 use Rattle.panel.specs.Calls.{changedIn, areaIn, undoneIn, changeOf, undoOf, submitOf, submittedOf, receiveOf, playKeysOf, cycleOf}
 use Rattle.panel.specs.declared.Panel.{Panel}
 use Rattle.panel_claims.specs.Fresh.{Setup}
-use Rattle.panel_claims.specs.Claims.{afterOf, panel, Given, fresh, areaBy}
+use Rattle.panel_claims.specs.Claims.{coreAfter, afterOf, panel, Given, fresh, areaBy}
 use Rattle.panel_claims.specs.Standing.{LentThis, areaPast, SameArea, withStep, stepsTaken, LastStanding}
 use Rattle.voices_compiled.specs.Voices.{VoiceState}
 use Rattle.player_model.specs.History.{History}
@@ -36,11 +36,11 @@ lent k area = record { settings = k; area = area }
 -- a list of steps that goes as the calls do
 record Goes (p q : Panel) (area : List ℕ) (taken : List Step) : Type 0 where
   steps : List Step
-  keeps : q .settings ≡ afterSteps (lent (p .settings) area) steps .settings
-  same : taken ≡ takenOf (lent (p .settings) area) steps
+  keeps : q .core .settings ≡ afterSteps (lent (p .core .settings) area) steps .settings
+  same : taken ≡ takenOf (lent (p .core .settings) area) steps
 
 -- a call that is no step
-unstepped : {p r q : Panel} {area : List ℕ} {taken : List Step} → r .settings ≡ p .settings → Goes r q area taken → Goes p q area taken
+unstepped : {p r q : Panel} {area : List ℕ} {taken : List Step} → r .core .settings ≡ p .core .settings → Goes r q area taken → Goes p q area taken
 unstepped {p} {r} {q} {area} {taken} e g =
     record {
       steps = g .steps;
@@ -49,44 +49,44 @@ unstepped {p} {r} {q} {area} {taken} e g =
     }
 
 -- one that is
-stepped : {p r q : Panel} {area left : List ℕ} {taken later : List Step} (c : Step) → lent (r .settings) left ≡ afterStep (lent (p .settings) area) c
-    → taken ≡ cond (isTaken (answerTo (lent (p .settings) area) c)) (c ∷ later) later → Goes r q left later → Goes p q area taken
+stepped : {p r q : Panel} {area left : List ℕ} {taken later : List Step} (c : Step) → lent (r .core .settings) left ≡ afterStep (lent (p .core .settings) area) c
+    → taken ≡ cond (isTaken (answerTo (lent (p .core .settings) area) c)) (c ∷ later) later → Goes r q left later → Goes p q area taken
 unfolding afterSteps takenOf
 stepped {p} {r} {q} {area} {left} {taken} {later} c e t g =
     record {
       steps = c ∷ g .steps;
       keeps = g .keeps ∙ ap (λ (l : Store). afterSteps l (g .steps) .settings) e;
       same =
-          t ∙ ap (λ (x : List Step). cond (isTaken (answerTo (lent (p .settings) area) c)) (c ∷ x) x) (g .same ∙ ap (λ (l : Store). takenOf l (g .steps)) e);
+          t ∙ ap (λ (x : List Step). cond (isTaken (answerTo (lent (p .core .settings) area) c)) (c ∷ x) x) (g .same ∙ ap (λ (l : Store). takenOf l (g .steps)) e);
     }
 
 module _ (p : Panel) (area : List ℕ) where
   -- a change, by whether the panel has ended
-  over-change : (handed : List ℕ) → p .state .playing .ended ≡ true → (afterOf p (change area handed) .player .settings ≡ p .settings) × (afterOf p (change area handed) .buffers .settings ≡ area)
+  over-change : (handed : List ℕ) → p .core .state .playing .ended ≡ true → (afterOf p (change area handed) .player .core .settings ≡ p .core .settings) × (afterOf p (change area handed) .buffers .settings ≡ area)
       × (isZero (afterOf p (change area handed) .answers) ≡ false)
-  unfolding afterOf changeOf changedIn areaIn
+  unfolding afterOf coreAfter changeOf changedIn areaIn
   over-change handed e = (ap (λ (x : Changed). x .settings) (cond-true _ _ e), cond-true _ _ e, ap (λ (x : Changed). isTaken (x .answer)) (cond-true _ _ e))
 
-  open-change : (handed : List ℕ) → p .state .playing .ended ≡ false
-      → (lent (afterOf p (change area handed) .player .settings) (afterOf p (change area handed) .buffers .settings) ≡ afterStep (lent (p .settings) area) (settings.change handed))
-      × (isZero (afterOf p (change area handed) .answers) ≡ isTaken (answerTo (lent (p .settings) area) (settings.change handed)))
-  unfolding afterOf changeOf changedIn areaIn
+  open-change : (handed : List ℕ) → p .core .state .playing .ended ≡ false
+      → (lent (afterOf p (change area handed) .player .core .settings) (afterOf p (change area handed) .buffers .settings) ≡ afterStep (lent (p .core .settings) area) (settings.change handed))
+      × (isZero (afterOf p (change area handed) .answers) ≡ isTaken (answerTo (lent (p .core .settings) area) (settings.change handed)))
+  unfolding afterOf coreAfter changeOf changedIn areaIn
   open-change handed e = (
-    (λ i. lent (cond-false (records.changed (p .settings) Ended) (records.changeOf (p .settings) area handed) e i .settings)
-        (cond-false area (records.areaChanged (p .settings .count) area handed) e i)),
+    (λ i. lent (cond-false (records.changed (p .core .settings) Ended) (records.changeOf (p .core .settings) area handed) e i .settings)
+        (cond-false area (records.areaChanged (p .core .settings .count) area handed) e i)),
     ap (λ (x : Changed). isTaken (x .answer)) (cond-false _ _ e),
   )
 
-  over-undo : p .state .playing .ended ≡ true → (afterOf p (undo area) .player .settings ≡ p .settings) × (isZero (afterOf p (undo area) .answers) ≡ false)
-  unfolding afterOf undoOf undoneIn
+  over-undo : p .core .state .playing .ended ≡ true → (afterOf p (undo area) .player .core .settings ≡ p .core .settings) × (isZero (afterOf p (undo area) .answers) ≡ false)
+  unfolding afterOf coreAfter undoOf undoneIn
   over-undo e = (ap (λ (x : Changed). x .settings) (cond-true _ _ e), ap (λ (x : Changed). isTaken (x .answer)) (cond-true _ _ e))
 
-  open-undo : p .state .playing .ended ≡ false
-      → (lent (afterOf p (undo area) .player .settings) area ≡ afterStep (lent (p .settings) area) settings.undo)
-      × (isZero (afterOf p (undo area) .answers) ≡ isTaken (answerTo (lent (p .settings) area) settings.undo))
-  unfolding afterOf undoOf undoneIn
+  open-undo : p .core .state .playing .ended ≡ false
+      → (lent (afterOf p (undo area) .player .core .settings) area ≡ afterStep (lent (p .core .settings) area) settings.undo)
+      × (isZero (afterOf p (undo area) .answers) ≡ isTaken (answerTo (lent (p .core .settings) area) settings.undo))
+  unfolding afterOf coreAfter undoOf undoneIn
   open-undo e = (
-    (λ i. lent (cond-false (records.changed (p .settings) Ended) (records.undoOf (p .settings) area) e i .settings) area),
+    (λ i. lent (cond-false (records.changed (p .core .settings) Ended) (records.undoOf (p .core .settings) area) e i .settings) area),
     ap (λ (x : Changed). isTaken (x .answer)) (cond-false _ _ e),
   )
 
@@ -99,8 +99,8 @@ Plain (cycle b) = Unit {0}
 Plain (change area handed) = ⊥
 Plain (undo area) = ⊥
 
-plain-settings : (p : Panel) (c : Call) → Plain c → afterOf p c .player .settings ≡ p .settings
-unfolding afterOf submitOf submittedOf receiveOf playKeysOf cycleOf
+plain-settings : (p : Panel) (c : Call) → Plain c → afterOf p c .player .core .settings ≡ p .core .settings
+unfolding afterOf coreAfter submitOf submittedOf receiveOf playKeysOf cycleOf
 plain-settings p (submit d handed) h = refl
 plain-settings p (burst bytes area) h = refl
 plain-settings p (keyboard bytes) h = refl
@@ -110,7 +110,7 @@ plain-settings p (undo area) h = absurd h
 
 goes : (cs : List Call) (n : ℕ) (z : Last) (p : Panel) (area : List ℕ) → SameArea area (traceFrom panel n z p cs)
     → Goes p (afterAll panel p cs) area (stepsTaken (traceFrom panel n z p cs))
-unfolding traceFrom afterAll stepsTaken afterOf afterSteps takenOf
+unfolding traceFrom afterAll stepsTaken afterOf coreAfter afterSteps takenOf
 goes [] n z p area s = record { steps = []; keeps = refl; same = refl }
 goes (c ∷ cs) n z p area s =
     let m = transitionOf panel n z p c in next c (s .0) (goes cs (cyclesWith m) (lastWith m) (afterOf p c .player) (areaPast area m c) (s .1))
@@ -137,7 +137,7 @@ goes (c ∷ cs) n z p area s =
         let g′ = subst (λ (x : List ℕ). Goes (afterOf p (change x handed) .player) (end (change x handed)) (afterOf p (change x handed) .buffers .settings) (later (change x handed))) l g in
         subst⁻¹ (λ (x : List ℕ). Goes p (end (change x handed)) area
         (cond (isZero (afterOf p (change x handed) .answers)) (settings.change handed ∷ later (change x handed)) (later (change x handed)))) l
-        (by-test (p .state .playing .ended)
+        (by-test (p .core .state .playing .ended)
         (λ e. let o = over-change p area handed e in
         plain (cond-false _ _ (o .2)) (unstepped (o .0) (subst (λ (y : List ℕ). Goes (afterOf p (change area handed) .player) (end (change area handed)) y (later (change area handed))) (o .1) g′)))
         (λ e. let o = open-change p area handed e in
@@ -145,14 +145,14 @@ goes (c ∷ cs) n z p area s =
     next (undo a) l g =
         let g′ = subst (λ (x : List ℕ). Goes (afterOf p (undo x) .player) (end (undo x)) (afterOf p (undo x) .buffers .settings) (later (undo x))) l g in
         subst⁻¹ (λ (x : List ℕ). Goes p (end (undo x)) area (cond (isZero (afterOf p (undo x) .answers)) (settings.undo ∷ later (undo x)) (later (undo x)))) l
-        (by-test (p .state .playing .ended)
+        (by-test (p .core .state .playing .ended)
         (λ e. let o = over-undo p area e in
         plain (cond-false _ _ (o .1)) (unstepped (o .0) g′))
         (λ e. let o = open-undo p area e in
         stepped (settings.undo) (o .0) (ap (λ (b : Bool). cond b (settings.undo ∷ later (undo area)) (later (undo area))) (o .1)) g′))
 
 -- a fresh panel keeps what the first change leaves
-fresh-keeps : (u : Setup) (is : List Instrument) → Given u is → fresh u .settings ≡ records.changeOf records.noneInUse (u .area) (u .first) .settings
+fresh-keeps : (u : Setup) (is : List Instrument) → Given u is → fresh u .core .settings ≡ records.changeOf records.noneInUse (u .area) (u .first) .settings
 fresh-keeps u is g = ap (λ (h : History VoiceState). h .set) (fresh-own u is g) ∙ sym (first-taken u is g .keeps)
 
 fresh-answers : (u : Setup) (is : List Instrument) → Given u is → isTaken (startingOf (u .orchestra) (u .area) (u .first) (u .chosen) .answer) ≡ true
@@ -174,10 +174,10 @@ last-standing-panel u is g cs s =
     let f = first-taken u is g in
     let start = afterStep (lent records.noneInUse (u .area)) (settings.change (u .first)) in
     let x = goes cs 0 none (fresh u) (areaBy u) s in
-    let same-start : lent (fresh u .settings) (areaBy u) ≡ start = λ i. lent (fresh-keeps u is g i) (area-is u is g i) in
+    let same-start : lent (fresh u .core .settings) (areaBy u) ≡ start = λ i. lent (fresh-keeps u is g i) (area-is u is g i) in
     let steps = x .steps in
-    let k : afterAll panel (fresh u) cs .settings ≡ afterSteps start steps .settings = x .keeps ∙ ap (λ (l : Store). afterSteps l steps .settings) same-start in
+    let k : afterAll panel (fresh u) cs .core .settings ≡ afterSteps start steps .settings = x .keeps ∙ ap (λ (l : Store). afterSteps l steps .settings) same-start in
     let t : stepsTaken (traceFrom panel 0 none (fresh u) cs) ≡ takenOf start steps = x .same ∙ ap (λ (l : Store). takenOf l steps) same-start in
     let y = last-standing (u .area) (u .first) steps (f .taken) in
-    subst⁻¹ (λ (z : List Step). AsStanding (standing (u .first ∷ []) z) (afterAll panel (fresh u) cs .settings)) t
+    subst⁻¹ (λ (z : List Step). AsStanding (standing (u .first ∷ []) z) (afterAll panel (fresh u) cs .core .settings)) t
     (subst⁻¹ (AsStanding (standing (u .first ∷ []) (takenOf start steps))) k y)

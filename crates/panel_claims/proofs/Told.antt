@@ -36,15 +36,15 @@ first-sets u is g = ap (λ (f : Found). inUse 1 (f .setting)) (one-meaning (u .f
 
 module _ (program : Program) (chosen : ℕ) (is : List Instrument) (r : StandsFor is program) (settings : ℕ → Settings) where
   abbrev Told : Transition Panel → Type 0
-  Told m = numbered (m .call) ≡ true → settings (m .cycles) ≡ inForce chosen (m .before .settings)
+  Told m = numbered (m .call) ≡ true → settings (m .cycles) ≡ inForce chosen (m .before .core .settings)
 
-  panel-set : (n : ℕ) (z : Last) (p : Panel) → Invariant program chosen is r p → (c : Call) → afterOf p c .player .settings ≡ nextSet (p .settings) (transitionOf panel n z p c)
+  panel-set : (n : ℕ) (z : Last) (p : Panel) → Invariant program chosen is r p → (c : Call) → afterOf p c .player .core .settings ≡ nextSet (p .core .settings) (transitionOf panel n z p c)
   unfolding afterAll historyFrom traceFrom
   panel-set n z p k c =
       ap (λ (h : History VoiceState). h .set) (own-all program chosen is r (c ∷ []) n z p k)
       ∙ set-after (treeVoices is) chosen (own p) (transitionOf panel n z p c)
 
-  told-all : (cs : List Call) (n : ℕ) (z : Last) (p : Panel) → Invariant program chosen is r p → Agree chosen settings n (p .settings) (traceFrom panel n z p cs)
+  told-all : (cs : List Call) (n : ℕ) (z : Last) (p : Panel) → Invariant program chosen is r p → Agree chosen settings n (p .core .settings) (traceFrom panel n z p cs)
       → All Told (traceFrom panel n z p cs)
   unfolding traceFrom afterAll
   told-all [] n z p k a = tt
@@ -52,9 +52,9 @@ module _ (program : Program) (chosen : ℕ) (is : List Instrument) (r : StandsFo
       let m = transitionOf panel n z p c in
       let q = afterOf p c .player in
       let later = traceFrom panel (cyclesWith m) (lastWith m) q cs in (
-        agree-here chosen settings n (p .settings) m later a,
+        agree-here chosen settings n (p .core .settings) m later a,
         told-all cs (cyclesWith m) (lastWith m) q (invariant-all program chosen is r (c ∷ []) p k)
-            (subst⁻¹ (λ (x : InUse). Agree chosen settings (cyclesWith m) x later) (panel-set n z p k c) (agree-after chosen settings (p .settings) m later a)),
+            (subst⁻¹ (λ (x : InUse). Agree chosen settings (cyclesWith m) x later) (panel-set n z p k c) (agree-after chosen settings (p .core .settings) m later a)),
       )
 
 pub told-act : ToldAct

@@ -34,13 +34,13 @@ use Rattle.player_model.specs.History.{Reached, History}
 use Rattle.player_model.proofs.Lists.{all-append, all-map}
 use Rattle.code_loader.specs.Loading.{loadOf}
 use Rattle.code_loader_claims.specs.Claims.{StandsFor}
+use Rattle.panel.specs.State.{programOf}
 use Rattle.panel.specs.declared.Panel.{Panel}
 use Rattle.panel_claims.specs.Verdict.{HasFields, here, there, Playable, Fits, AllFit, Faulty, untimed, unplayable, late, full, AtEntrance, over, badText, cut, notCarried, outOfRange, tooManyValues, leftOver, faulty, taken}
-use Rattle.panel.specs.Calls.{submitOf}
-use Rattle.panel_claims.specs.Claims.{afterOf, panel, Given, firstInUse, fresh, settings, past, LinesFit, CycleByTree, Condition3}
+use Rattle.panel_claims.specs.Claims.{coreAfter, afterOf, panel, Given, firstInUse, fresh, settings, past, LinesFit, CycleByTree, Condition3}
 use Rattle.panel_claims.proofs.Ranged.{ranged, AllRanged, reads-ranged}
 use Rattle.panel_claims.proofs.Past.{no-line, no-others, Invariant, own, invariant-all, stands, fresh-invariant, past-is, placedPast, block-by-place, by-place}
-use Rattle.panel_claims.proofs.Bursts.{singly, Receives, received, unreceived, receives, taken-of}
+use Rattle.panel_claims.proofs.Bursts.{at-unit, singly, Receives, received, unreceived, receives, taken-of}
 use Rattle.panel_claims.proofs.Answers.{at-entrance-given, past-unit}
 use Rattle.panel_claims.proofs.Decided.{at-entrance}
 
@@ -89,23 +89,23 @@ module _ (is : List Instrument) where
       (lines-fitting d (own p .reached) (reads d handed .lines) (length (own p .holds .waits))
       (rw (s .2) t) (reads-ranged d handed)) tt
 
-  bring-fits : (p : Panel) → StandsFor is (p .program) → length (p .state .queue .lines) ≡ 64 → (d : Entrance) (handed : List ℕ)
+  bring-fits : (p : Panel) → StandsFor is (programOf p) → length (p .core .state .queue .lines) ≡ 64 → (d : Entrance) (handed : List ℕ)
       → AllTakable (takenOf (linesOf (submit d handed)) (afterOf p (submit d handed) .answers))
   bring-fits p r long d handed =
       let x = at-entrance is (own p) d handed in
       rw (at-entrance-given is p r long d handed (x .number) (x .line) (x .verdict)) (entrance-fits p d handed (x .number) (x .line) (x .verdict))
 
   -- the units of a burst, each as it comes
-  units-fit : (us : List (List ℕ)) (p : Panel) → StandsFor is (p .program) → length (p .state .queue .lines) ≡ 64 → AllTakable (taken-of us (singly p us .numbers))
-  unfolding singly each afterOf
+  units-fit : (us : List (List ℕ)) (p : Panel) → StandsFor is (programOf p) → length (p .core .state .queue .lines) ≡ 64 → AllTakable (taken-of us (singly p us .numbers))
+  unfolding singly each afterOf coreAfter
   units-fit [] p r long = tt
   units-fit (u ∷ us) p r long =
       let y = past-unit p long u in
-      all-append (λ (l : Line). written.Fits is l (l .event)) (cond (eqb (numberOf (submitOf p unit u .answer)) 0) (reads unit u .lines) [])
-      (taken-of us (singly (submitOf p unit u .panel) us .numbers))
-      (rw append-nil at (bring-fits p r long unit u)) (units-fit us (submitOf p unit u .panel) (rw (y .has) r) (y .long))
+      all-append (λ (l : Line). written.Fits is l (l .event)) (cond (eqb (numberOf (at-unit p u .answer)) 0) (reads unit u .lines) [])
+      (taken-of us (singly (at-unit p u .panel) us .numbers))
+      (rw append-nil at (bring-fits p r long unit u)) (units-fit us (at-unit p u .panel) (rw (y .has) r) (y .long))
 
-  burst-fits : (p : Panel) → StandsFor is (p .program) → length (p .state .queue .lines) ≡ 64 → (bytes area : List ℕ)
+  burst-fits : (p : Panel) → StandsFor is (programOf p) → length (p .core .state .queue .lines) ≡ 64 → (bytes area : List ℕ)
       → AllTakable (takenOf (linesOf (burst bytes area)) (afterOf p (burst bytes area) .answers))
   burst-fits p r long bytes area = go (receives p bytes area)
     where
@@ -114,7 +114,7 @@ module _ (is : List Instrument) where
           rw (x, q) (units-fit us p r long)
       go (unreceived n z x) = rw (x, no-others n (each (λ (u : List ℕ). reads unit u .lines) (unitsIn (burstOf bytes)))) tt
 
-  call-fits : (p : Panel) → StandsFor is (p .program) → length (p .state .queue .lines) ≡ 64 → (c : Call) → AllTakable (takenOf (linesOf c) (afterOf p c .answers))
+  call-fits : (p : Panel) → StandsFor is (programOf p) → length (p .core .state .queue .lines) ≡ 64 → (c : Call) → AllTakable (takenOf (linesOf c) (afterOf p c .answers))
   call-fits p r long (submit d handed) = bring-fits p r long d handed
   call-fits p r long (burst bytes area) = burst-fits p r long bytes area
   call-fits p r long (keyboard bytes) = rw (no-line (afterOf p (keyboard bytes) .answers)) tt

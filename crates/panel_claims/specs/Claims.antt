@@ -5,6 +5,7 @@ use mathlib.Core.Bool.{Bool, true, false, not, cond, _&&_}
 use mathlib.Core.List.{List, [], _∷_, _++_}
 use Prim.Native.Nat.{ℕ, _+_, _-_, _≤_, _<_}
 use lib.IntN.{ℤ}
+use lib.Ieee.{Float}
 use lib.Dec.{leb}
 use lib.ListN.{length, take}
 use Rattle.base_answer.specs.Numbers.{numberOf}
@@ -30,7 +31,7 @@ use Rattle.settings_records.specs.inside.Reading.{foundIn}
 use Rattle.settings_records.specs.Changes.{inUse, laidAt, areaBytes}
 use Rattle.settings_records.specs.declared.Setting.{Setting}
 use Rattle.settings_records.specs.declared.InUse.{InUse}
-use Rattle.player_model.specs.PlayerState.{Settings, dueOf, endsBy, blockOf}
+use Rattle.player_model.specs.PlayerState.{Settings, Counts, dueOf, endsBy, blockOf}
 use Rattle.player_model.specs.Plain.{plainStart}
 use Rattle.player_model.specs.Calls.{Entrance, unit, hasTime, reads, Call, submit, burst, keyboard, cycle, change, undo, numbered, Answer, one, noBuffers, onlyBlock, onlyAnswers, onlySettings, buffersOf, After, Player, isZero, Transition, trace, allTaken, afterAll, answersAll}
 use Rattle.player_model.specs.Set.{inForce, startingTempo, settingsBy}
@@ -39,8 +40,10 @@ use Rattle.player_model.specs.History.{Reached, nowhere, at, History, historyOf
 use Rattle.player_queue.specs.Admission.{waitingIn}
 use Rattle.player_queue.specs.declared.Queue.{Queue}
 use Rattle.code_loader_claims.specs.Claims.{StandsFor}
-use Rattle.panel.specs.State.{playerStateOf, withInUse, withQueue, withMessages, endedOf}
+use Rattle.panel.specs.Display.{displayOf}
+use Rattle.panel.specs.State.{programOf, playerStateOf, withCore, withInUse, withQueue, withMessages, endedOf}
 use Rattle.panel.specs.Calls.{freshOf, areaFresh, submitOf, receiveOf, areaAfter, playKeysOf, changeOf, areaChanged, undoOf, cycleOf, blockAfter}
+use Rattle.panel.specs.declared.Core.{Core}
 use Rattle.panel.specs.declared.Panel.{Panel}
 use Rattle.panel.specs.declared.Fresh.{Fresh}
 use Rattle.panel_claims.specs.Verdict.{Verdict}
@@ -52,33 +55,44 @@ use Rattle.panel_claims.specs.Fresh.{Setup, First, checks}
 abbrev pub unitAnswer : ℕ → Answer
 unitAnswer n = record { number = n; line = 0 }
 
+-- what a call leaves of a core that is lent this code and these numbers: what its result and its lent memory hold. Only a cycle reads the code.
+unfoldable pub coreAfter : List ℕ → List Float → Core → Call → After Core
+coreAfter code vals c (submit d handed) =
+    let r = submitOf c d handed in
+    record { player = r .core; answers = one (numberOf (r .answer)) (r .line); buffers = noBuffers }
+coreAfter code vals c (burst bytes area) =
+    let r = receiveOf c bytes (length area) in
+    let left = areaAfter c bytes area in
+    record { player = r .core; answers = one (numberOf (r .answer)) 0 ++ each unitAnswer (take (r .units) left); buffers = onlyAnswers left }
+coreAfter code vals c (keyboard bytes) =
+    let r = playKeysOf c bytes in
+    record { player = r .core; answers = one (numberOf (r .answer)) 0; buffers = noBuffers }
+coreAfter code vals c (cycle b) =
+    let r = cycleOf code vals c (length b) in
+    record { player = r .core; answers = one (numberOf (r .answer)) 0; buffers = onlyBlock (blockAfter code vals c b) }
+coreAfter code vals c (change area handed) =
+    let r = changeOf c area handed in
+    record { player = r .core; answers = one (numberOf (r .answer)) 0; buffers = onlySettings (areaChanged c area handed) }
+coreAfter code vals c (undo area) =
+    let r = undoOf c area in
+    record { player = r .core; answers = one (numberOf (r .answer)) 0; buffers = onlySettings area }
+
+-- a call on a panel is the call on its core, lent the panel's own code
 unfoldable pub afterOf : Panel → Call → After Panel
-afterOf p (submit d handed) =
-    let r = submitOf p d handed in
-    record { player = r .panel; answers = one (numberOf (r .answer)) (r .line); buffers = noBuffers }
-afterOf p (burst bytes area) =
-    let r = receiveOf p bytes (length area) in
-    let left = areaAfter p bytes area in
-    record { player = r .panel; answers = one (numberOf (r .answer)) 0 ++ each unitAnswer (take (r .units) left); buffers = onlyAnswers left }
-afterOf p (keyboard bytes) =
-    let r = playKeysOf p bytes in
-    record { player = r .panel; answers = one (numberOf (r .answer)) 0; buffers = noBuffers }
-afterOf p (cycle b) =
-    let r = cycleOf p (length b) in
-    record { player = r .panel; answers = one (numberOf (r .answer)) 0; buffers = onlyBlock (blockAfter p b) }
-afterOf p (change area handed) =
-    let r = changeOf p area handed in
-    record { player = r .panel; answers = one (numberOf (r .answer)) 0; buffers = onlySettings (areaChanged p area handed) }
-afterOf p (undo area) =
-    let r = undoOf p area in
-    record { player = r .panel; answers = one (numberOf (r .answer)) 0; buffers = onlySettings area }
+afterOf p c =
+    let a = coreAfter (p .code) (p .vals) (p .core) c in
+    record { player = withCore p (a .player); answers = a .answers; buffers = a .buffers }
 
 -- the position at the start of the last cycle that answered 0
 abbrev pub reachedOf : Panel → Reached
-reachedOf p = cond (p .state .queue .ran) (at (p .state .queue .last)) nowhere
+reachedOf p = cond (p .core .state .queue .ran) (at (p .core .state .queue .last)) nowhere
+
+-- what it counts, as the display tells it
+abbrev pub countsOf : Core → Counts
+countsOf c = record { missed = displayOf c .missed }
 
 abbrev pub panel : Player Panel
-panel = record { after = afterOf; counts = λ (p : Panel). playerStateOf p .plays .counts }
+panel = record { after = afterOf; counts = λ (p : Panel). countsOf (p .core) }
 
 -- ---- a fresh start
 
@@ -91,12 +105,12 @@ firstInUse u = inUse 1 (foundIn (u .first) .setting)
 pub record Begun (u : Setup) (p : Panel) : Type 0 where
   pub tree : List Instrument
   pub accepted : Accepted (u .orchestra) tree
-  pub stands : StandsFor tree (p .program)
+  pub stands : StandsFor tree (programOf p)
   pub there : Some (λ (i : Instrument). i .name ≡ u .chosen) tree
   pub setting : Setting
   pub first : IsRecord (u .first) setting
-  pub set : p .settings ≡ inUse 1 setting
-  pub choice : p .chosen ≡ u .chosen
+  pub set : p .core .settings ≡ inUse 1 setting
+  pub choice : p .core .chosen ≡ u .chosen
   pub holds : playerStateOf p ≡ plainStart (startingTempo (inUse 1 setting)) []
   pub reached : reachedOf p ≡ nowhere
 
@@ -151,20 +165,20 @@ FreshVerdict = (u : Setup) → Bytes (u .orchestra) → FreshStart u
 pub record Takes (p : Panel) (ls : List Line) (p′ : Panel) : Type 0 where
   pub queue : Queue
   pub left : p′ ≡ withQueue p queue
-  pub waits : waitingIn queue ≡ waitingIn (p .state .queue) ++ ls
-  pub ran : queue .ran ≡ p .state .queue .ran
-  pub last : queue .last ≡ p .state .queue .last
+  pub waits : waitingIn queue ≡ waitingIn (p .core .state .queue) ++ ls
+  pub ran : queue .ran ≡ p .core .state .queue .ran
+  pub last : queue .last ≡ p .core .state .queue .last
 
 unfoldable pub TakenCalls : Type 0
 TakenCalls =
-    (p : Panel) (d : Entrance) (handed : List ℕ) → length (p .state .queue .lines) ≡ 64 → isZero (afterOf p (submit d handed) .answers) ≡ true
+    (p : Panel) (d : Entrance) (handed : List ℕ) → length (p .core .state .queue .lines) ≡ 64 → isZero (afterOf p (submit d handed) .answers) ≡ true
     → Takes p (reads d handed .lines) (afterOf p (submit d handed) .player)
 
 -- what the keyboard leaves that answers 0: the note messages wait behind the others, and nothing else of the panel changes
 pub record TakesKeys (p : Panel) (ms : List NoteMessage) (p′ : Panel) : Type 0 where
   pub messages : MessageQueue
   pub left : p′ ≡ withMessages p messages
-  pub waits : messagesIn messages ≡ messagesIn (p .state .messages) ++ ms
+  pub waits : messagesIn messages ≡ messagesIn (p .core .state .messages) ++ ms
 
 unfoldable pub TakenKeys : Type 0
 TakenKeys =
@@ -181,15 +195,15 @@ pub record TakesChange (p : Panel) (area handed : List ℕ) : Type 0 where
   pub new : IsRecord handed setting
   pub last : Setting
   pub size : ℕ
-  pub valid : ParsesRecords (p .settings .count) area (found last size)
-  pub left : afterOf p (change area handed) ≡ settingsSet p (inUse (p .settings .count + 1) setting) (laidAt size handed area)
+  pub valid : ParsesRecords (p .core .settings .count) area (found last size)
+  pub left : afterOf p (change area handed) ≡ settingsSet p (inUse (p .core .settings .count + 1) setting) (laidAt size handed area)
 
 -- an undo: what the last record says that is then in use, one record fewer; the bytes stay
 pub record TakesUndo (p : Panel) (area : List ℕ) : Type 0 where
   pub setting : Setting
   pub size : ℕ
-  pub valid : ParsesRecords (p .settings .count - 1) area (found setting size)
-  pub left : afterOf p (undo area) ≡ settingsSet p (inUse (p .settings .count - 1) setting) area
+  pub valid : ParsesRecords (p .core .settings .count - 1) area (found setting size)
+  pub left : afterOf p (undo area) ≡ settingsSet p (inUse (p .core .settings .count - 1) setting) area
 
 unfoldable pub TakenSettings : Type 0
 TakenSettings =
@@ -203,7 +217,7 @@ findsEnd p (burst bytes area) = false
 findsEnd p (keyboard bytes) = false
 findsEnd p (change area handed) = false
 findsEnd p (undo area) = false
-findsEnd p (cycle b) = numbered (cycle b) && not (p .state .playing .ended) && endsBy (dueOf (playerStateOf p)) (playerStateOf p .plays)
+findsEnd p (cycle b) = numbered (cycle b) && not (p .core .state .playing .ended) && endsBy (dueOf (playerStateOf p)) (playerStateOf p .plays)
 
 -- Condition 1: "A refusal leaves the panel and all lent memory unchanged", save that the cycle call that finds the end marks it.
 pub record Refused (p : Panel) (c : Call) : Type 0 where
@@ -291,7 +305,7 @@ module _ (u : Setup) (is : List Instrument) where
   pub record StateByPast (cs : List Call) : Type 0 where
     pub holds : StateAs (HeldAs is) (playerStateOf (panelAfter cs)) (past cs .holds)
     pub reached : reachedOf (panelAfter cs) ≡ past cs .reached
-    pub set : panelAfter cs .settings ≡ past cs .set
+    pub set : panelAfter cs .core .settings ≡ past cs .set
 
   -- and a cycle call that answers 0 leaves the block of document 01's cycle.
   abbrev pub BlockByPast : List Call → List ℤ → Type 0

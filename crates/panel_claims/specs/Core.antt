@@ -10,7 +10,7 @@ use Rattle.orchestra_syntax.specs.Tree.{Instrument}
 use Rattle.player_model.specs.Lists.{All, each}
 use Rattle.player_model.specs.Calls.{Entrance, Call, submit, burst, keyboard, cycle, change, undo, one, noBuffers, onlyBlock, onlyAnswers, onlySettings, After, Player, Last, none, Transition, cyclesWith, lastWith, transitionOf, trace, afterAll}
 use Rattle.player_model.specs.Condition3.{WithinCeiling}
-use Rattle.panel.specs.Core.{panelOf, SubmittedAs, ReceivedAs, AreaAs, PlayedAs, cycledWith}
+use Rattle.panel.specs.State.{panelOf}
 use Rattle.panel.specs.Calls.{submitOf, receiveOf, areaAfter, playKeysOf, changeOf, areaChanged, undoOf, cycleOf, blockAfter}
 use Rattle.panel.specs.declared.Panel.{Panel}
 use Rattle.panel.specs.declared.Core.{Core}
@@ -18,50 +18,31 @@ use Rattle.panel.specs.declared.CoreEntranceResult.{CoreEntranceResult}
 use Rattle.panel.specs.declared.CoreBurstResult.{CoreBurstResult}
 use Rattle.panel.specs.declared.CoreResult.{CoreResult}
 use Rattle.panel_claims.specs.Fresh.{Setup}
-use Rattle.panel_claims.specs.Claims.{unitAnswer, afterOf, panel, Given, fresh, settings}
+use Rattle.panel_claims.specs.Claims.{unitAnswer, coreAfter, countsOf, panel, Given, fresh, settings}
 
 -- ---- the core as a player
 
--- a panel without its code and the numbers in it
-abbrev pub coreOf : Panel → Core
-coreOf p =
-    record {
-      state = p .state;
-      settings = p .settings;
-      chosen = p .chosen;
-      table = p .program .table;
-      count = p .program .count;
-    }
-
--- what a call leaves, of the panel its core alone
-abbrev pub onCore : After Panel → After Core
-onCore a = record { player = coreOf (a .player); answers = a .answers; buffers = a .buffers }
-
--- a core that is lent this code and these numbers: a call on it is the call on the panel that they make
+-- a core that is lent this code and these numbers
 abbrev pub core : List ℕ → List Float → Player Core
-core code vals =
-    record {
-      after = λ (c : Core) (call : Call). onCore (afterOf (panelOf c code vals) call);
-      counts = λ (c : Core). panel .counts (panelOf c code vals);
-    }
+core code vals = record { after = coreAfter code vals; counts = countsOf }
 
 -- That is what the contracts of `panel::Core` say: what a call hands back and leaves of what it was lent is what the player leaves. Only a cycle
 -- reads code and numbers; of any other call it is so whatever they are.
 pub record ByContract (c : Core) (code : List ℕ) (vals : List Float) : Type 0 where
-  pub entrance : (d : Entrance) (handed : List ℕ) (r : CoreEntranceResult) → SubmittedAs c r (λ (p : Panel). submitOf p d handed)
+  pub entrance : (d : Entrance) (handed : List ℕ) (r : CoreEntranceResult) → r ≡ submitOf c d handed
       → core code vals .after c (submit d handed) ≡ record { player = r .core; answers = one (numberOf (r .answer)) (r .line); buffers = noBuffers }
-  pub units : (bytes area left : List ℕ) (r : CoreBurstResult) → ReceivedAs c r (λ (p : Panel). receiveOf p bytes (length area))
-      → AreaAs c left (λ (p : Panel). areaAfter p bytes area)
+  pub units : (bytes area left : List ℕ) (r : CoreBurstResult) → r ≡ receiveOf c bytes (length area)
+      → left ≡ areaAfter c bytes area
       → core code vals .after c (burst bytes area)
       ≡ record { player = r .core; answers = one (numberOf (r .answer)) 0 ++ each unitAnswer (take (r .units) left); buffers = onlyAnswers left }
-  pub keys : (bytes : List ℕ) (r : CoreResult) → PlayedAs c r (λ (p : Panel). playKeysOf p bytes)
+  pub keys : (bytes : List ℕ) (r : CoreResult) → r ≡ playKeysOf c bytes
       → core code vals .after c (keyboard bytes) ≡ record { player = r .core; answers = one (numberOf (r .answer)) 0; buffers = noBuffers }
-  pub settings : (area handed left : List ℕ) (r : CoreResult) → PlayedAs c r (λ (p : Panel). changeOf p area handed) → AreaAs c left (λ (p : Panel). areaChanged p area handed)
+  pub settings : (area handed left : List ℕ) (r : CoreResult) → r ≡ changeOf c area handed → left ≡ areaChanged c area handed
       → core code vals .after c (change area handed) ≡ record { player = r .core; answers = one (numberOf (r .answer)) 0; buffers = onlySettings left }
-  pub back : (area : List ℕ) (r : CoreResult) → PlayedAs c r (λ (p : Panel). undoOf p area)
+  pub back : (area : List ℕ) (r : CoreResult) → r ≡ undoOf c area
       → core code vals .after c (undo area) ≡ record { player = r .core; answers = one (numberOf (r .answer)) 0; buffers = onlySettings area }
-  pub sound : (lent left : List ℤ) (r : CoreResult) → cycledWith code vals r ≡ cycleOf (panelOf c code vals) (length lent)
-      → left ≡ blockAfter (panelOf c code vals) lent
+  pub sound : (lent left : List ℤ) (r : CoreResult) → r ≡ cycleOf code vals c (length lent)
+      → left ≡ blockAfter code vals c lent
       → core code vals .after c (cycle lent) ≡ record { player = r .core; answers = one (numberOf (r .answer)) 0; buffers = onlyBlock left }
 
 unfoldable pub CoreByContract : Type 0
@@ -71,7 +52,15 @@ CoreByContract = (c : Core) (code : List ℕ) (vals : List Float) → ByContract
 
 -- a transition of a panel, as one of its core
 abbrev pub transitionOnCore : Transition Panel → Transition Core
-transitionOnCore m = record { call = m .call; cycles = m .cycles; last = m .last; before = coreOf (m .before); after = onCore (m .after) }
+transitionOnCore m =
+    let a = m .after in
+    record {
+      call = m .call;
+      cycles = m .cycles;
+      last = m .last;
+      before = m .before .core;
+      after = record { player = a .player .core; answers = a .answers; buffers = a .buffers };
+    }
 
 -- the same answers, blocks and areas at every call, and at the end core and code make the panel after the calls
 pub record GoesAsPanel (p : Panel) (c : Core) (code : List ℕ) (vals : List Float) (cs : List Call) : Type 0 where

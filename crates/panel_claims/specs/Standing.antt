@@ -52,4 +52,4 @@ module _ {P : Type 0} where
 unfoldable pub LastStanding : Type 0
 LastStanding =
     (u : Setup) (is : List Instrument) → Given u is → (cs : List Call) → let ms = trace panel (fresh u) cs in
-    SameArea (areaBy u) ms → AsStanding (standing (u .first ∷ []) (stepsTaken ms)) (panelAfter u is cs .settings)
+    SameArea (areaBy u) ms → AsStanding (standing (u .first ∷ []) (stepsTaken ms)) (panelAfter u is cs .core .settings)

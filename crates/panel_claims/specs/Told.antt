@@ -1,4 +1,4 @@
--- What a host is told of the settings: `settings_in_use` gives `.settings .last` of a panel or a core, `records_in_use` its `.settings .count`
+-- What a host is told of the settings: `settings_in_use` gives `.settings .last` of a core, `records_in_use` its `.settings .count`
 -- (`LastStanding` says which records these are). Here, when they act (M-107).
 use mathlib.Core.Path.{_≡_}
 use mathlib.Core.Bool.{true, false}
@@ -18,7 +18,7 @@ use Rattle.panel_claims.specs.Claims.{panel, Given, fresh, settings, pan
 unfoldable pub ToldAct : Type 0
 ToldAct =
     (u : Setup) (is : List Instrument) → Given u is → (cs : List Call) → let ms = trace panel (fresh u) cs in
-    All (λ (m : Transition Panel). numbered (m .call) ≡ true → settings u ms (m .cycles) ≡ inForce (u .chosen) (m .before .settings)) ms
+    All (λ (m : Transition Panel). numbered (m .call) ≡ true → settings u ms (m .cycles) ≡ inForce (u .chosen) (m .before .core .settings)) ms
 
 -- "the starting tempo only at a fresh start": until the first cycle the tempo is that of the first record, whatever is changed or undone.
 unfoldable pub FirstTempo : Type 0

@@ -1,8 +1,8 @@
 // The settings area of a case, and the calls that are lent it.
 use base_answer::Answer;
 use panel::Fresh;
-use panel::KeyboardResult;
 use panel::Panel;
+use panel::PanelResult;
 
 // The longest area that a case lends.
 pub const LONGEST: usize = 8192;
@@ -81,14 +81,14 @@ fn fresh_in(bytes: &mut [u8], lent: usize, orchestra: &[u8], first: &[u8], chose
     Panel::fresh(orchestra, bytes, first, chosen)
 }
 
-fn change_in(panel: Panel, bytes: &mut [u8], lent: usize, handed: &[u8]) -> KeyboardResult {
+fn change_in(panel: Panel, bytes: &mut [u8], lent: usize, handed: &[u8]) -> PanelResult {
     if lent <= bytes.len() {
         return Panel::change(panel, &mut bytes[..lent], handed);
     }
     Panel::change(panel, bytes, handed)
 }
 
-fn undo_in(panel: Panel, bytes: &[u8], lent: usize) -> KeyboardResult {
+fn undo_in(panel: Panel, bytes: &[u8], lent: usize) -> PanelResult {
     if lent <= bytes.len() {
         return Panel::undo(panel, &bytes[..lent]);
     }

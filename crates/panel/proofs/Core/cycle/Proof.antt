@@ -1,5 +1,4 @@
 use borrow.Author.Needs.{needs}
-use Rattle.panel.specs.Core.{panelOf}
 use Rattle.panel.specs.Calls.{blockAfter}
 use Rattle.panel.proofs.Entering.{cycles}
 use Rattle.panel.proofs.Core.cycle.Statement.{statement}
@@ -8,7 +7,4 @@ use Rattle.panel.proofs.Core.cycle.Tie as tie
 pub cycle-spec : {M : Type 1} → statement M
 cycle-spec =
     tie.close (tie.spec (λ c κs. search needs) (λ c. search needs)
-    (λ c. unfold blockAfter in let y = c .before .before in
-    let a = y .before .before .before .before .before .before .args in
-    let p = panelOf (a .self) (a .code .now) (a .vals .now) in
-    (cycles p _ _ (y .cycle-call .ensures .0), y .cycle-call .ensures .1)))
+    (λ c. unfold blockAfter in let e = c .before .before .cycle-call .ensures in (cycles _ _ _ _ _ (e .0), e .1)))

@@ -1,11 +1,8 @@
 use borrow.Author.Needs.{needs}
-use Rattle.player_model.specs.Calls.{unit}
-use Rattle.panel.proofs.Entering.{by-entrance}
+use Rattle.panel.proofs.Entering.{enters-on}
 use Rattle.panel.proofs.Panel.receive_unit.Statement.{statement}
 use Rattle.panel.proofs.Panel.receive_unit.Tie as tie
 
 pub receive-unit-spec : {M : Type 1} → statement M
 receive-unit-spec =
-    tie.close (tie.spec
-    (λ c κs. search needs) (λ c κs. search needs)
-    (λ c. by-entrance _ unit _ _ (c .before .unit .ensures) _ (c .submit .ensures)))
+    tie.close (tie.spec (λ c κs. search needs) (λ c κs. search needs) (λ c. enters-on (c .entrance-on .ensures) (c .before .receive-unit .ensures)))

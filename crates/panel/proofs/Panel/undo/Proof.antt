@@ -1,7 +1,8 @@
 use borrow.Author.Needs.{needs}
-use Rattle.panel.proofs.Entering.{undoes}
+use Rattle.panel.proofs.Entering.{leaves-on}
 use Rattle.panel.proofs.Panel.undo.Statement.{statement}
 use Rattle.panel.proofs.Panel.undo.Tie as tie
 
 pub undo-spec : {M : Type 1} → statement M
-undo-spec = tie.close (tie.spec (λ c κs. search needs) (λ c. undoes _ _ _ (c .before .undo-unless-ended .ensures)))
+undo-spec =
+    tie.close (tie.spec (λ c κs. search needs) (λ c κs. search needs) (λ c. leaves-on (c .result-on .ensures) (c .before .undo .ensures)))
