@@ -190,7 +190,7 @@ first-number (a ∷ given) = a .number
 pub leaves : (us : List (List ℕ)) (p : Panel) → length (p .core .state .queue .lines) ≡ 64 → Leaves p (taken-of us (singly p us .numbers)) (singly p us .panel)
 unfolding singly each withQueue afterOf coreAfter first-number
 leaves [] p long =
-    record { queue = p .core .state .queue; same = refl; behind = record { waits = sym (append-nil (waitingIn (p .core .state .queue))); long = long; ran = refl; last = refl }; none = λ e. refl }
+    record { queue = p .core .state .queue; same = refl; behind = record { waits = sym (append-nil (waitingIn (p .core .state .queue))); long = long; ran = refl; last = refl; counted = λ e. e }; none = λ e. refl }
 leaves (u ∷ us) p long = go (brings p unit u) (λ q h. leaves us q h)
   where
     Rest : After Panel → Type 0

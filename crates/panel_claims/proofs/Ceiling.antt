@@ -18,15 +18,17 @@ use Rattle.player_model.specs.Lists.{All, each}
 use Rattle.player_model.specs.PlayerState.{dueOf}
 use Rattle.player_model.specs.Calls.{Call, submit, burst, keyboard, cycle, change, undo, numbered, one, noBuffers, onlyBlock, onlyAnswers, onlySettings, After, isZero, Last, none, Transition, cyclesWith, lastWith, transitionOf, traceFrom, afterAll}
 use Rattle.player_model.proofs.Ceiling.{block-within, Counted, AllBound, bound-within}
+use Rattle.panel.specs.Display.{displayOf}
 use Rattle.panel.specs.State.{programOf, voicesOf, playerStateOf, settingsIn, panelOf}
 use Rattle.panel.specs.Calls.{submittedOf, submitOf, receiveOf, playKeysOf, changeOf, undoOf, cycleOf}
 use Rattle.panel.specs.declared.Panel.{Panel}
 use Rattle.panel.specs.declared.Core.{Core}
-use Rattle.panel_claims.specs.Claims.{unitAnswer, coreAfter, afterOf, panel, firstInUse, fresh, CeilingBinds}
-use Rattle.panel_claims.specs.Core.{core, CoreByContract, transitionOnCore, GoesAsPanel, CoreAsPanel, LentCall, lentFrom, CoreCeilingBinds}
+use Rattle.panel_claims.specs.Claims.{unitAnswer, coreAfter, afterOf, panel, firstInUse, fresh, CycleByTree, CeilingBinds}
+use Rattle.panel_claims.specs.Core.{core, transitionOnCore, GoesAsPanel, CoreAsPanel, CoreTold, LentCall, lentFrom, CoreCeilingBinds}
 use Rattle.panel_claims.proofs.Cycles.{Cycles, off, over-before, ends, plays, cycles}
 use Rattle.panel_claims.proofs.Settings.{Sets, set-taken, set-refused, changes, undoes}
 use Rattle.panel_claims.proofs.Past.{fresh-invariant, fresh-own}
+use Rattle.panel_claims.proofs.Written.{cycle-by-tree}
 
 -- ---- the ceiling
 
@@ -148,21 +150,6 @@ core-ceiling-binds u is g c code vals e ls =
 
 -- ---- the panel in two
 
-pub core-by-contract : CoreByContract
-unfolding CoreByContract coreAfter
-core-by-contract c code vals =
-    record {
-      entrance = λ d handed r e. λ i. let x = sym e i in record { player = x .core; answers = one (numberOf (x .answer)) (x .line); buffers = noBuffers };
-      units = λ bytes area left r e f. λ i.
-          let x = sym e i in
-          let l = sym f i in
-          record { player = x .core; answers = one (numberOf (x .answer)) 0 ++ each unitAnswer (take (x .units) l); buffers = onlyAnswers l };
-      keys = λ bytes r e. λ i. let x = sym e i in record { player = x .core; answers = one (numberOf (x .answer)) 0; buffers = noBuffers };
-      settings = λ area handed left r e f. λ i. let x = sym e i in record { player = x .core; answers = one (numberOf (x .answer)) 0; buffers = onlySettings (sym f i) };
-      back = λ area r e. λ i. let x = sym e i in record { player = x .core; answers = one (numberOf (x .answer)) 0; buffers = onlySettings area };
-      sound = λ lent left r e f. λ i. let x = sym e i in record { player = x .core; answers = one (numberOf (x .answer)) 0; buffers = onlyBlock (sym f i) };
-    }
-
 module _ (code : List ℕ) (vals : List Float) where
   along : (cs : List Call) (n : ℕ) (z : Last) (c : Core) → traceFrom (core code vals) n z c cs ≡ each transitionOnCore (traceFrom panel n z (panelOf c code vals) cs)
   unfolding traceFrom each afterOf
@@ -180,3 +167,7 @@ pub core-as-panel : CoreAsPanel
 unfolding CoreAsPanel
 core-as-panel p c code vals e cs =
     subst (λ (q : Panel). GoesAsPanel q c code vals cs) e (record { transitions = along code vals cs 0 none c; left = ends-as code vals cs c })
+
+pub core-told : CoreTold
+unfolding CoreTold CoreAsPanel CycleByTree
+core-told u is g c code vals e cs = ap (λ (p : Panel). displayOf (p .core)) (core-as-panel (fresh u) c code vals e cs .left) ∙ cycle-by-tree u is g cs .0 .told

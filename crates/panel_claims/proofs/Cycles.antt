@@ -1,5 +1,5 @@
 -- What a cycle call leaves, of every panel.
-use mathlib.Core.Path.{_≡_, refl, ap, _∙_}
+use mathlib.Core.Path.{_≡_, refl, sym, ap, _∙_}
 use mathlib.Core.Bool.{Bool, true, false, not, cond}
 use mathlib.Core.List.{List, [], _∷_}
 use native.Mathlib.Omega.{arith}
@@ -83,6 +83,23 @@ played-long p h =
     let k : Line → Bool = λ (l : Line). not (isDue (p .core .state .playing .position) l) in
     let w = waitingIn (p .core .state .queue) in
     length-over (filter k w) (p .core .state .queue .lines) (omega (arith, length-filter k w, length-take (p .core .state .queue .count) (p .core .state .queue .lines))) ∙ h
+
+-- its counts are how many lines, note messages and notes there then are
+pub record Counted (p : Panel) : Type 0 where
+  pub lines : p .core .state .queue .count ≡ length (playerStateOf p .waits)
+  pub messages : p .core .state .messages .count ≡ length (playerStateOf p .messages)
+  pub notes : p .core .state .playing .notes .count ≡ length (playerStateOf p .plays .notes)
+
+pub played-counted : (p : Panel) → Counted (playedOf p)
+unfolding playedOf oneCycle.playedOf queueAfter advanced
+played-counted p =
+    let later = laterThan (playerStateOf p .plays .position) (playerStateOf p .waits) in
+    let ns = capped (played (voicesOf (programOf p)) (settingsIn (p .core)) (dueOf (playerStateOf p)) (playerStateOf p .plays)) .notes in
+    record {
+      lines = sym (ap length (take-append-seam later (drop (length later) (p .core .state .queue .lines))));
+      messages = refl;
+      notes = sym (ap length (notes-back ns (p .core .state .playing .notes .notes)));
+    }
 
 -- ---- what the call leaves
 

@@ -1,9 +1,10 @@
 -- What a call at an entrance leaves, of every panel.
-use mathlib.Core.Path.{_≡_, refl, sym, _∙_}
+use mathlib.Core.Path.{_≡_, refl, sym, ap, _∙_}
 use mathlib.Core.Bool.{Bool, true, false, not, _&&_, true≢false, false≢true}
 use mathlib.Core.List.{List, [], _∷_, _++_, append-assoc, append-nil}
 use Prim.Native.Nat.{ℕ, _+_}
-use lib.ListN.{length}
+use native.Mathlib.Omega.{arith}
+use lib.ListN.{length, length-append}
 use lib.Dec.{eqb}
 use borrow.Author.Tests.{eqb-true}
 use Rattle.base_answer.specs.Numbers.{numberOf, isTaken}
@@ -33,16 +34,26 @@ pub record Behind (q : Queue) (ls : List Line) (q′ : Queue) : Type 0 where
   pub long : length (q′ .lines) ≡ 64
   pub ran : q′ .ran ≡ q .ran
   pub last : q′ .last ≡ q .last
+  -- the count is how many wait
+  pub counted : q .count ≡ length (waitingIn q) → q′ .count ≡ length (waitingIn q′)
 
 pub behind-more : {q : Queue} {ls ms : List Line} {q′ q″ : Queue} → Behind q ls q′ → Behind q′ ms q″ → Behind q (ls ++ ms) q″
 behind-more {q} {ls} {ms} x y =
-    record { waits = cc (x .waits, y .waits, append-assoc (waitingIn q) ls ms); long = y .long; ran = y .ran ∙ x .ran; last = y .last ∙ x .last }
+    record { waits = cc (x .waits, y .waits, append-assoc (waitingIn q) ls ms); long = y .long; ran = y .ran ∙ x .ran; last = y .last ∙ x .last; counted = λ e. y .counted (x .counted e) }
 
 module _ (timed : Bool) (table : List Instrument) where
   admits : (q : Queue) (l : Line) (f : FieldCount) → length (q .lines) ≡ 64 → isTaken (admitted q l f .answer) ≡ true → Behind q (l ∷ []) (admitted q l f .queue)
   unfolding pushed
   admits q l f long t =
-      rw (taken-pushed q l f t) (record { waits = waiting-pushed q l f long (taken-room q l f t); long = length-pushed q l f ∙ long; ran = refl; last = refl })
+      let waits = waiting-pushed q l f long (taken-room q l f t) in
+      rw (taken-pushed q l f t)
+      (record {
+        waits = waits;
+        long = length-pushed q l f ∙ long;
+        ran = refl;
+        last = refl;
+        counted = λ e. omega (arith, e, ap length waits, length-append (waitingIn q) (l ∷ []));
+      })
 
   line-took : (q : Queue) (l : Line) → length (q .lines) ≡ 64 → isTaken (lineAdmitted timed table q l .answer) ≡ true → Behind q (l ∷ []) (lineAdmitted timed table q l .queue)
   unfolding lineAdmitted
@@ -57,7 +68,7 @@ module _ (timed : Bool) (table : List Instrument) where
 
   all-lines : (old q : Queue) (i : ℕ) (ls : List Line) → Went old q ls (admittedAll timed table old q i ls)
   unfolding admittedAll
-  all-lines old q i [] = in-all refl (λ long. record { waits = sym (append-nil (waitingIn q)); long = long; ran = refl; last = refl })
+  all-lines old q i [] = in-all refl (λ long. record { waits = sym (append-nil (waitingIn q)); long = long; ran = refl; last = refl; counted = λ e. e })
   all-lines old q i (l ∷ ls) =
       let a = lineAdmitted timed table q l in
       by-test (isTaken (a .answer)) (λ e. rw e (go a (λ long. line-took q l long e) (all-lines old (a .queue) (i + 1) ls))) (λ e. rw e (in-none e refl))

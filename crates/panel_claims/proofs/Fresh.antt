@@ -48,6 +48,7 @@ use Rattle.code_loader_claims.proofs.Loaded.{loaded, taken-only}
 use Rattle.midi_queue.specs.Keyboard.{noMessages}
 use Rattle.player_calls.specs.OnState as onState
 use Rattle.player_calls.specs.OnState.{keyboardCallOf}
+use Rattle.panel.specs.Display.{Display, displayOf}
 use Rattle.panel.specs.State.{panelAt, playerStateOf}
 use Rattle.player_start.specs.Starting.{hasChosen, startOf, refusedStart, startingOf, areaStarted}
 use Rattle.player_start.specs.declared.Start.{Start}
@@ -58,7 +59,7 @@ use Rattle.panel.specs.declared.EntranceResult.{EntranceResult}
 use Rattle.player_model.specs.Plain.{plainStart}
 use Rattle.player_model.specs.Calls.{unit, Call, submit, burst, keyboard, cycle, change, undo, After, Last, none as none-yet, traceFrom}
 use Rattle.panel_claims.specs.Fresh.{Setup, Check, First, fails, holds, all, Tokens, Tree, checks, orchestraChecks}
-use Rattle.panel_claims.specs.Claims.{coreAfter, afterOf, panel, firstInUse, freshBy, areaBy, Begun, endedBurst, endedAfter, AsEnded, FreshVerdict}
+use Rattle.panel_claims.specs.Claims.{coreAfter, afterOf, panel, firstInUse, freshBy, areaBy, Begun, endedBurst, endedAfter, AsEnded, nothing, FreshVerdict}
 use Rattle.panel_claims.proofs.Bursts.{at-unit, Singly, singly, left, left-is, left-fault, left-short, left-taken}
 use Rattle.panel_claims.proofs.Cycles.{Cycles, off, over-before, ends, plays, cycles}
 use Rattle.panel_claims.proofs.Settings.{laid-there}
@@ -386,10 +387,10 @@ module _ (u : Setup) (bytes : Bytes (u .orchestra)) where
       }
 
   Kinds : Start → Type 0
-  Kinds s = (s .answer ≡ Taken → Begun u (panelAt s)) × ((s .answer ≡ Taken → ⊥) → s .state .playing .ended ≡ true)
+  Kinds s = (s .answer ≡ Taken → Begun u (panelAt s)) × ((s .answer ≡ Taken → ⊥) → displayOf (panelAt s .core) ≡ nothing)
 
   kinds-is : (a t c : Bool) → isTaken (first-of u .answer) ≡ a → isTaken (loadOf os .answer) ≡ t → hasChosen (loadOf os .program) (u .chosen) ≡ c → Kinds (out u a t c)
-  unfolding out Kinds startOf
+  unfolding out Kinds startOf noMessages
   kinds-is true true true l e r = ((λ q. begun-is l q r), λ n. absurd (n (taken-is e)))
   kinds-is true true false l e r = ((λ q. absurd (true≢false (sym (ap isTaken q)))), λ n. refl)
   kinds-is true false c l e r = ((λ q. absurd (true≢false (sym (ap isTaken q) ∙ e))), λ n. refl)
@@ -437,6 +438,7 @@ fresh-verdict u bytes =
       only = λ n f. first-one (number u bytes) f;
       begun = kinds u bytes .0;
       written = λ t. area-written u t;
-      noPanel = λ n cs. all-ended cs 0 none-yet (freshBy u .panel) (kinds u bytes .1 n);
+      noPanel = λ n cs. all-ended cs 0 none-yet (freshBy u .panel) (ap (λ (d : Display). d .ended) (kinds u bytes .1 n));
+      shown = kinds u bytes .1;
       unwritten = λ n. area-unwritten u bytes n;
     }

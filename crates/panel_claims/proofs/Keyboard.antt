@@ -1,5 +1,5 @@
 -- What a call at the keyboard leaves, of every panel.
-use mathlib.Core.Path.{_≡_, refl, _∙_}
+use mathlib.Core.Path.{_≡_, refl, sym, ap, _∙_}
 use mathlib.Core.Bool.{Bool, true, false, cond, true≢false}
 use mathlib.Core.List.{List, _++_}
 use Prim.Native.Nat.{ℕ, _+_, _≤_, _<_}
@@ -34,6 +34,10 @@ use Rattle.panel_claims.specs.Claims.{coreAfter, afterOf, TakesKeys, Tak
 pub waits-behind : (w : MessageQueue) (ms : List NoteMessage) → messagesIn (behind w ms) ≡ messagesIn w ++ ms
 unfolding behind
 waits-behind w ms = take-append-seam (messagesIn w ++ ms) (drop (length (messagesIn w ++ ms)) (w .list))
+
+pub count-behind : (w : MessageQueue) (ms : List NoteMessage) → behind w ms .count ≡ length (messagesIn (behind w ms))
+unfolding behind
+count-behind w ms = sym (ap length (take-append-seam (messagesIn w ++ ms) (drop (length (messagesIn w ++ ms)) (w .list))))
 
 pub length-behind : (w : MessageQueue) (ms : List NoteMessage) → length (w .list) ≡ 64 → length (messagesIn w) + length ms ≤ 64 → length (behind w ms .list) ≡ 64
 unfolding behind

@@ -9,13 +9,14 @@ pub mod Settings
 pub mod Refusals
 pub mod Starts
 pub mod Past
-pub mod Ceiling
 pub mod Fitting
 pub mod Pushing
 pub mod Readings
 pub mod Decided
 pub mod Answers
 pub mod Written
+pub mod Ceiling
+pub mod Contracts
 pub mod Verdicts
 pub mod Fresh
 pub mod Standing

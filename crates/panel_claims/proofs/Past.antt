@@ -53,9 +53,9 @@ use Rattle.panel_claims.proofs.Starts.{first-taken}
 use Rattle.panel_claims.proofs.Ranged.{ranged, ranged-steady, reads-ranged}
 use Rattle.panel_claims.proofs.Entrances.{Behind, Brings, takes, refuses, brings}
 use Rattle.panel_claims.proofs.Bursts.{singly, Receives, received, unreceived, receives, taken-of, leaves}
-use Rattle.panel_claims.proofs.Keyboard.{waits-behind, length-behind, Presses, keys-over, keys-faulty, keys-full, keys-taken, presses}
+use Rattle.panel_claims.proofs.Keyboard.{waits-behind, count-behind, length-behind, Presses, keys-over, keys-faulty, keys-full, keys-taken, presses}
 use Rattle.panel_claims.proofs.Chosen.{chosen-there}
-use Rattle.panel_claims.proofs.Cycles.{playedOf, holds-played, reached-played, played-long, Cycles, off, over-before, ends, plays, cycles}
+use Rattle.panel_claims.proofs.Cycles.{playedOf, holds-played, reached-played, played-long, Counted, played-counted, Cycles, off, over-before, ends, plays, cycles}
 
 -- the history that a panel's own fields tell
 abbrev pub own : Panel → History VoiceState
@@ -94,6 +94,7 @@ module _ (program : Program) (chosen : ℕ) (is : List Instrument) (r : StandsFo
     pub choice : p .core .chosen ≡ chosen
     pub long : length (p .core .state .queue .lines) ≡ 64
     pub listed : length (p .core .state .messages .list) ≡ 64
+    pub counted : Counted p
     pub slow : Slow (playerStateOf p)
     pub good : Notes Sixteen (playerStateOf p .plays .notes)
 
@@ -132,7 +133,8 @@ module _ (program : Program) (chosen : ℕ) (is : List Instrument) (r : StandsFo
   invariant-takes : (p : Panel) (ls : List Line) (q : Queue) → Behind (p .core .state .queue) ls q → AllSteady ls → Invariant p → Invariant (withQueue p q)
   unfolding withQueue
   invariant-takes p ls q b t k =
-      let lines = subst⁻¹ AllSteady (b .waits) (all-append _ (playerStateOf p .waits) ls (k .slow .lines) t) in search
+      let steady-lines = subst⁻¹ AllSteady (b .waits) (all-append _ (playerStateOf p .waits) ls (k .slow .lines) t) in
+      let lines = b .counted (k .counted .lines) in search
 
   own-presses : (p : Panel) (ms : List NoteMessage) → own (panelWith p (behindMessages (p .core .state .messages) ms)) ≡ with [] ms p
   unfolding behind withMessages panelWith
@@ -142,7 +144,8 @@ module _ (program : Program) (chosen : ℕ) (is : List Instrument) (r : StandsFo
       → Invariant (panelWith p (behindMessages (p .core .state .messages) ms))
   unfolding panelWith
   invariant-presses p ms l k =
-      let listed = length-behind (p .core .state .messages) ms (k .listed) l in search
+      let listed = length-behind (p .core .state .messages) ms (k .listed) l in
+      let messages = count-behind (p .core .state .messages) ms in search
 
   own-none : (p : Panel) → own p ≡ with [] [] p
   unfolding behind withMessages
@@ -217,6 +220,7 @@ module _ (program : Program) (chosen : ℕ) (is : List Instrument) (r : StandsFo
             choice = unfold playedOf in k .choice;
             long = played-long p (k .long);
             listed = unfold playedOf oneCycle.playedOf in k .listed;
+            counted = played-counted p;
             slow = subst⁻¹ Slow e (slow-played w (s (p .core .settings)) (playerStateOf p) (few p k) (brief p k) (k .slow) near);
             good = subst⁻¹ (λ (h : PlayerState VoiceState). Notes Sixteen (h .plays .notes)) e (played-good Sixteen same (s (p .core .settings)) due (playerStateOf p .plays) (k .good));
           }
@@ -331,7 +335,7 @@ module _ (program : Program) (chosen : ℕ) (is : List Instrument) (r : StandsFo
 
       -- a change or an undo: what it sets
       invariant-sets : (x : InUse) → Valid (x .last) → Invariant (withInUse p x)
-      invariant-sets x l = record { has = k .has; valid = l; choice = k .choice; long = k .long; listed = k .listed; slow = k .slow; good = k .good }
+      invariant-sets x l = record { has = k .has; valid = l; choice = k .choice; long = k .long; listed = k .listed; counted = record { lines = k .counted .lines; messages = k .counted .messages; notes = k .counted .notes }; slow = k .slow; good = k .good }
 
       setting-step : (c : Call) {left : List ℕ} → numbered c ≡ false → ((given : List Answer) → takenOf (linesOf c) given ≡ []) → ((b : Bool) → cond b (messagesIn c) [] ≡ [])
           → Sets p c left (afterOf p c) → Step c
@@ -457,7 +461,7 @@ module _ (u : Setup) (is : List Instrument) (g : Given u is) where
   start-invariant =
       let l = first-taken u is g .valid in
       let slow : Slow (playerStateOf begin) = record { few = omega arith; lines = tt; tempo = starting (firstInUse u) (l .tempo .0) (l .tempo .1) } in
-      record { has = refl; valid = l; choice = refl; long = length-replicate 64 blankLine; listed = length-replicate 64 blank; slow = slow; good = tt }
+      record { has = refl; valid = l; choice = refl; long = length-replicate 64 blankLine; listed = length-replicate 64 blank; counted = record { lines = refl; messages = refl; notes = refl }; slow = slow; good = tt }
 
   pub fresh-invariant : Invariant program (u .chosen) is stands (fresh u)
   fresh-invariant = subst⁻¹ (Invariant program (u .chosen) is stands) fresh-is start-invariant

@@ -1,8 +1,8 @@
 -- Every line taken fits, so every cycle and condition 3 are those of the orchestra as it is written.
-use mathlib.Core.Path.{_≡_, ap, _∙_, subst⁻¹}
+use mathlib.Core.Path.{_≡_, refl, ap, _∙_, subst⁻¹}
 use mathlib.Core.Bool.{cond}
 use mathlib.Core.List.{List, [], _∷_, _++_, append-nil}
-use Prim.Native.Nat.{ℕ, _≤_}
+use Prim.Native.Nat.{ℕ, suc, _≤_}
 use native.Mathlib.Omega.{arith}
 use lib.ListN.{length, length-take}
 use lib.Dec.{eqb}
@@ -13,7 +13,7 @@ use Rattle.score_line.specs.declared.Line.{Line}
 use Rattle.orchestra_syntax.specs.Tree.{Instrument}
 use Rattle.orchestra_semantics.specs.Meaning.{instrumentOf}
 use Rattle.voices_resolved.specs.Tree.{treeVoices}
-use Rattle.voices_source.specs.Alike.{StateAs}
+use Rattle.voices_source.specs.Alike.{NotesAs, StateAs}
 use Rattle.voices_source.specs.Voices.{writtenVoices}
 use Rattle.voices_source.specs.inside.Translation.{HeldAs, PlaysAsWritten, PastAsWritten}
 use Rattle.voices_source.specs.Voices as written
@@ -26,6 +26,7 @@ use Rattle.player_model.specs.Lists.{All, each}
 use lib.Ieee.{Float}
 use Rattle.settings_records.specs.declared.InUse.{InUse}
 use Rattle.player_model.specs.Set.{inForce, startingTempo}
+use Rattle.player_model.specs.Cycle.{Note}
 use Rattle.player_model.specs.PlayerState.{Settings, dueOf, blockOf}
 use Rattle.panel_claims.specs.Fresh.{Setup}
 use Rattle.player_model.specs.Calls.{Entrance, unit, reads, Call, submit, burst, keyboard, cycle, change, undo, one, linesOf, takenOf, Last, none, latest, Transition, takenIn, cyclesWith, lastWith, transitionOf, traceFrom, trace, allTaken, afterAll}
@@ -34,13 +35,15 @@ use Rattle.player_model.specs.History.{Reached, History}
 use Rattle.player_model.proofs.Lists.{all-append, all-map}
 use Rattle.code_loader.specs.Loading.{loadOf}
 use Rattle.code_loader_claims.specs.Claims.{StandsFor}
-use Rattle.panel.specs.State.{programOf}
+use Rattle.panel.specs.Display.{displayOf}
+use Rattle.panel.specs.State.{programOf, playerStateOf}
 use Rattle.panel.specs.declared.Panel.{Panel}
 use Rattle.panel_claims.specs.Verdict.{HasFields, here, there, Playable, Fits, AllFit, Faulty, untimed, unplayable, late, full, AtEntrance, over, badText, cut, notCarried, outOfRange, tooManyValues, leftOver, faulty, taken}
-use Rattle.panel_claims.specs.Claims.{coreAfter, afterOf, panel, Given, firstInUse, fresh, settings, past, LinesFit, CycleByTree, Condition3}
+use Rattle.panel_claims.specs.Claims.{coreAfter, afterOf, panel, Given, firstInUse, fresh, settings, displayBy, past, panelAfter, LinesFit, CycleByTree, Condition3}
 use Rattle.panel_claims.proofs.Ranged.{ranged, AllRanged, reads-ranged}
-use Rattle.panel_claims.proofs.Past.{no-line, no-others, Invariant, own, invariant-all, stands, fresh-invariant, past-is, placedPast, block-by-place, by-place}
+use Rattle.panel_claims.proofs.Past.{no-line, no-others, Invariant, own, invariant-all, stands, fresh-invariant, invariant-after, past-is, placedPast, block-by-place, by-place}
 use Rattle.panel_claims.proofs.Bursts.{at-unit, singly, Receives, received, unreceived, receives, taken-of}
+use Rattle.panel_claims.proofs.Cycles.{Counted}
 use Rattle.panel_claims.proofs.Answers.{at-entrance-given, past-unit}
 use Rattle.panel_claims.proofs.Decided.{at-entrance}
 
@@ -147,13 +150,30 @@ unfolding LinesFit
 written-past u is g cs =
     every-past Panel is (u .chosen) (firstInUse u) (trace panel (fresh u) cs) (g .accepted .named) (lines-fit u is g cs)
 
+-- as many notes
+as-many : {S S′ : Type 0} (R : S → S′ → Type 0) (ms : List (Note S)) (ns : List (Note S′)) → NotesAs R ms ns → length ms ≡ length ns
+as-many R [] [] h = refl
+as-many R [] (n ∷ ns) h = absurd h
+as-many R (m ∷ ms) [] h = absurd h
+as-many R (m ∷ ms) (n ∷ ns) h = ap suc (as-many R ms ns (h .1))
+
+told-so : (is : List Instrument) (p : Panel) (h : History written.VoiceState) → Counted p → StateAs (HeldAs is) (playerStateOf p) (h .holds) → displayOf (p .core) ≡ displayBy h
+told-so is p h k a =
+    let lines = k .lines ∙ ap length (a .waits) in
+    let messages = k .messages ∙ ap length (a .messages) in
+    let notes = k .notes ∙ as-many (HeldAs is) (playerStateOf p .plays .notes) (h .holds .plays .notes) (a .notes) in
+    λ i. record { missed = a .counts i .missed; lines = lines i; messages = messages i; notes = notes i; ended = a .ended i; position = a .position i }
+
 pub cycle-by-tree : CycleByTree
 unfolding CycleByTree
 cycle-by-tree u is g cs =
     let e = past-is u is g cs in
-    let w = written-past u is g cs in (
+    let w = written-past u is g cs in
+    let holds : StateAs (HeldAs is) (playerStateOf (panelAfter u is cs)) (past u is cs .holds) =
+    subst⁻¹ (λ (h : History byPlace.VoiceState). StateAs (HeldAs is) (h .holds) (past u is cs .holds)) e (w .holds) in (
       record {
-        holds = subst⁻¹ (λ (h : History byPlace.VoiceState). StateAs (HeldAs is) (h .holds) (past u is cs .holds)) e (w .holds);
+        holds = holds;
+        told = told-so is (panelAfter u is cs) (past u is cs) (invariant-after u is g cs .counted) holds;
         reached = ap (λ (h : History byPlace.VoiceState). h .reached) e ∙ w .reached;
         set = ap (λ (h : History byPlace.VoiceState). h .set) e ∙ w .set;
       },

@@ -9,6 +9,7 @@ use lib.Ieee.{Float}
 use lib.Dec.{leb}
 use lib.ListN.{length, take}
 use Rattle.base_answer.specs.Numbers.{numberOf}
+use Rattle.base_answer.specs.declared.Answer as kind
 use Rattle.base_answer.specs.declared.Answer.the-variants.{Taken, CutShort, TooManyValues}
 use Rattle.score_line.specs.declared.Line.{Line}
 use Rattle.orchestra_syntax.specs.Tree.{Instrument}
@@ -33,14 +34,14 @@ use Rattle.settings_records.specs.declared.Setting.{Setting}
 use Rattle.settings_records.specs.declared.InUse.{InUse}
 use Rattle.player_model.specs.PlayerState.{Settings, Counts, dueOf, endsBy, blockOf}
 use Rattle.player_model.specs.Plain.{plainStart}
-use Rattle.player_model.specs.Calls.{Entrance, unit, hasTime, reads, Call, submit, burst, keyboard, cycle, change, undo, numbered, Answer, one, noBuffers, onlyBlock, onlyAnswers, onlySettings, buffersOf, After, Player, isZero, Transition, trace, allTaken, afterAll, answersAll}
+use Rattle.player_model.specs.Calls.{Entrance, unit, hasTime, reads, Call, submit, burst, keyboard, cycle, change, undo, numbered, Answer, one, Buffers, noBuffers, onlyBlock, onlyAnswers, onlySettings, buffersOf, After, Player, isZero, Transition, trace, allTaken, afterAll, answersAll}
 use Rattle.player_model.specs.Set.{inForce, startingTempo, settingsBy}
 use Rattle.player_model.specs.Condition3.{PlainAlike, WithinCeiling}
 use Rattle.player_model.specs.History.{Reached, nowhere, at, History, historyOf}
 use Rattle.player_queue.specs.Admission.{waitingIn}
 use Rattle.player_queue.specs.declared.Queue.{Queue}
 use Rattle.code_loader_claims.specs.Claims.{StandsFor}
-use Rattle.panel.specs.Display.{displayOf}
+use Rattle.panel.specs.Display.{Display, displayOf}
 use Rattle.panel.specs.State.{programOf, playerStateOf, withCore, withInUse, withQueue, withMessages, endedOf}
 use Rattle.panel.specs.Calls.{freshOf, areaFresh, submitOf, receiveOf, areaAfter, playKeysOf, changeOf, areaChanged, undoOf, cycleOf, blockAfter}
 use Rattle.panel.specs.declared.Core.{Core}
@@ -55,27 +56,22 @@ use Rattle.panel_claims.specs.Fresh.{Setup, First, checks}
 abbrev pub unitAnswer : ℕ → Answer
 unitAnswer n = record { number = n; line = 0 }
 
--- what a call leaves of a core that is lent this code and these numbers: what its result and its lent memory hold. Only a cycle reads the code.
+-- what a call leaves with one answer, and what a burst leaves, with one for each unit that it tells as answered: the area holds their numbers
+abbrev pub withAnswer : {P : Type 0} → P → kind.Answer → ℕ → Buffers → After P
+withAnswer p a line b = record { player = p; answers = one (numberOf a) line; buffers = b }
+
+abbrev pub withAnswers : {P : Type 0} → P → kind.Answer → ℕ → List ℕ → After P
+withAnswers p a count area = record { player = p; answers = one (numberOf a) 0 ++ each unitAnswer (take count area); buffers = onlyAnswers area }
+
+-- what a call leaves of a core that is lent this code and these numbers, by its result and what it was lent (`CoreByContract`). Only a cycle
+-- reads the code.
 unfoldable pub coreAfter : List ℕ → List Float → Core → Call → After Core
-coreAfter code vals c (submit d handed) =
-    let r = submitOf c d handed in
-    record { player = r .core; answers = one (numberOf (r .answer)) (r .line); buffers = noBuffers }
-coreAfter code vals c (burst bytes area) =
-    let r = receiveOf c bytes (length area) in
-    let left = areaAfter c bytes area in
-    record { player = r .core; answers = one (numberOf (r .answer)) 0 ++ each unitAnswer (take (r .units) left); buffers = onlyAnswers left }
-coreAfter code vals c (keyboard bytes) =
-    let r = playKeysOf c bytes in
-    record { player = r .core; answers = one (numberOf (r .answer)) 0; buffers = noBuffers }
-coreAfter code vals c (cycle b) =
-    let r = cycleOf code vals c (length b) in
-    record { player = r .core; answers = one (numberOf (r .answer)) 0; buffers = onlyBlock (blockAfter code vals c b) }
-coreAfter code vals c (change area handed) =
-    let r = changeOf c area handed in
-    record { player = r .core; answers = one (numberOf (r .answer)) 0; buffers = onlySettings (areaChanged c area handed) }
-coreAfter code vals c (undo area) =
-    let r = undoOf c area in
-    record { player = r .core; answers = one (numberOf (r .answer)) 0; buffers = onlySettings area }
+coreAfter code vals c (submit d handed) = let r = submitOf c d handed in withAnswer (r .core) (r .answer) (r .line) noBuffers
+coreAfter code vals c (burst bytes area) = let r = receiveOf c bytes (length area) in withAnswers (r .core) (r .answer) (r .units) (areaAfter c bytes area)
+coreAfter code vals c (keyboard bytes) = let r = playKeysOf c bytes in withAnswer (r .core) (r .answer) 0 noBuffers
+coreAfter code vals c (cycle b) = let r = cycleOf code vals c (length b) in withAnswer (r .core) (r .answer) 0 (onlyBlock (blockAfter code vals c b))
+coreAfter code vals c (change area handed) = let r = changeOf c area handed in withAnswer (r .core) (r .answer) 0 (onlySettings (areaChanged c area handed))
+coreAfter code vals c (undo area) = let r = undoOf c area in withAnswer (r .core) (r .answer) 0 (onlySettings area)
 
 -- a call on a panel is the call on its core, lent the panel's own code
 unfoldable pub afterOf : Panel → Call → After Panel
@@ -138,6 +134,10 @@ endedAfter p (undo area) = unchanged p (undo area) 9
 abbrev pub AsEnded : Transition Panel → Type 0
 AsEnded m = m .after ≡ endedAfter (m .before) (m .call)
 
+-- what the display tells of a panel that has ended before it began
+abbrev pub nothing : Display
+nothing = record { missed = 0; lines = 0; messages = 0; notes = 0; ended = true; position = 0 }
+
 -- a fresh start's answer, panel and area
 abbrev pub freshBy : Setup → Fresh
 freshBy u = freshOf (u .orchestra) (u .area) (u .first) (u .chosen)
@@ -154,6 +154,7 @@ pub record FreshStart (u : Setup) : Type 1 where
   pub begun : freshBy u .answer ≡ Taken → Begun u (freshBy u .panel)
   pub written : freshBy u .answer ≡ Taken → areaBy u ≡ laidAt 0 (u .first) (u .area)
   pub noPanel : (freshBy u .answer ≡ Taken → ⊥) → (cs : List Call) → All AsEnded (trace panel (freshBy u .panel) cs)
+  pub shown : (freshBy u .answer ≡ Taken → ⊥) → displayOf (freshBy u .panel .core) ≡ nothing
   pub unwritten : (freshBy u .answer ≡ Taken → ⊥) → areaBy u ≡ u .area
 
 abbrev pub FreshVerdict : Type 1
@@ -292,6 +293,20 @@ FirstSets = (u : Setup) (is : List Instrument) (g : Given u is) → firstInUse u
 abbrev pub settings : {P : Type 0} → Setup → List (Transition P) → ℕ → Settings
 settings u ms = settingsBy (u .chosen) (firstInUse u) ms
 
+-- what the display tells by a history: the notes missed, how many lines and note messages were taken and wait, how many notes sound, whether the
+-- piece has ended, and the position
+abbrev pub displayBy : {S : Type 0} → History S → Display
+displayBy h =
+    let plays = h .holds .plays in
+    record {
+      missed = plays .counts .missed;
+      lines = length (h .holds .waits);
+      messages = length (h .holds .messages);
+      notes = length (plays .notes);
+      ended = plays .ended;
+      position = plays .position;
+    }
+
 module _ (u : Setup) (is : List Instrument) where
   -- what a list of calls leaves by its history, the notes being those of the orchestra as it is written, and the panel after it
   abbrev pub past : List Call → History VoiceState
@@ -301,11 +316,12 @@ module _ (u : Setup) (is : List Instrument) where
   panelAfter cs = afterAll panel (fresh u) cs
 
   -- Condition 2, every cycle of sound: whatever was handed in, timed or not, late or not, the panel holds what its history says, each note
-  -- the values of its names, and its settings are those of its history,
+  -- the values of its names, its settings are those of its history, and so is every number that the display tells,
   pub record StateByPast (cs : List Call) : Type 0 where
     pub holds : StateAs (HeldAs is) (playerStateOf (panelAfter cs)) (past cs .holds)
     pub reached : reachedOf (panelAfter cs) ≡ past cs .reached
     pub set : panelAfter cs .core .settings ≡ past cs .set
+    pub told : displayOf (panelAfter cs .core) ≡ displayBy (past cs)
 
   -- and a cycle call that answers 0 leaves the block of document 01's cycle.
   abbrev pub BlockByPast : List Call → List ℤ → Type 0

@@ -1,52 +1,24 @@
 -- What is promised of a panel in two: its core, and code and numbers that the host lends with each call, the panel's own or any others.
 use mathlib.Core.Path.{_≡_}
-use mathlib.Core.List.{List, [], _∷_, _++_}
+use mathlib.Core.List.{List, [], _∷_}
 use Prim.Native.Nat.{ℕ}
-use lib.IntN.{ℤ}
 use lib.Ieee.{Float}
-use lib.ListN.{length, take}
-use Rattle.base_answer.specs.Numbers.{numberOf}
 use Rattle.orchestra_syntax.specs.Tree.{Instrument}
 use Rattle.player_model.specs.Lists.{All, each}
-use Rattle.player_model.specs.Calls.{Entrance, Call, submit, burst, keyboard, cycle, change, undo, one, noBuffers, onlyBlock, onlyAnswers, onlySettings, After, Player, Last, none, Transition, cyclesWith, lastWith, transitionOf, trace, afterAll}
+use Rattle.player_model.specs.Calls.{Call, Player, Last, none, Transition, cyclesWith, lastWith, transitionOf, trace, afterAll}
 use Rattle.player_model.specs.Condition3.{WithinCeiling}
+use Rattle.panel.specs.Display.{displayOf}
 use Rattle.panel.specs.State.{panelOf}
-use Rattle.panel.specs.Calls.{submitOf, receiveOf, areaAfter, playKeysOf, changeOf, areaChanged, undoOf, cycleOf, blockAfter}
 use Rattle.panel.specs.declared.Panel.{Panel}
 use Rattle.panel.specs.declared.Core.{Core}
-use Rattle.panel.specs.declared.CoreEntranceResult.{CoreEntranceResult}
-use Rattle.panel.specs.declared.CoreBurstResult.{CoreBurstResult}
-use Rattle.panel.specs.declared.CoreResult.{CoreResult}
 use Rattle.panel_claims.specs.Fresh.{Setup}
-use Rattle.panel_claims.specs.Claims.{unitAnswer, coreAfter, countsOf, panel, Given, fresh, settings}
+use Rattle.panel_claims.specs.Claims.{coreAfter, countsOf, panel, Given, fresh, settings, displayBy, past}
 
 -- ---- the core as a player
 
 -- a core that is lent this code and these numbers
 abbrev pub core : List ℕ → List Float → Player Core
 core code vals = record { after = coreAfter code vals; counts = countsOf }
-
--- That is what the contracts of `panel::Core` say: what a call hands back and leaves of what it was lent is what the player leaves. Only a cycle
--- reads code and numbers; of any other call it is so whatever they are.
-pub record ByContract (c : Core) (code : List ℕ) (vals : List Float) : Type 0 where
-  pub entrance : (d : Entrance) (handed : List ℕ) (r : CoreEntranceResult) → r ≡ submitOf c d handed
-      → core code vals .after c (submit d handed) ≡ record { player = r .core; answers = one (numberOf (r .answer)) (r .line); buffers = noBuffers }
-  pub units : (bytes area left : List ℕ) (r : CoreBurstResult) → r ≡ receiveOf c bytes (length area)
-      → left ≡ areaAfter c bytes area
-      → core code vals .after c (burst bytes area)
-      ≡ record { player = r .core; answers = one (numberOf (r .answer)) 0 ++ each unitAnswer (take (r .units) left); buffers = onlyAnswers left }
-  pub keys : (bytes : List ℕ) (r : CoreResult) → r ≡ playKeysOf c bytes
-      → core code vals .after c (keyboard bytes) ≡ record { player = r .core; answers = one (numberOf (r .answer)) 0; buffers = noBuffers }
-  pub settings : (area handed left : List ℕ) (r : CoreResult) → r ≡ changeOf c area handed → left ≡ areaChanged c area handed
-      → core code vals .after c (change area handed) ≡ record { player = r .core; answers = one (numberOf (r .answer)) 0; buffers = onlySettings left }
-  pub back : (area : List ℕ) (r : CoreResult) → r ≡ undoOf c area
-      → core code vals .after c (undo area) ≡ record { player = r .core; answers = one (numberOf (r .answer)) 0; buffers = onlySettings area }
-  pub sound : (lent left : List ℤ) (r : CoreResult) → r ≡ cycleOf code vals c (length lent)
-      → left ≡ blockAfter code vals c lent
-      → core code vals .after c (cycle lent) ≡ record { player = r .core; answers = one (numberOf (r .answer)) 0; buffers = onlyBlock left }
-
-unfoldable pub CoreByContract : Type 0
-CoreByContract = (c : Core) (code : List ℕ) (vals : List Float) → ByContract c code vals
 
 -- ---- lent the panel's own code
 
@@ -72,6 +44,13 @@ pub record GoesAsPanel (p : Panel) (c : Core) (code : List ℕ) (vals : List Flo
 unfoldable pub CoreAsPanel : Type 0
 CoreAsPanel =
     (p : Panel) (c : Core) (code : List ℕ) (vals : List Float) → panelOf c code vals ≡ p → (cs : List Call) → GoesAsPanel p c code vals cs
+
+-- And what the display tells of the core of a fresh panel is what the history gives.
+unfoldable pub CoreTold : Type 0
+CoreTold =
+    (u : Setup) (is : List Instrument) → Given u is →
+    (c : Core) (code : List ℕ) (vals : List Float) → panelOf c code vals ≡ fresh u → (cs : List Call) →
+    displayOf (afterAll (core code vals) c cs) ≡ displayBy (past u is cs)
 
 -- ---- lent any code
 
