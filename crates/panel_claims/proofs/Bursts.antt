@@ -28,11 +28,12 @@ use Rattle.entrance_admission.specs.declared.AdmissionResult.{AdmissionResult}
 use Rattle.entrance_burst.specs.Singly.{singlyIn, burstSubmittedIn, areaIn}
 use Rattle.player_calls.specs.OnState as onState
 use Rattle.player_calls.specs.OnState.{burstSubmittedOf}
-use Rattle.panel.specs.State.{programOf, tableOf, withState, withQueue, entranceOn}
+use Rattle.panel.specs.State.{instrumentsOf, programOf, tableOf, withState, withQueue, entranceOn}
 use Rattle.panel.specs.Calls.{submittedOf, submitOf, receiveOf, areaAfter}
+use Rattle.panel.specs.declared.Core.{Core}
 use Rattle.panel.specs.declared.Panel.{Panel}
 use Rattle.panel.specs.declared.EntranceResult.{EntranceResult}
-use Rattle.panel_claims.specs.Claims.{unitAnswer, coreAfter, afterOf, panel, unchanged, asUnits, BurstAsUnits}
+use Rattle.panel_claims.specs.Claims.{unitAnswer, coreAfter, afterOf, panel, unchanged, asUnits, BurstAsUnits, answeredUnits, AnsweredUnits}
 use Rattle.panel_claims.proofs.Entrances.{Behind, behind-more, Brings, takes, refuses, brings}
 
 -- ---- a unit's answer is about its only line
@@ -153,6 +154,37 @@ burst-as-units p bytes area =
       tooLong = λ s. left-is p bytes area _ (one-parse bytes _ s) ∙ left-fault p bytes area answer.TooManyValues;
       noRoom = λ us s h. left-is p bytes area _ (one-parse bytes _ s) ∙ left-short p area us bytes h;
       taken = λ us s h. left-is p bytes area _ (one-parse bytes _ s) ∙ left-taken p area us h ∙ units-singly p area us;
+    }
+
+-- the number of answered units
+units-in : Core → List ℕ → Burst → ℕ
+units-in c area b = burstSubmittedOf (instrumentsOf c) (c .state) (length area) b .units
+
+units-are : (c : Core) (bytes area : List ℕ) (b : Burst) → burstOf bytes ≡ b → answeredUnits c bytes area ≡ units-in c area b
+unfolding receiveOf units-in
+units-are c bytes area b e = ap (units-in c area) e
+
+units-none : (c : Core) (area : List ℕ) (a : kind.Answer) → units-in c area (fault a) ≡ 0
+unfolding units-in burstSubmittedOf burstSubmittedIn
+units-none c area a = refl
+
+module _ (c : Core) (area : List ℕ) (us : List (List ℕ)) where
+  units-short : length area < length us → units-in c area (units us) ≡ 0
+  unfolding units-in burstSubmittedOf burstSubmittedIn
+  units-short h = rw (units-in, lt-leb (length us) (length area) h)
+
+  units-all : length us ≤ length area → units-in c area (units us) ≡ length us
+  unfolding units-in burstSubmittedOf burstSubmittedIn
+  units-all h = rw (units-in, le-leb (length us) (length area) h)
+
+pub answered-units : AnsweredUnits
+unfolding AnsweredUnits
+answered-units c bytes area =
+    record {
+      cut = λ s. units-are c bytes area _ (one-parse bytes _ s) ∙ units-none c area answer.CutShort;
+      tooLong = λ s. units-are c bytes area _ (one-parse bytes _ s) ∙ units-none c area answer.TooManyValues;
+      noRoom = λ us s h. units-are c bytes area _ (one-parse bytes _ s) ∙ units-short c area us h;
+      taken = λ us s h. units-are c bytes area _ (one-parse bytes _ s) ∙ units-all c area us h;
     }
 
 -- a burst is taken or refused

@@ -1,7 +1,7 @@
 -- The ceiling binds, on a panel and on a core whatever it is lent; and a core that is lent its panel's own code goes as the panel does.
 use mathlib.Core.Path.{_≡_, refl, sym, ap, _∙_, subst, subst⁻¹}
 use mathlib.Core.Bool.{Bool, true, false, cond, true≢false, false≢true}
-use mathlib.Core.List.{List, [], _∷_, _++_}
+use mathlib.Core.List.{List, [], _∷_}
 use Prim.Native.Nat.{ℕ}
 use lib.IntN.{ℤ}
 use Rattle.settings_records.specs.Form.{Valid}
@@ -9,26 +9,32 @@ use Rattle.settings_records.specs.declared.InUse.{InUse}
 use Rattle.voices_compiled.specs.Voices.{VoiceState}
 use Rattle.player_model.specs.History.{History}
 use Rattle.player_model.specs.Set.{setBy}
-use Rattle.player_model.proofs.Lists.{either-way, cond-false}
+use Rattle.player_model.proofs.Lists.{either-way, cond-false, all-map}
+use Rattle.score_bursts.specs.Bursts.{Burst, units, fault}
+use Rattle.score_bursts.specs.inside.Reading.{burstOf}
+use Rattle.player_start.specs.Starting.{startingOf}
+use Rattle.player_model.specs.Condition3.{WithinCeiling}
 use lib.Ieee.{Float}
-use lib.ListN.{take}
-use Rattle.base_answer.specs.Numbers.{numberOf}
+use lib.ListN.{length}
+use lib.Dec.{eqb, leb}
 use Rattle.base_float32.specs.Limit.{Within}
 use Rattle.player_model.specs.Lists.{All, each}
-use Rattle.player_model.specs.PlayerState.{dueOf}
-use Rattle.player_model.specs.Calls.{Call, submit, burst, keyboard, cycle, change, undo, numbered, one, noBuffers, onlyBlock, onlyAnswers, onlySettings, After, isZero, Last, none, Transition, cyclesWith, lastWith, transitionOf, traceFrom, afterAll}
+use Rattle.player_model.specs.PlayerState.{Settings, dueOf}
+use Rattle.player_model.specs.Calls.{Call, submit, burst, keyboard, cycle, change, undo, numbered, After, isZero, Last, none, Transition, cyclesWith, lastWith, transitionOf, traceFrom, afterAll}
 use Rattle.player_model.proofs.Ceiling.{block-within, Counted, AllBound, bound-within}
 use Rattle.panel.specs.Display.{displayOf}
 use Rattle.panel.specs.State.{programOf, voicesOf, playerStateOf, settingsIn, panelOf}
-use Rattle.panel.specs.Calls.{submittedOf, submitOf, receiveOf, playKeysOf, changeOf, undoOf, cycleOf}
+use Rattle.panel.specs.Calls.{freshOf, submittedOf, submitOf, receiveOf, playKeysOf, cycleOf}
 use Rattle.panel.specs.declared.Panel.{Panel}
 use Rattle.panel.specs.declared.Core.{Core}
-use Rattle.panel_claims.specs.Claims.{unitAnswer, coreAfter, afterOf, panel, firstInUse, fresh, CycleByTree, CeilingBinds}
-use Rattle.panel_claims.specs.Core.{core, transitionOnCore, GoesAsPanel, CoreAsPanel, CoreTold, LentCall, lentFrom, CoreCeilingBinds}
+use Rattle.panel_claims.specs.Claims.{coreAfter, afterOf, panel, firstInUse, fresh, settings, endedBurst, endedAfter, AsEnded, CycleByTree, CeilingBinds}
+use Rattle.panel_claims.specs.Core.{core, LentCall, lentFrom, SetInRange, CoreCeilingBinds, CoreStaysEnded, transitionOnCore, lentOwn, GoesAsPanel, CoreAsPanel, CoreTold}
 use Rattle.panel_claims.proofs.Cycles.{Cycles, off, over-before, ends, plays, cycles}
 use Rattle.panel_claims.proofs.Settings.{Sets, set-taken, set-refused, changes, undoes}
 use Rattle.panel_claims.proofs.Past.{fresh-invariant, fresh-own}
 use Rattle.panel_claims.proofs.Written.{cycle-by-tree}
+use Rattle.panel_claims.proofs.Ended.{core-stays-ended}
+use Rattle.panel_claims.proofs.Fresh.{Kind, no-start, starts, start-kind}
 
 -- ---- the ceiling
 
@@ -140,19 +146,61 @@ core-bound (x ∷ xs) n z c l =
           (core-bound xs _ _ (coreAfter (x .code) (x .vals) c (x .call) .player) (s .1)),
     )
 
+set-in-range : (ls : List LentCall) (n : ℕ) (z : Last) (c : Core) → Valid (c .settings .last) → All SetInRange (lentFrom n z c ls)
+unfolding lentFrom afterOf
+set-in-range [] n z c l = tt
+set-in-range (x ∷ xs) n z c l = (λ w t. l, set-in-range xs _ _ _ (set-so (panelOf c (x .code) (x .vals)) l (x .call) .1))
+
+-- nothing sounds of a core that has ended
+module _ (settings : ℕ → Settings) (m : Transition Core) (e : AsEnded m) where
+  abbrev Quiet : After Core → Type 0
+  Quiet a = isZero (a .answers) ≡ true → (All (Within (settings (m .cycles) .ceiling)) (a .buffers .block)) × (numbered (m .call) ≡ true → ⊥)
+
+  quiet-burst : (bytes area : List ℕ) → numbered (m .call) ≡ false → (b : Burst) → Quiet (endedBurst (m .before) bytes area b)
+  quiet-burst bytes area w (fault a) = λ t. (tt, λ v. false≢true (sym w ∙ v))
+  quiet-burst bytes area w (units us) =
+      either-way Quiet (leb (length us) (length area)) (λ t. (tt, λ v. false≢true (sym w ∙ v))) (λ t. (tt, λ v. false≢true (sym w ∙ v)))
+
+  quiet : (c : Call) → m .call ≡ c → Quiet (endedAfter (m .before) c)
+  quiet (submit d b) q = λ t. absurd (false≢true t)
+  quiet (burst bytes area) q = quiet-burst bytes area (ap numbered q) (burstOf bytes)
+  quiet (keyboard b) q = λ t. absurd (false≢true t)
+  quiet (cycle b) q =
+      either-way (λ (n : ℕ). eqb n 0 ≡ true → (All (Within (settings (m .cycles) .ceiling)) b) × (numbered (m .call) ≡ true → ⊥)) (numbered (cycle b))
+      (λ t. absurd (false≢true t)) (λ t. absurd (false≢true t))
+  quiet (change area handed) q = λ t. absurd (false≢true t)
+  quiet (undo area) q = λ t. absurd (false≢true t)
+
+  ended-within : WithinCeiling settings m × SetInRange m
+  ended-within = let x = subst⁻¹ Quiet e (quiet (m .call) refl) in ((λ t. x t .0), λ w t. absurd (x t .1 w))
+
+both : (P Q : Transition Core → Type 0) (ms : List (Transition Core)) → All P ms → All Q ms → All (λ (m : Transition Core). P m × Q m) ms
+both P Q [] p q = tt
+both P Q (m ∷ ms) p q = ((p .0, q .0), both P Q ms (p .1) (q .1))
+
 pub core-ceiling-binds : CoreCeilingBinds
-unfolding CoreCeilingBinds
-core-ceiling-binds u is g c code vals e ls =
-    let q : c .settings ≡ fresh u .core .settings = ap (λ (p : Panel). p .core .settings) e in
-    bound-within (u .chosen) (firstInUse u) (lentFrom 0 none c ls) (core-counted ls 0 none c)
-    (subst (λ (x : InUse). AllBound x (lentFrom 0 none c ls)) (q ∙ ap (λ (h : History VoiceState). h .set) (fresh-own u is g))
-    (core-bound ls 0 none c (subst⁻¹ (λ (x : InUse). Valid (x .last)) q (fresh-invariant u is g .valid))))
+unfolding CoreCeilingBinds CoreStaysEnded freshOf
+core-ceiling-binds u ls = go (start-kind u)
+  where
+    c : Core
+    c = fresh u .core
+
+    ms : List (Transition Core)
+    ms = lentFrom 0 none c ls
+
+    go : Kind u (startingOf (u .orchestra) (u .area) (u .first) (u .chosen)) → All (λ (m : Transition Core). WithinCeiling (settings u ms) m × SetInRange m) ms
+    go (no-start e) = all-map AsEnded (λ (m : Transition Core). WithinCeiling (settings u ms) m × SetInRange m) (ended-within (settings u ms)) ms (core-stays-ended c e ls)
+    go (starts e v) =
+        let l : Valid (c .settings .last) = subst⁻¹ (λ (x : InUse). Valid (x .last)) e v in
+        both (WithinCeiling (settings u ms)) SetInRange ms
+        (bound-within (u .chosen) (firstInUse u) ms (core-counted ls 0 none c) (subst (λ (x : InUse). AllBound x ms) e (core-bound ls 0 none c l)))
+        (set-in-range ls 0 none c l)
 
 -- ---- the panel in two
 
 module _ (code : List ℕ) (vals : List Float) where
-  along : (cs : List Call) (n : ℕ) (z : Last) (c : Core) → traceFrom (core code vals) n z c cs ≡ each transitionOnCore (traceFrom panel n z (panelOf c code vals) cs)
-  unfolding traceFrom each afterOf
+  along : (cs : List Call) (n : ℕ) (z : Last) (c : Core) → lentFrom n z c (lentOwn (panelOf c code vals) cs) ≡ each transitionOnCore (traceFrom panel n z (panelOf c code vals) cs)
+  unfolding lentFrom traceFrom each afterOf
   along [] n z c = refl
   along (call ∷ cs) n z c =
       let m = transitionOf (core code vals) n z c call in

@@ -4,11 +4,11 @@ use mathlib.Core.Bool.{Bool, true, false, not, cond, true≢false}
 use mathlib.Core.List.{List, [], _∷_}
 use Prim.Native.Nat.{ℕ, _≤_}
 use native.Mathlib.Omega.{arith}
-use lib.IntN.{ℤ}
 use lib.ListN.{length}
-use lib.Dec.{leb, ltb, eqb}
-use borrow.Author.Tests.{leb-true, leb-false, ltb-true, ltb-false, eqb-true, eqb-false}
+use lib.Dec.{ltb, eqb}
+use borrow.Author.Tests.{ltb-true, ltb-false, eqb-true, eqb-false}
 use Rattle.settings_records.specs.Form as settings
+use Rattle.settings_records.specs.Form.{Valid}
 use Rattle.settings_records.specs.inside.Reading.{foundIn, walked}
 use Rattle.settings_records.specs.Changes.{areaBytes, noneInUse, laidAt, changeOf}
 use Rattle.settings_records.specs.declared.Found.{Found}
@@ -19,10 +19,10 @@ use Rattle.settings_records.proofs.Walk.{found-fits}
 use Rattle.settings_records.proofs.Changing.{change-joins, other-length, left-over, new-fault}
 use Rattle.settings_records.proofs.Meaning.{every-record, one-meaning as read-meaning}
 use Rattle.settings_records.proofs.Stack.{changed-taken}
-use Rattle.settings_records.proofs.Sets.{change-sets}
+use Rattle.settings_records.proofs.Sets.{change-sets, change-valid}
 use Rattle.player_model.specs.Set.{startingTempo}
 use Rattle.base_answer.specs.Numbers.{numberOf, isTaken}
-use Rattle.base_answer.specs.declared.Answer.the-variants.{Taken, CutShort, OutOfRange, LeftOver, UnknownVersion, Ended, NoInstrument}
+use Rattle.base_answer.specs.declared.Answer.the-variants.{Taken, CutShort, OutOfRange, LeftOver, UnknownVersion, NoInstrument}
 use Rattle.base_answer.specs.declared.Answer.{Answer}
 use Rattle.orchestra_tokens.specs.declared.Token.{Token}
 use Rattle.orchestra_tokens.specs.Encoding.{Bytes}
@@ -37,32 +37,24 @@ use Rattle.orchestra_reader.specs.inside.Reading.{readOf}
 use Rattle.orchestra_reader.specs.declared.OrchestraRead.{OrchestraRead}
 use Rattle.orchestra_reader.specs.Verdict as orchestra
 use Rattle.orchestra_reader.proofs.Verdict.{every-verdict}
-use Rattle.score_bursts.specs.Bursts.{Burst, units, fault}
-use Rattle.score_bursts.specs.inside.Reading.{burstOf}
-use Rattle.entrance_admission.specs.Submission.{submittedIn}
-use Rattle.player_model.specs.Lists.{All, each, Some}
-use Rattle.player_model.proofs.Lists.{by-test, either-way, cond-true, cond-false}
+use Rattle.score_bursts.specs.Bursts.{fault}
+use Rattle.player_model.specs.Lists.{each, Some}
+use Rattle.player_model.proofs.Lists.{by-test, cond-true, cond-false}
 use Rattle.code_loader.specs.Loading.{loadOf}
 use Rattle.code_loader_claims.specs.Claims.{StandsFor}
 use Rattle.code_loader_claims.proofs.Loaded.{loaded, taken-only}
 use Rattle.midi_queue.specs.Keyboard.{noMessages}
-use Rattle.player_calls.specs.OnState as onState
-use Rattle.player_calls.specs.OnState.{keyboardCallOf}
 use Rattle.panel.specs.Display.{Display, displayOf}
 use Rattle.panel.specs.State.{panelAt, playerStateOf}
 use Rattle.player_start.specs.Starting.{hasChosen, startOf, refusedStart, startingOf, areaStarted}
 use Rattle.player_start.specs.declared.Start.{Start}
-use Rattle.panel.specs.Calls.{freshOf, submittedOf, submitOf, playKeysOf, changedIn, areaIn, undoneIn, undoOf}
-use Rattle.panel.specs.Calls as calls
-use Rattle.panel.specs.declared.Panel.{Panel}
-use Rattle.panel.specs.declared.EntranceResult.{EntranceResult}
+use Rattle.panel.specs.Calls.{freshOf}
 use Rattle.player_model.specs.Plain.{plainStart}
-use Rattle.player_model.specs.Calls.{unit, Call, submit, burst, keyboard, cycle, change, undo, After, Last, none as none-yet, traceFrom}
+use Rattle.player_model.specs.Calls.{none as none-yet}
 use Rattle.panel_claims.specs.Fresh.{Setup, Check, First, fails, holds, all, Tokens, Tree, checks, orchestraChecks}
-use Rattle.panel_claims.specs.Claims.{coreAfter, afterOf, panel, firstInUse, freshBy, areaBy, Begun, endedBurst, endedAfter, AsEnded, nothing, FreshVerdict}
-use Rattle.panel_claims.proofs.Bursts.{at-unit, Singly, singly, left, left-is, left-fault, left-short, left-taken}
-use Rattle.panel_claims.proofs.Cycles.{Cycles, off, over-before, ends, plays, cycles}
+use Rattle.panel_claims.specs.Claims.{panel, firstInUse, freshBy, areaBy, Begun, nothing, FreshVerdict}
 use Rattle.panel_claims.proofs.Settings.{laid-there}
+use Rattle.panel_claims.proofs.Ended.{all-ended}
 use Rattle.panel_claims.proofs.Starts.{content-small, whole-taken}
 use Rattle.panel_claims.proofs.Answers.{change-number}
 use Rattle.panel_claims.proofs.Chosen.{chosen-there, there-chosen}
@@ -151,77 +143,6 @@ module _ (u : Setup) (law : Passed u) where
       by-tree is a
       (fails (λ (x : Tree bs (λ js. Some (λ (i : Instrument). i .name ≡ u .chosen) js)).
       n (subst (Some (λ (i : Instrument). i .name ≡ u .chosen)) (unique (x .3) (a .derived) (one-decoding bs (x .0) (a .tokens) (x .2) (a .sized .encodes))) (x .4))))
-
--- a unit on a panel that has ended
-unit-over : (p : Panel) (u : List ℕ) → p .core .state .playing .ended ≡ true → at-unit p u ≡ record { panel = p; answer = Ended; line = 0 }
-unfolding submitOf submittedOf onState.submittedOf submittedIn
-unit-over p u e = rw e
-
--- a burst on a panel that has ended: each unit answers 9
-units-over : (us : List (List ℕ)) (p : Panel) → p .core .state .playing .ended ≡ true → singly p us ≡ record { panel = p; numbers = each {B = ℕ} (λ (u : List ℕ). 9) us }
-unfolding singly each
-units-over [] p e = refl
-units-over (u ∷ us) p e =
-    ap (λ (r : EntranceResult). record { panel = singly (r .panel) us .panel; numbers = numberOf (r .answer) ∷ singly (r .panel) us .numbers }) (unit-over p u e)
-    ∙ ap (λ (x : Singly). record { panel = x .panel; numbers = 9 ∷ x .numbers }) (units-over us p e)
-
-burst-ended : (p : Panel) (bytes area : List ℕ) → p .core .state .playing .ended ≡ true → afterOf p (burst bytes area) ≡ endedAfter p (burst bytes area)
-burst-ended p bytes area e = left-is p bytes area (burstOf bytes) refl ∙ by-burst (burstOf bytes)
-  where
-    by-burst : (b : Burst) → left p area b ≡ endedBurst p bytes area b
-    by-burst (fault a) = left-fault p bytes area a
-    by-burst (units us) =
-        by-test (leb (length us) (length area))
-        (λ q. rw q (left-taken p area us (leb-true (length us) (length area) q) ∙ rw (units-over us p e)))
-        (λ q. rw q (left-short p area us bytes (leb-false (length us) (length area) q)))
-
-cycle-ended : (p : Panel) (b : List ℤ) → p .core .state .playing .ended ≡ true → afterOf p (cycle b) ≡ endedAfter p (cycle b)
-cycle-ended p b e = go (cycles p b)
-  where
-    go : Cycles p b (afterOf p (cycle b)) → afterOf p (cycle b) ≡ endedAfter p (cycle b)
-    go (off w x) = rw w x
-    go (over-before w f x) = rw w x
-    go (ends w f d x) = absurd (true≢false (sym e ∙ f))
-    go (plays w f d x) = absurd (true≢false (sym e ∙ f))
-
--- a change or an undo on a panel that has ended
-change-over : (p : Panel) (area handed : List ℕ) → p .core .state .playing .ended ≡ true → afterOf p (change area handed) ≡ endedAfter p (change area handed)
-unfolding afterOf coreAfter calls.changeOf changedIn areaIn
-change-over p area handed e = rw e
-
-undo-over : (p : Panel) (area : List ℕ) → p .core .state .playing .ended ≡ true → afterOf p (undo area) ≡ endedAfter p (undo area)
-unfolding afterOf coreAfter undoOf undoneIn
-undo-over p area e = rw e
-
--- a panel that has ended
-ended-after : (p : Panel) (c : Call) → p .core .state .playing .ended ≡ true → afterOf p c ≡ endedAfter p c
-unfolding afterOf coreAfter submitOf submittedOf onState.submittedOf submittedIn playKeysOf keyboardCallOf
-ended-after p (submit d b) e = rw e
-ended-after p (burst bytes area) e = burst-ended p bytes area e
-ended-after p (keyboard b) e = rw e
-ended-after p (cycle b) e = cycle-ended p b e
-ended-after p (change area handed) e = change-over p area handed e
-ended-after p (undo area) e = undo-over p area e
-
-all-ended : (cs : List Call) (k : ℕ) (z : Last) (p : Panel) → p .core .state .playing .ended ≡ true → All AsEnded (traceFrom panel k z p cs)
-unfolding traceFrom
-all-ended [] k z p e = tt
-all-ended (c ∷ cs) k z p e = (
-  ended-after p c e,
-  all-ended cs _ _ (afterOf p c .player) (ap (λ (a : After Panel). a .player .core .state .playing .ended) (ended-after p c e) ∙ still c),
-)
-  where
-    by-burst : (bytes area : List ℕ) (b : Burst) → endedBurst p bytes area b .player .core .state .playing .ended ≡ true
-    by-burst bytes area (units us) = either-way (λ (a : After Panel). a .player .core .state .playing .ended ≡ true) (leb (length us) (length area)) e e
-    by-burst bytes area (fault a) = e
-
-    still : (c : Call) → endedAfter p c .player .core .state .playing .ended ≡ true
-    still (submit d b) = e
-    still (burst bytes area) = by-burst bytes area (burstOf bytes)
-    still (keyboard b) = e
-    still (cycle b) = e
-    still (change area handed) = e
-    still (undo area) = e
 
 -- ---- the two kinds of start
 
@@ -410,6 +331,21 @@ module _ (u : Setup) (bytes : Bytes (u .orchestra)) where
   kinds : Kinds (startingOf (u .orchestra) (u .area) (u .first) (u .chosen))
   unfolding startingOf out
   kinds = kinds-is (isTaken (first-of u .answer)) (isTaken (loadOf os .answer)) (hasChosen (loadOf os .program) (u .chosen)) refl refl refl
+
+-- a start has ended, or its settings are those of the first record, which is valid
+pub data Kind (u : Setup) (s : Start) : Type 0 where
+  no-start : s .state .playing .ended ≡ true → Kind u s
+  starts : s .settings ≡ firstInUse u → Valid (firstInUse u .last) → Kind u s
+
+pub start-kind : (u : Setup) → Kind u (startingOf (u .orchestra) (u .area) (u .first) (u .chosen))
+unfolding startingOf out startOf
+start-kind u = go (isTaken (first-of u .answer)) (isTaken (loadOf (u .orchestra) .answer)) (hasChosen (loadOf (u .orchestra) .program) (u .chosen)) refl
+  where
+    go : (a t c : Bool) → isTaken (first-of u .answer) ≡ a → Kind u (out u a t c)
+    go true true true l = starts (change-sets noneInUse (u .area) (u .first) l) (change-valid noneInUse (u .area) (u .first) l)
+    go true true false l = no-start refl
+    go true false c l = no-start refl
+    go false t c l = no-start refl
 
 -- the lent area
 module _ (u : Setup) where

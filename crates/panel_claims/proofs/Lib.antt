@@ -15,9 +15,10 @@ pub mod Readings
 pub mod Decided
 pub mod Answers
 pub mod Written
+pub mod Verdicts
+pub mod Ended
+pub mod Fresh
 pub mod Ceiling
 pub mod Contracts
-pub mod Verdicts
-pub mod Fresh
 pub mod Standing
 pub mod Told

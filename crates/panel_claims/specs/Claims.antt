@@ -110,29 +110,30 @@ pub record Begun (u : Setup) (p : Panel) : Type 0 where
   pub holds : playerStateOf p ≡ plainStart (startingTempo (inUse 1 setting)) []
   pub reached : reachedOf p ≡ nowhere
 
--- what a refusal leaves: its number, and nothing changes
-abbrev pub unchanged : Panel → Call → ℕ → After Panel
-unchanged p c number = record { player = p; answers = one number 0; buffers = buffersOf c }
+module _ {P : Type 0} where
+  -- what a refusal leaves: its number, and nothing changes
+  abbrev pub unchanged : P → Call → ℕ → After P
+  unchanged p c number = record { player = p; answers = one number 0; buffers = buffersOf c }
 
--- what a burst leaves of a panel that has ended: each of its units answers 9
-abbrev pub endedBurst : Panel → List ℕ → List ℕ → Burst → After Panel
-endedBurst p bytes area (fault a) = unchanged p (burst bytes area) (numberOf a)
-endedBurst p bytes area (units us) =
-    let nines = each {B = ℕ} (λ (u : List ℕ). 9) us in
-    cond (leb (length us) (length area)) (record { player = p; answers = one 0 0 ++ each unitAnswer nines; buffers = onlyAnswers (over nines area) })
-    (unchanged p (burst bytes area) 8)
+  -- what a burst leaves of a player that has ended: each of its units answers 9
+  abbrev pub endedBurst : P → List ℕ → List ℕ → Burst → After P
+  endedBurst p bytes area (fault a) = unchanged p (burst bytes area) (numberOf a)
+  endedBurst p bytes area (units us) =
+      let nines = each {B = ℕ} (λ (u : List ℕ). 9) us in
+      cond (leb (length us) (length area)) (record { player = p; answers = one 0 0 ++ each unitAnswer nines; buffers = onlyAnswers (over nines area) })
+      (unchanged p (burst bytes area) 8)
 
--- what a call leaves of a panel that has ended: 9, or 10 for a block of another length, and nothing changes
-abbrev pub endedAfter : Panel → Call → After Panel
-endedAfter p (submit d b) = unchanged p (submit d b) 9
-endedAfter p (burst bytes area) = endedBurst p bytes area (burstOf bytes)
-endedAfter p (keyboard b) = unchanged p (keyboard b) 9
-endedAfter p (cycle b) = unchanged p (cycle b) (cond (numbered (cycle b)) 9 10)
-endedAfter p (change area handed) = unchanged p (change area handed) 9
-endedAfter p (undo area) = unchanged p (undo area) 9
+  -- what a call leaves of a player that has ended: 9, or 10 for a block of another length, and nothing changes
+  abbrev pub endedAfter : P → Call → After P
+  endedAfter p (submit d b) = unchanged p (submit d b) 9
+  endedAfter p (burst bytes area) = endedBurst p bytes area (burstOf bytes)
+  endedAfter p (keyboard b) = unchanged p (keyboard b) 9
+  endedAfter p (cycle b) = unchanged p (cycle b) (cond (numbered (cycle b)) 9 10)
+  endedAfter p (change area handed) = unchanged p (change area handed) 9
+  endedAfter p (undo area) = unchanged p (undo area) 9
 
-abbrev pub AsEnded : Transition Panel → Type 0
-AsEnded m = m .after ≡ endedAfter (m .before) (m .call)
+  abbrev pub AsEnded : Transition P → Type 0
+  AsEnded m = m .after ≡ endedAfter (m .before) (m .call)
 
 -- what the display tells of a panel that has ended before it began
 abbrev pub nothing : Display
@@ -245,6 +246,20 @@ pub record BurstCall (p : Panel) (bytes area : List ℕ) : Type 0 where
 
 unfoldable pub BurstAsUnits : Type 0
 BurstAsUnits = (p : Panel) (bytes area : List ℕ) → BurstCall p bytes area
+
+-- the number of answered units that a burst tells (`Contracts`: the `units` of its result)
+abbrev pub answeredUnits : Core → List ℕ → List ℕ → ℕ
+answeredUnits c bytes area = receiveOf c bytes (length area) .units
+
+-- as many as it has, and none at a refusal
+pub record UnitsTold (c : Core) (bytes area : List ℕ) : Type 0 where
+  pub cut : bursts.Parses mostUnits bytes (fault CutShort) → answeredUnits c bytes area ≡ 0
+  pub tooLong : bursts.Parses mostUnits bytes (fault TooManyValues) → answeredUnits c bytes area ≡ 0
+  pub noRoom : (us : List (List ℕ)) → bursts.Parses mostUnits bytes (units us) → length area < length us → answeredUnits c bytes area ≡ 0
+  pub taken : (us : List (List ℕ)) → bursts.Parses mostUnits bytes (units us) → length us ≤ length area → answeredUnits c bytes area ≡ length us
+
+unfoldable pub AnsweredUnits : Type 0
+AnsweredUnits = (c : Core) (bytes area : List ℕ) → UnitsTold c bytes area
 
 -- ---- (M-108) one door for single lines: a unit, a keypad line, a burst, a stick or a text
 

@@ -46,7 +46,7 @@ use Rattle.panel.proofs.Panel.records_in_use.Reads as panel-records-in-use
 use Rattle.panel.proofs.Panel.fresh.Reads as panel-fresh
 use Rattle.panel.proofs.Panel.split.Reads as panel-split
 use Rattle.panel_claims.specs.Fresh.{Setup}
-use Rattle.panel_claims.specs.Claims.{withAnswer, withAnswers, coreAfter, afterOf, freshBy, areaBy}
+use Rattle.panel_claims.specs.Claims.{withAnswer, withAnswers, coreAfter, afterOf, freshBy, areaBy, answeredUnits}
 
 -- whoever calls the function learns this of the arguments, the result and the arguments at the end
 abbrev pub Tells : {K : Type 0} {A B C : K → Type 0} → ((κ : K) → A κ → B κ → C κ → Type 0) → ((κ : K) → A κ → B κ → C κ → Type 0) → Type 0
@@ -62,7 +62,8 @@ pub record CoreByContract : Type 0 where
   pub enter-line : Tells core-enter-line.Learnt (λ κ a r e. Leaves (a .0) (submit keypad (now (a .1 .0))) (withAnswer (r .core) (r .answer) (r .line) noBuffers))
   pub load-text : Tells core-load-text.Learnt (λ κ a r e. Leaves (a .0) (submit text (now (a .1 .0))) (withAnswer (r .core) (r .answer) (r .line) noBuffers))
   pub receive-burst : Tells core-receive-burst.Learnt
-      (λ κ a r e. Leaves (a .0) (burst (now (a .1 .0)) (now (a .1 .1 .0))) (withAnswers (r .core) (r .answer) (r .units) (now (e .1 .1 .0))))
+      (λ κ a r e. Leaves (a .0) (burst (now (a .1 .0)) (now (a .1 .1 .0))) (withAnswers (r .core) (r .answer) (r .units) (now (e .1 .1 .0)))
+      × (r .units ≡ answeredUnits (a .0) (now (a .1 .0)) (now (a .1 .1 .0))))
   pub play-keys : Tells core-play-keys.Learnt (λ κ a r e. Leaves (a .0) (keyboard (now (a .1 .0))) (withAnswer (r .core) (r .answer) 0 noBuffers))
   pub change : Tells core-change.Learnt
       (λ κ a r e. Leaves (a .0) (change (now (a .1 .0)) (now (a .1 .1 .0))) (withAnswer (r .core) (r .answer) 0 (onlySettings (now (e .1 .0)))))
@@ -84,7 +85,8 @@ pub record PanelByContract : Type 0 where
   pub enter-line : Tells panel-enter-line.Learnt (λ κ a r e. afterOf (a .0) (submit keypad (now (a .1 .0))) ≡ withAnswer (r .panel) (r .answer) (r .line) noBuffers)
   pub load-text : Tells panel-load-text.Learnt (λ κ a r e. afterOf (a .0) (submit text (now (a .1 .0))) ≡ withAnswer (r .panel) (r .answer) (r .line) noBuffers)
   pub receive-burst : Tells panel-receive-burst.Learnt
-      (λ κ a r e. afterOf (a .0) (burst (now (a .1 .0)) (now (a .1 .1 .0))) ≡ withAnswers (r .panel) (r .answer) (r .units) (now (e .1 .1 .0)))
+      (λ κ a r e. (afterOf (a .0) (burst (now (a .1 .0)) (now (a .1 .1 .0))) ≡ withAnswers (r .panel) (r .answer) (r .units) (now (e .1 .1 .0)))
+      × (r .units ≡ answeredUnits (a .0 .core) (now (a .1 .0)) (now (a .1 .1 .0))))
   pub play-keys : Tells panel-play-keys.Learnt (λ κ a r e. afterOf (a .0) (keyboard (now (a .1 .0))) ≡ withAnswer (r .panel) (r .answer) 0 noBuffers)
   pub change : Tells panel-change.Learnt
       (λ κ a r e. afterOf (a .0) (change (now (a .1 .0)) (now (a .1 .1 .0))) ≡ withAnswer (r .panel) (r .answer) 0 (onlySettings (now (e .1 .0))))
