@@ -1,10 +1,16 @@
 -- The order of lines of different times does not matter.
 use mathlib.Core.Path.{_≡_, refl, sym, ap, _∙_}
-use mathlib.Core.Bool.{Bool, true, false, not}
+use mathlib.Core.Bool.{Bool, true, false, not, true≢false}
 use mathlib.Core.List.{List, [], _∷_}
 use Prim.Native.Nat.{ℕ, suc, _+_, _≤_}
 use lib.ListN.{length}
 use native.Mathlib.Omega.{arith}
+use native.Mathlib.Nat.{le-antisymm}
+use lib.Ieee.{Float, eq, le}
+use Rattle.base_timebase.specs.Time.{latest, ticksIn}
+use Rattle.base_timebase.proofs.Order.{le-trans}
+use Rattle.base_timebase.proofs.RangesAndTicks.{ticks-grow}
+use Rattle.base_timebase.proofs.Pattern.{too-late}
 use Rattle.score_line.specs.declared.When.{When}
 use Rattle.score_line.specs.declared.Line.{Line}
 use Rattle.player_model.specs.Lists.{filter, fold, All}
@@ -16,7 +22,7 @@ use Rattle.player_model.proofs.Lists.{by-test, fold-keeps, all-filter}
 use Rattle.player_model.proofs.Count.{length-insert, all-insert}
 use Rattle.player_model.proofs.Order.{due-order}
 use Rattle.player_order.specs.Order.{AllNumbers, SameByTime, OrderOfTimes}
-use Rattle.player_order.proofs.OneOrder.{alike}
+use Rattle.player_order.proofs.OneOrder.{alike, eq-le, eq-back}
 use Rattle.player_order.proofs.Waits.{Related, go-alike}
 
 -- two tests, one after the other, in either order
@@ -74,3 +80,12 @@ order-of-times S v start settings xs ys m n h k =
           let q = alike-filter f a b r in same-ordered (filter f a) (filter f b) (q .left) (q .right) (q .same);
       rest = λ j u a b r. alike-filter (λ (l : Line). not (isDue (plainAt v start settings ys j .plays .position) l)) a b r;
     })
+
+-- the same exact time, the same ticks
+pub eq-ticks : (x y : Float) → eq x y ≡ true → ticksIn x ≡ ticksIn y
+eq-ticks x y e =
+    let f = eq-le x y e in
+    let b = eq-back x y e in
+    by-test (le x latest)
+    (λ h. le-antisymm (ticks-grow x y f (le-trans y x latest b h)) (ticks-grow y x b h))
+    (λ h. sym (too-late x h) ∙ too-late y (by-test (le y latest) (λ k. absurd (true≢false (sym (le-trans x y latest f k) ∙ h))) (λ k. k)))
