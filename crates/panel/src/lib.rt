@@ -296,18 +296,6 @@ impl Core {
     {
         self.settings.count
     }
-
-    pub fn has_ended(self) -> bool
-        ensures { λ r. ⌜ r ≡ self .state .playing .ended ⌝ }
-    {
-        self.state.playing.ended
-    }
-
-    pub fn position_in_ticks(self) -> u64
-        ensures { λ r. ⌜ r ≡ self .state .playing .position ⌝ }
-    {
-        self.state.playing.position
-    }
 }
 
 // A panel with its core as a call has left it.

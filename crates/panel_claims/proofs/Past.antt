@@ -241,12 +241,12 @@ module _ (program : Program) (chosen : ℕ) (is : List Instrument) (r : StandsFo
   -- ---- one call
 
   module _ (n : ℕ) (z : Last) (p : Panel) where
-    record Step (c : Call) : Type 0 where
-      invariant : Invariant (afterOf p c .player)
-      next : own (afterOf p c .player) ≡ withTransition w chosen (own p) (transitionOf panel n z p c)
-      answer : numbered c ≡ true → afterOf p c .answers ≡ one (answerOf (playerStateOf p)) 0
-      block : isZero (afterOf p c .answers) ≡ true → numbered c ≡ true → afterOf p c .buffers .block ≡ blockOf w (s (p .core .settings)) (dueOf (playerStateOf p)) (playerStateOf p .plays)
-      over : playerStateOf p .plays .ended ≡ true → takenOf (linesOf c) (afterOf p c .answers) ≡ []
+    pub record Step (c : Call) : Type 0 where
+      pub invariant : Invariant (afterOf p c .player)
+      pub next : own (afterOf p c .player) ≡ withTransition w chosen (own p) (transitionOf panel n z p c)
+      pub answer : numbered c ≡ true → afterOf p c .answers ≡ one (answerOf (playerStateOf p)) 0
+      pub block : isZero (afterOf p c .answers) ≡ true → numbered c ≡ true → afterOf p c .buffers .block ≡ blockOf w (s (p .core .settings)) (dueOf (playerStateOf p)) (playerStateOf p .plays)
+      pub over : playerStateOf p .plays .ended ≡ true → takenOf (linesOf c) (afterOf p c .answers) ≡ []
 
     module _ (k : Invariant p) where
       -- what the history says of a call with these answers
@@ -373,7 +373,7 @@ module _ (program : Program) (chosen : ℕ) (is : List Instrument) (r : StandsFo
       no-message : (b : Bool) → _≡_ {A = List NoteMessage} (cond b [] []) []
       no-message b = either-way (λ (x : List NoteMessage). x ≡ []) b refl refl
 
-      step : (c : Call) → Step c
+      pub step : (c : Call) → Step c
       step (change area handed) = setting-step (change area handed) refl no-line no-message (changes p area handed)
       step (undo area) = setting-step (undo area) refl no-line no-message (undoes p area)
       step (submit d handed) = entrance-step d handed

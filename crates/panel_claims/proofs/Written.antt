@@ -58,7 +58,7 @@ module _ (is : List Instrument) where
   abbrev AllTakable : List Line → Type 0
   AllTakable ls = All (λ (l : Line). written.Fits is l (l .event)) ls
 
-  event-fits : (l : Line) (e : Event) → Playable is (l .count) e → ranged e → written.Fits is l e
+  pub event-fits : (l : Line) (e : Event) → Playable is (l .count) e → ranged e → written.Fits is l e
   event-fits l (Instr label name d) h r = omega (arith, enough-fields h, length-take (l .count) (l .values))
   event-fits l (Control label x y) h r = r
   event-fits l End h r = tt
@@ -191,7 +191,7 @@ module _ (is : List Instrument) (start : Float) (s : ℕ → Settings) (ls : Lis
   timely : (m : Transition Panel) → InTime panel (writtenVoices is) start s ls m → InTime panel (treeVoices is) start s ls m
   timely m h = all-map (inTime panel (writtenVoices is) start s ls (m .last)) (inTime panel (treeVoices is) start s ls (m .last)) (line-timely (m .last)) (takenIn m) h
 
-  as-written : (m : Transition Panel) → AsPlain panel (treeVoices is) start s ls m → AsPlain panel (writtenVoices is) start s ls m
+  pub as-written : (m : Transition Panel) → AsPlain panel (treeVoices is) start s ls m → AsPlain panel (writtenVoices is) start s ls m
   as-written m a =
       record {
         answer = λ q. a .answer q ∙ ap (λ (y : ℕ). one y 0) (w (m .cycles) .answers);

@@ -132,7 +132,7 @@ related is e =
           c .1 ∙ ap (λ (j : ℕ). cycle (instrumentOf is j) (t .memory) mix .mix) (h .instrument);
     }
 
-named-related : (is : List Instrument) → nameRules is ≡ true → Related (HeldAs is) (Fits is) (treeVoices is) (writtenVoices is)
+pub named-related : (is : List Instrument) → nameRules is ≡ true → Related (HeldAs is) (Fits is) (treeVoices is) (writtenVoices is)
 named-related is e =
     related is (both-true (distinct (map titleOf is)) (allObeyNameRules is) (both-true (leb (length is) 8) (distinct (map titleOf is) && allObeyNameRules is) e .1) .1)
 

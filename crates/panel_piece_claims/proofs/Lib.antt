@@ -1,0 +1,6 @@
+pub mod Ordering
+pub mod Feeding
+pub mod Whole
+pub mod Playing
+pub mod ByCode
+pub mod Core
