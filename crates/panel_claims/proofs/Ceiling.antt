@@ -199,7 +199,7 @@ core-ceiling-binds u ls = go (start-kind u)
 -- ---- the panel in two
 
 module _ (code : List ℕ) (vals : List Float) where
-  pub along : (cs : List Call) (n : ℕ) (z : Last) (c : Core) → lentFrom n z c (lentOwn (panelOf c code vals) cs) ≡ each transitionOnCore (traceFrom panel n z (panelOf c code vals) cs)
+  along : (cs : List Call) (n : ℕ) (z : Last) (c : Core) → lentFrom n z c (lentOwn (panelOf c code vals) cs) ≡ each transitionOnCore (traceFrom panel n z (panelOf c code vals) cs)
   unfolding lentFrom traceFrom each afterOf
   along [] n z c = refl
   along (call ∷ cs) n z c =

@@ -11,10 +11,9 @@ use Rattle.base_answer.specs.declared.Answer.{Answer}
 use Rattle.base_answer.specs.declared.Answer.the-variants.{Taken}
 use Rattle.score_line_writer.specs.Writing.{lineWords}
 use Rattle.player_model.specs.Calls.{keypad}
-use Rattle.panel.specs.State.{playerStateOf}
+use Rattle.panel.specs.State.{playerStateOf, panelOf, withCore}
 use Rattle.panel.specs.declared.Panel.{Panel}
 use Rattle.panel.specs.declared.Core.{Core}
-use Rattle.panel.specs.Core.{panelOf}
 use Rattle.panel.specs.Calls.{submitOf}
 use Rattle.panel_feeder.specs.Order.{numberIn, ticksInRank, lineIn}
 use Rattle.panel_feeder.specs.declared.Handed.{Handed}
@@ -32,7 +31,7 @@ pub record PanelHanded : Type 0 where
 unfoldable pub handedOf : List ℕ → ℕ → ℕ → Panel → PanelHanded
 handedOf area position rank p =
     cond (leb (ticksInRank rank) position)
-    (let r = submitOf p keypad (lineWords (lineIn area (numberIn rank))) in record { panel = r .panel; answer = r .answer; more = isTaken (r .answer) })
+    (let r = submitOf (p .core) keypad (lineWords (lineIn area (numberIn rank))) in record { panel = withCore p (r .core); answer = r .answer; more = isTaken (r .answer) })
     (record { panel = p; answer = Taken; more = false })
 
 -- ---- all lines that are due

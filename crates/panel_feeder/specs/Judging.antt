@@ -17,13 +17,13 @@ use Rattle.player_model.specs.Lists.{over}
 use Rattle.player_model.specs.Calls.{keypad, hasTime}
 use Rattle.panel.specs.declared.Panel.{Panel}
 use Rattle.panel.specs.declared.Core.{Core}
-use Rattle.panel.specs.Core.{panelOf}
+use Rattle.panel.specs.State.{panelOf}
 use Rattle.panel.specs.Calls.{submitOf}
 use Rattle.panel_feeder.specs.Order.{lineIn, orderOf}
 
 -- the answer to one line: 6 where it has no time, else the panel's, were it to come alone
 unfoldable pub answerTo : List ℕ → ℕ → Panel → Answer
-answerTo area i p = cond (hasTime (lineIn area i .when)) (submitOf p keypad (lineWords (lineIn area i)) .answer) NoTime
+answerTo area i p = cond (hasTime (lineIn area i .when)) (submitOf (p .core) keypad (lineWords (lineIn area i)) .answer) NoTime
 
 -- the first of n lines from number i on that is not taken, its answer with its number
 unfoldable pub firstRefused : List ℕ → ℕ → ℕ → Panel → ScoreRead

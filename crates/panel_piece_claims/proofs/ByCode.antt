@@ -94,11 +94,11 @@ firstNumber [] = 0
 firstNumber (a ∷ given) = a .number
 
 module _ (u : Setup) (is : List Instrument) (g : Given u is) where
-  answers-four : (l : Line) → afterOf (fresh u) (handing l) .answers ≡ one 4 0 → isTaken (submitOf (fresh u) keypad (lineWords l) .answer) ≡ false
+  answers-four : (l : Line) → afterOf (fresh u) (handing l) .answers ≡ one 4 0 → isTaken (submitOf (fresh u .core) keypad (lineWords l) .answer) ≡ false
   unfolding afterOf firstNumber
   answers-four l e = ap (λ (given : List Answer). eqb (firstNumber given) 0) e
 
-  fresh-takes : (l : Line) → T (valid l) → isTaken (submitOf (fresh u) keypad (lineWords l) .answer) ≡ true → Playable is (l .count) (l .event)
+  fresh-takes : (l : Line) → T (valid l) → isTaken (submitOf (fresh u .core) keypad (lineWords l) .answer) ≡ true → Playable is (l .count) (l .event)
   unfolding plainStart
   fresh-takes l ok h = go (event-judged is (l .count) (l .event))
     where

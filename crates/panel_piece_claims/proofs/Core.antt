@@ -8,20 +8,25 @@ use lib.Ieee.{Float}
 use lib.ListN.{drop}
 use Rattle.score_line_writer.specs.Writing.{lineWords}
 use Rattle.player_model.specs.Lists.{each}
-use Rattle.player_model.specs.Calls.{keypad, Call, submit, cycle, Last, none, Transition, cyclesWith, lastWith, transitionOf, traceFrom, afterAll}
+use Rattle.player_model.specs.Calls.{keypad, Call, submit, cycle, Last, none, After, Transition, cyclesWith, lastWith, transitionOf, traceFrom, afterAll}
 use Rattle.player_model.proofs.Lists.{by-test, either-way, cond-true, cond-false}
 use Rattle.note_pool.proofs.Steps.{each-append}
-use Rattle.panel.specs.State.{playerStateOf}
-use Rattle.panel.specs.Core.{panelOf}
+use Rattle.panel.specs.State.{playerStateOf, panelOf}
 use Rattle.panel.specs.declared.Panel.{Panel}
 use Rattle.panel.specs.declared.Core.{Core}
 use Rattle.panel_claims.specs.Claims.{afterOf, panel}
-use Rattle.panel_claims.specs.Core.{coreOf, onCore, core, transitionOnCore, GoesAsPanel, CoreAsPanel}
-use Rattle.panel_claims.proofs.Ceiling.{along, core-as-panel}
+use Rattle.panel_claims.specs.Core.{core, transitionOnCore, GoesAsPanel, CoreAsPanel}
+use Rattle.panel_claims.proofs.Ceiling.{core-as-panel}
 use Rattle.panel_feeder.specs.Order.{numberIn, lineIn, ticksInRank, orderOf}
 use Rattle.panel_feeder.specs.Feeding.{PanelHanded, handedOf, Feeds, fedFrom, fedOf}
 use Rattle.panel_piece_claims.specs.Playing.{Round, Seen, PlayedTo, performance, playedTo, feeder}
 use Rattle.panel_piece_claims.specs.Core.{coreFeeder, FeedByContract, seenOnCore, PlaysAsPanel, CoreFedAsPanel}
+
+abbrev coreOf : Panel → Core
+coreOf p = p .core
+
+abbrev onCore : After Panel → After Core
+onCore a = record { player = a .player .core; answers = a .answers; buffers = a .buffers }
 
 pub feed-by-contract : FeedByContract
 unfolding FeedByContract
@@ -29,6 +34,13 @@ feed-by-contract c code vals area n at r e =
     ap (λ (f : Feeds Panel). record { player = coreOf (f .player); answer = f .answer; line = f .line; at = f .at }) (sym (e code vals))
 
 module _ (code : List ℕ) (vals : List Float) where
+  along : (cs : List Call) (n : ℕ) (z : Last) (c : Core) → traceFrom (core code vals) n z c cs ≡ each transitionOnCore (traceFrom panel n z (panelOf c code vals) cs)
+  unfolding traceFrom each afterOf
+  along [] n z c = refl
+  along (call ∷ cs) n z c =
+      let m = transitionOf (core code vals) n z c call in
+      ap (λ (ms : List (Transition Core)). m ∷ ms) (along cs (cyclesWith m) (lastWith m) (m .after .player))
+
   goes : (p : Panel) (c : Core) → panelOf c code vals ≡ p → (cs : List Call) → GoesAsPanel p c code vals cs
   unfolding CoreAsPanel
   goes p c e cs = core-as-panel p c code vals e cs
@@ -91,7 +103,7 @@ module _ (code : List ℕ) (vals : List Float) where
           ≡ each transitionOnCore (traceFrom panel k z p (r .before) ++ (transitionOf panel k z q (cycle (r .block)) ∷ []))
       unfolding each
       calls-same k z =
-          (λ i. (along code vals (r .before) k z c ∙ ap (λ (x : Panel). each transitionOnCore (traceFrom panel k z x (r .before))) e) i ++ (cycle-same k z i ∷ []))
+          (λ i. (along (r .before) k z c ∙ ap (λ (x : Panel). each transitionOnCore (traceFrom panel k z x (r .before))) e) i ++ (cycle-same k z i ∷ []))
           ∙ sym (each-append transitionOnCore (traceFrom panel k z p (r .before)) (transitionOf panel k z q (cycle (r .block)) ∷ []))
 
     seen-same : (rs : List Round) (k : ℕ) (z : Last) (p : Panel) (c : Core) → panelOf c code vals ≡ p → (at : ℕ)

@@ -29,7 +29,7 @@ use Rattle.player_model.specs.Set.{inForce}
 use Rattle.player_model.specs.History.{Reached, History}
 use Rattle.player_model.proofs.Lists.{by-test, cond-true, cond-false, all-map, all-filter, all-append, filter-none, filter-all}
 use Rattle.player_model.proofs.BySettings.{Agree, agree-here, agree-after, nextSet}
-use Rattle.panel.specs.State.{playerStateOf}
+use Rattle.panel.specs.State.{playerStateOf, withCore}
 use Rattle.panel.specs.Calls.{submitOf}
 use Rattle.panel.specs.declared.Panel.{Panel}
 use Rattle.base_sorting.specs.Sorted.{AllFrom, Rising}
@@ -109,12 +109,12 @@ module _ (u : Setup) (is : List Instrument) (g : Given u is) where
     -- one line that is due
     handed-due : (p : Panel) (k : ℕ) → K u is g p → (ok : Valid is (lineOf area k)) → playerStateOf p .plays .ended ≡ false
         → AllFit is keypad (own p .reached) (length (own p .holds .waits)) (lineOf area k ∷ []) → leb (ticksInRank k) position ≡ true
-        → handedOf area position k p ≡ record { panel = afterOf p (handing (lineOf area k)) .player; answer = submitOf p keypad (lineWords (lineOf area k)) .answer; more = true }
+        → handedOf area position k p ≡ record { panel = afterOf p (handing (lineOf area k)) .player; answer = submitOf (p .core) keypad (lineWords (lineOf area k)) .answer; more = true }
     unfolding handedOf afterOf submitOf firstNumber
     handed-due p k kept ok runs fit e =
-        let z : numberOf (submitOf p keypad (lineWords (lineOf area k)) .answer) ≡ 0 =
+        let z : numberOf (submitOf (p .core) keypad (lineWords (lineOf area k)) .answer) ≡ 0 =
         ap firstNumber (zero-answered u is g 0 none p kept (lineOf area k) ok runs (fit .0)) in
-        cond-true _ _ e ∙ (λ i. record { panel = submitOf p keypad (lineWords (lineOf area k)) .panel; answer = submitOf p keypad (lineWords (lineOf area k)) .answer; more = eqb (z i) 0 })
+        cond-true _ _ e ∙ (λ i. record { panel = withCore p (submitOf (p .core) keypad (lineWords (lineOf area k)) .core); answer = submitOf (p .core) keypad (lineWords (lineOf area k)) .answer; more = eqb (z i) 0 })
 
     feed-hands : (ks : List ℕ) (at : ℕ) (p : Panel) → Rising ks → All (Tells area position) ks → K u is g p → All (Valid is) (due ks)
         → All (λ (l : Line). playerStateOf p .plays .ended ≡ false) (due ks) → AllFit is keypad (own p .reached) (length (own p .holds .waits)) (due ks)
@@ -166,7 +166,7 @@ module _ (u : Setup) (is : List Instrument) (g : Given u is) where
     unfolding handedOf afterOf firstNumber
     no-room p k kept ok runs early full e =
         let l = lineOf area k in
-        let z : numberOf (submitOf p keypad (lineWords l) .answer) ≡ 8 =
+        let z : numberOf (submitOf (p .core) keypad (lineWords l) .answer) ≡ 8 =
         ap firstNumber (eight-answered u is g p kept l ok runs early full) in
         (ap (λ (x : PanelHanded). x .more) (cond-true _ _ e) ∙ ap (λ (n : ℕ). eqb n 0) z, ap (λ (x : PanelHanded). numberOf (x .answer)) (cond-true _ _ e) ∙ z)
 

@@ -5,11 +5,11 @@ use Prim.Native.Nat.{ℕ}
 use lib.Ieee.{Float}
 use Rattle.player_model.specs.Lists.{each}
 use Rattle.player_model.specs.Calls.{none}
-use Rattle.panel.specs.Core.{panelOf}
+use Rattle.panel.specs.State.{panelOf}
 use Rattle.panel.specs.declared.Panel.{Panel}
 use Rattle.panel.specs.declared.Core.{Core}
 use Rattle.panel_claims.specs.Claims.{panel}
-use Rattle.panel_claims.specs.Core.{coreOf, core, transitionOnCore}
+use Rattle.panel_claims.specs.Core.{core, transitionOnCore}
 use Rattle.panel_feeder.specs.Feeding.{Feeds, FedAs}
 use Rattle.panel_feeder.specs.declared.Fed.{Fed}
 use Rattle.panel_piece_claims.specs.Playing.{Round, Seen, performance, playedTo, feeder}
@@ -17,7 +17,7 @@ use Rattle.panel_piece_claims.specs.Playing.{Round, Seen, performance, p
 -- the feeder on a core that is lent this code and these numbers
 abbrev pub coreFeeder : List ℕ → List Float → List ℕ → ℕ → ℕ → Core → Feeds Core
 coreFeeder code vals area n at c =
-    let f = feeder area n at (panelOf c code vals) in record { player = coreOf (f .player); answer = f .answer; line = f .line; at = f .at }
+    let f = feeder area n at (panelOf c code vals) in record { player = f .player .core; answer = f .answer; line = f .line; at = f .at }
 
 -- That is what the contract of `panel_feeder::feed` says, whatever they are.
 unfoldable pub FeedByContract : Type 0
