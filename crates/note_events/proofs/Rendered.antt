@@ -1,43 +1,34 @@
 -- The steps of a cycle over all notes: the code's notes are the notes of the program's voices.
 use mathlib.Core.Path.{_≡_, refl, sym, ap, _∙_}
 use mathlib.Core.Bool.{Bool, true, false, cond, _&&_}
-use mathlib.Core.List.{List, [], _∷_, _++_}
-use Prim.Native.Nat.{ℕ, suc, _+_, _<_}
+use mathlib.Core.List.{List, [], _∷_}
+use Prim.Native.Nat.{ℕ, _+_, _<_}
 use native.Mathlib.Omega.{arith}
-use native.Mathlib.Numerals.{add-one}
 use lib.Dec.{eqb}
 use lib.Ieee.{Float}
-use lib.ListN.{length, take, drop, getD, set, length-set}
-use lib.Seq.{take-suc, take-suc-set, drop-set-lt}
+use lib.ListN.{length, take, getD}
 use Rattle.score_line.specs.declared.Label.{Label}
 use Rattle.score_line.specs.declared.Event.{Event}
 use Rattle.score_line.specs.declared.Event.the-variants.{Instr, Control, End, Tempo}
 use Rattle.score_line.specs.declared.Line.{Line}
 use Rattle.player_model.specs.Lists.{each, fold, filter, over}
 use Rattle.midi_messages.specs.declared.NoteMessage.{NoteMessage}
-use Rattle.player_model.specs.Cycle.{Rendered, born, joinedBy, releaseOldest, pressed, afterMessage, afterMessages, startedBy, started, withState, runFrom, controlledBy, controlEvent, controlled, goesOn}
+use Rattle.player_model.specs.Cycle.{born, joinedBy, releaseOldest, pressed, afterMessage, afterMessages, startedBy, started, withState, controlledBy, controlEvent, controlled, goesOn}
 use Rattle.player_model.specs.Cycle as cycle
 use Rattle.player_model.proofs.Lists.{cond-true, cond-false}
 use Rattle.player_model.proofs.Loops.{fold-take, over-over}
-use Rattle.code_interpreter.specs.Passes.{sums, played}
 use Rattle.note_state.specs.declared.Note.{Note}
 use Rattle.code_program.specs.InstrumentTable.{instrumentIn, lookupIn}
-use Rattle.voices_compiled.specs.Voices.{VoiceState, voices, birthOf, ranValues, ranMixOf, named}
-use Rattle.note_pool.specs.Notes.{notesIn, startedIn}
-use Rattle.note_events.specs.Controls.{renderedIn, controlledIn, controlsIn, controlledAll}
-use Rattle.note_lifecycle.specs.OneNote.{noteOf, structOf, bornNote, noteFromKey, controlledNote, kNote, ranNote, ranMix, goesOnIn}
+use Rattle.voices_compiled.specs.Voices.{VoiceState, voices, birthOf, named}
+use Rattle.note_pool.specs.Notes.{startedIn}
+use Rattle.note_events.specs.Controls.{controlledIn, controlsIn, controlledAll}
+use Rattle.note_lifecycle.specs.OneNote.{noteOf, structOf, bornNote, noteFromKey, controlledNote, goesOnIn}
 use Rattle.note_state.specs.Notes.{withValues}
 use Rattle.code_program.specs.declared.Instrument.{Instrument}
 use Rattle.note_pool.specs.Started.{StartedBy}
 use Rattle.code_program.specs.declared.Lookup.{Lookup}
 use Rattle.note_pool.specs.declared.Started.{Started}
-use Rattle.note_pool.proofs.Steps.{each-append, each-one, length-each, struct-note, drop-more, take-laid, notes-laid, Starting, starting-step}
-
--- one more of an array's elements, each made into another
-pub each-step : {A : Type 0} (g : A → A) (l a : List A) (i : ℕ) (d y : A) → i < length l → i < length a
-    → take i a ≡ each g (take i l) → y ≡ g (getD l i d) → take (i + 1) (set a i y) ≡ each g (take (i + 1) l)
-each-step g l a i d y h k p q =
-    rw (add-one, take-suc-set a i y k, take-suc l i d h, each-append g (take i l) (getD l i d ∷ []), each-one g (getD l i d), p, q)
+use Rattle.note_pool.proofs.Steps.{length-each, struct-note, take-laid, Starting, starting-step}
 
 pub control-in : (table : List Instrument) (label variable : ℕ) (value : Float) (n : Note) (f : Lookup) (y : Note)
     → f ≡ lookupIn (n .instrument) table → y ≡ controlledNote (f .instrument) n label variable value
@@ -45,14 +36,6 @@ pub control-in : (table : List Instrument) (label variable : ℕ) (value : Float
 unfolding controlledIn
 control-in table label variable value n f y e q =
     q ∙ ap (λ (g : Lookup). controlledNote (g .instrument) n label variable value) e
-
-one-more : (l : List Note) (j : ℕ) (d : Note) → j < length l → notesIn l (j + 1) ≡ notesIn l j ++ (noteOf (getD l j d) ∷ [])
-one-more l j d h =
-    rw (add-one, take-suc l j d h) (each-append noteOf (take j l) (getD l j d ∷ []) ∙ ap (λ (t : List (cycle.Note VoiceState)). notesIn l j ++ t) (each-one noteOf (getD l j d)))
-
-one-set : (a : List Note) (j : ℕ) (y : Note) → j < length a → notesIn (set a j y) (j + 1) ≡ notesIn a j ++ (noteOf y ∷ [])
-one-set a j y h =
-    rw (add-one, take-suc-set a j y h) (each-append noteOf (take j a) (y ∷ []) ∙ ap (λ (t : List (cycle.Note VoiceState)). notesIn a j ++ t) (each-one noteOf y))
 
 module _ (table : List Instrument) (code : List ℕ) (vals : List Float) where
   pub born-same : (position : ℕ) (l : Line) (label : Label) (name : ℕ) (duration : Float)
@@ -118,89 +101,6 @@ module _ (table : List Instrument) (code : List ℕ) (vals : List Float) where
   control-all ns (l ∷ ls) =
       control-all (controlsIn table ns (l .event)) ls
       ∙ ap (λ (ms : List (cycle.Note VoiceState)). controlled (voices table code vals) ms ls) (control-event ns (l .event))
-
-  -- ---- step 5
-
-  -- one note's run after others
-  ranOn : Rendered VoiceState → cycle.Note VoiceState → Rendered VoiceState
-  ranOn b n =
-      record {
-        notes = b .notes ++ (withState n (voices table code vals .run (n .state) (b .mix) .state) ∷ []);
-        mix = voices table code vals .run (n .state) (b .mix) .mix;
-      }
-
-  run-more : (ns : List (cycle.Note VoiceState)) (n : cycle.Note VoiceState) (mix : List Float)
-      → runFrom (voices table code vals) (ns ++ (n ∷ [])) mix ≡ ranOn (runFrom (voices table code vals) ns mix) n
-  unfolding runFrom ranOn
-  run-more [] n mix = refl
-  run-more (m ∷ ns) n mix =
-      let v = voices table code vals in
-      ap (λ (b : Rendered VoiceState). record { notes = withState m (v .run (m .state) mix .state) ∷ b .notes; mix = b .mix })
-      (run-more ns n (v .run (m .state) mix .mix))
-
-  length-run : (ns : List (cycle.Note VoiceState)) (mix : List Float) → length (runFrom (voices table code vals) ns mix .notes) ≡ length ns
-  unfolding runFrom
-  length-run [] mix = refl
-  length-run (n ∷ ns) mix = ap suc (length-run ns (voices table code vals .run (n .state) mix .mix))
-
-  pub run-notes-are : (ns : List Note) (k : ℕ) (mix : List Float) (r : List Note)
-      → r ≡ over (each structOf (runFrom (voices table code vals) (notesIn ns k) mix .notes)) ns
-      → notesIn r k ≡ runFrom (voices table code vals) (notesIn ns k) mix .notes
-  run-notes-are ns k mix r e =
-      ap (λ (l : List Note). notesIn l k) e
-      ∙ notes-laid (runFrom (voices table code vals) (notesIn ns k) mix .notes) ns k (length-run (notesIn ns k) mix ∙ length-each noteOf (take k ns))
-
-  -- what a note's run gives
-  ran-same : (n : Note) (mix : List Float)
-      → (noteOf (ranNote code vals (instrumentIn table (n .instrument)) n mix) ≡ withState (noteOf n) (voices table code vals .run (noteOf n .state) mix .state))
-      × (ranMix code vals (instrumentIn table (n .instrument)) n mix ≡ voices table code vals .run (noteOf n .state) mix .mix)
-  unfolding ranNote ranMix kNote voices ranValues ranMixOf
-  ran-same n mix = (refl, refl)
-
-  length-sums : (ws : List ℕ) (f mix : List Float) → length (sums vals ws f mix .mix) ≡ length mix
-  unfolding sums
-  length-sums ws f [] = refl
-  length-sums ws f (x ∷ xs) = ap suc (length-sums ws _ xs)
-
-  length-ran : (x : Instrument) (n : Note) (mix : List Float) → length (ranMix code vals x n mix) ≡ length mix
-  unfolding ranMix kNote played
-  length-ran x n mix = length-sums _ _ mix
-
-  -- the first j notes have run
-  pub record Running (notes a : List Note) (start mix : List Float) (j : ℕ) : Type 0 where
-    pub long : length a ≡ 16
-    pub samples : length mix ≡ length start
-    pub are : renderedIn a j mix ≡ runFrom (voices table code vals) (notesIn notes j) start
-    pub behind : drop j a ≡ drop j notes
-
-  pub running-none : (notes : List Note) (mix : List Float) → length notes ≡ 16 → Running notes notes mix mix 0
-  unfolding runFrom each
-  running-none notes mix h = record { long = h; samples = refl; are = refl; behind = refl }
-
-  pub running-step : (notes a : List Note) (start mix : List Float) (j : ℕ) (d : Note) → length notes ≡ 16 → j < 16
-      → (f : Lookup) → f ≡ lookupIn (getD notes j d .instrument) table
-      → (y : Note) → y ≡ ranNote code vals (f .instrument) (getD notes j d) mix
-      → (mix′ : List Float) → mix′ ≡ ranMix code vals (f .instrument) (getD notes j d) mix
-      → Running notes a start mix j → Running notes (set a j y) start mix′ (j + 1)
-  unfolding ranOn
-  running-step notes a start mix j d ln h f ef y ey mix′ em r =
-      let n = getD notes j d in
-      let v = voices table code vals in
-      let y-is : noteOf y ≡ withState (noteOf n) (v .run (noteOf n .state) mix .state) =
-      ap noteOf (ey ∙ ap (λ (g : Lookup). ranNote code vals (g .instrument) n mix) ef) ∙ ran-same n mix .0 in
-      let m-is : mix′ ≡ v .run (noteOf n .state) mix .mix =
-      em ∙ ap (λ (g : Lookup). ranMix code vals (g .instrument) n mix) ef ∙ ran-same n mix .1 in
-      record {
-        long = length-set a j y ∙ r .long;
-        samples = ap length em ∙ length-ran (f .instrument) n mix ∙ r .samples;
-        are =
-            ap (λ (l : List (cycle.Note VoiceState)). record { notes = l; mix = mix′ }) (one-set a j y (omega (arith, r .long)))
-            ∙ (λ i. record { notes = notesIn a j ++ (y-is i ∷ []); mix = m-is i })
-            ∙ ap (λ (b : Rendered VoiceState). ranOn b (noteOf n)) (r .are)
-            ∙ sym (run-more (notesIn notes j) (noteOf n) start)
-            ∙ ap (λ (l : List (cycle.Note VoiceState)). runFrom v l start) (sym (one-more notes j d (omega arith)));
-        behind = drop-set-lt (j + 1) a j y (omega arith) ∙ drop-more a notes j (j + 1) (omega arith) (r .behind);
-      }
 
   -- ---- step 3
 

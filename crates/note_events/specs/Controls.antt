@@ -1,4 +1,4 @@
--- Control lines on the panel's notes, and the notes with the mix that they add to.
+-- Control lines on the panel's notes.
 use mathlib.Core.List.{List}
 use Prim.Native.Nat.{ℕ}
 use lib.Ieee.{Float}
@@ -7,15 +7,9 @@ use Rattle.score_line.specs.declared.Event.the-variants.{Instr, Control, End, T
 use Rattle.score_line.specs.declared.Line.{Line}
 use Rattle.note_state.specs.declared.Note.{Note}
 use Rattle.player_model.specs.Lists.{each, fold}
-use Rattle.player_model.specs.Cycle as cycle
 use Rattle.code_program.specs.InstrumentTable.{instrumentIn}
 use Rattle.code_program.specs.declared.Instrument.{Instrument}
-use Rattle.voices_compiled.specs.Voices.{VoiceState}
 use Rattle.note_lifecycle.specs.OneNote.{controlledNote}
-use Rattle.note_pool.specs.Notes.{notesIn}
-
-abbrev pub renderedIn : List Note → ℕ → List Float → cycle.Rendered VoiceState
-renderedIn ns n mix = record { notes = notesIn ns n; mix = mix }
 
 unfoldable pub controlledIn : List Instrument → ℕ → ℕ → Float → Note → Note
 controlledIn table label variable value n = controlledNote (instrumentIn table (n .instrument)) n label variable value

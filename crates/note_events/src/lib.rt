@@ -1,12 +1,10 @@
-// What lines and note messages do with the sounding notes, and the run of a cycle, over straight-line code (document 01, "One cycle, in
-// order", steps 3, 4 and 5).
+// What lines and note messages do with the sounding notes (document 01, "One cycle, in order", steps 3 and 4).
 use code_program::Instrument;
 use midi_messages::MOST_MESSAGES;
 use midi_messages::NoteMessage;
 use note_pool::MOST_NOTES;
 use note_pool::Notes;
 use note_pool::Started;
-use note_state::Note;
 use player_queue::Lines;
 use player_queue::MOST_LINES;
 use score_line::Event;
@@ -15,12 +13,11 @@ ghost use mathlib.Core.Path.{_≡_};
 ghost use Prim.Native.Nat.{_<_, _≤_};
 ghost use lib.ListN.{take};
 ghost use Rattle.player_model.specs.Lists.{each, over};
-ghost use Rattle.player_model.specs.Cycle.{positionLimit, startedBy, started, afterMessage, afterMessages, runFrom};
+ghost use Rattle.player_model.specs.Cycle.{positionLimit, startedBy, started, afterMessage, afterMessages};
 ghost use Rattle.voices_compiled.specs.Voices.{voices};
 ghost use Rattle.note_pool.specs.Notes.{notesIn, startedIn, startedOver};
 ghost use Rattle.note_pool.specs.Started.{StartedBy};
 ghost use Rattle.note_events.specs.Controls.{controlledIn, controlsIn, controlledAll};
-ghost use Rattle.note_lifecycle.specs.OneNote.{structOf};
 
 // What a due line starts: an instr line a note, where fewer than the most notes sound, or where it has priority and a note has none, which
 // is cut off. A birth is worked only where the note starts.
@@ -242,32 +239,4 @@ pub fn play_messages<'a>(
         next += 1;
     }
     v
-}
-
-// Step 5: the first notes run, oldest first, each adding its outputs to the mix; what lies behind them stays.
-pub fn run_notes<'a>(
-    table: [Instrument; 8],
-    n: usize,
-    code: &'a [u64],
-    vals: &'a [f32],
-    notes: [Note; MOST_NOTES],
-    count: usize,
-    mix: &mut [f32],
-) -> [Note; MOST_NOTES]
-    ensures notes { λ r. ⌜ r ≡ over (each structOf (runFrom (voices (take n table) (now (code .entry)) (now (vals .entry))) (notesIn notes count) (now (mix .entry)) .notes)) notes ⌝ }
-    ensures mix { λ r. ⌜ now (mix .exit) ≡ runFrom (voices (take n table) (now (code .entry)) (now (vals .entry))) (notesIn notes count) (now (mix .entry)) .mix ⌝ }
-{
-    let m = base_numbers::at_most(count, MOST_NOTES);
-    let mut room = code_interpreter::working_area(vals);
-    let mut a = notes;
-    let mut j: usize = 0;
-    while j < m {
-        let x = notes[j];
-        let f = code_program::find(table, n, x.instrument);
-        let i = f.instrument;
-        let y = note_lifecycle::run_note(code, &mut room, i, x, mix);
-        a[j] = y;
-        j += 1;
-    }
-    a
 }

@@ -22,7 +22,8 @@ use Rattle.note_lifecycle.specs.OneNote.{noteOf, structOf, goesOnIn}
 use Rattle.code_program.specs.declared.Instrument.{Instrument}
 use Rattle.note_pool.specs.declared.Started.{Started as Starts}
 use Rattle.note_pool.proofs.Steps.{length-each, started-are}
-use Rattle.note_events.proofs.Rendered.{control-all, run-notes-are, going as going-as}
+use Rattle.note_events.proofs.Rendered.{control-all, going as going-as}
+use Rattle.engine_serial.proofs.Running.{run-notes-are}
 use Rattle.player_state.specs.Playing.{playingStateOf}
 use Rattle.player_steps.specs.Steps.{advanced, performedOf}
 use Rattle.player_steps.specs.declared.Performed.{Performed}

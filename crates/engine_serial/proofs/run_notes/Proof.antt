@@ -15,9 +15,9 @@ use Rattle.note_pool.specs.Notes.{notesIn}
 use Rattle.code_interpreter.specs.WorkingArea.{numbersIn, workingAreaOf}
 use Rattle.note_lifecycle.proofs.OneNote.{ran-here, mixed-here}
 use Rattle.note_pool.proofs.Steps.{laid-notes}
-use Rattle.note_events.proofs.Rendered.{Running, running-none, running-step}
-use Rattle.note_events.proofs.run_notes.Statement.{statement}
-use Rattle.note_events.proofs.run_notes.Tie as tie
+use Rattle.engine_serial.proofs.Running.{Running, running-none, running-step}
+use Rattle.engine_serial.proofs.run_notes.Statement.{statement}
+use Rattle.engine_serial.proofs.run_notes.Tie as tie
 
 pub run-notes-spec : {M : Type 1} → statement M
 run-notes-spec =
