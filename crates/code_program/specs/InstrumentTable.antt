@@ -2,14 +2,19 @@
 use mathlib.Core.Bool.{true, false, cond}
 use mathlib.Core.List.{List, [], _∷_}
 use Prim.Native.Nat.{ℕ}
-use lib.ListN.{replicate}
+use lib.ListN.{take, replicate}
 use lib.Dec.{eqb}
 use Rattle.score_line.specs.declared.Event.{Event}
 use Rattle.score_line.specs.declared.Event.the-variants.{Instr, Control, End, Tempo}
 use Rattle.code_program.specs.declared.Instrument.{Instrument}
+use Rattle.code_program.specs.declared.Instruments.{Instruments}
 use Rattle.code_program.specs.declared.Lookup.{Lookup}
 use Rattle.code_program.specs.declared.FieldCount.{FieldCount}
 use Rattle.code_program.specs.declared.FieldCount.the-variants.{Count, NoSuch}
+
+-- the instruments that are there
+abbrev pub instrumentsOf : Instruments → List Instrument
+instrumentsOf x = take (x .count) (x .table)
 
 -- no instrument: no fields, no code, no imports
 unfoldable pub blank : Instrument

@@ -2,8 +2,10 @@
 use score_line::Event;
 use score_line::Line;
 ghost use mathlib.Core.Path.{_≡_};
-ghost use lib.ListN.{take};
-ghost use Rattle.code_program.specs.InstrumentTable.{lookupIn, fieldCountIn};
+ghost use Rattle.code_program.specs.InstrumentTable.{instrumentsOf, lookupIn, fieldCountIn};
+
+// The most instruments of an orchestra.
+pub const MOST_INSTRUMENTS: usize = 8;
 
 // An instrument of the program: its name, how many fields it has, its instructions for the i, k and a passes, from one number
 // up to another, and at each place the name of the imports ksig there, or a number above 65,535.
@@ -21,10 +23,16 @@ pub struct Instrument {
 
 // The instruments from the first on, their code for the i, k and a passes, and the numbers in it.
 pub struct Program {
-    pub table: [Instrument; 8],
+    pub table: [Instrument; MOST_INSTRUMENTS],
     pub count: usize,
     pub code: [u64; code_operations::CODE],
     pub vals: [f32; code_operations::PROGRAM],
+}
+
+// A table of instruments, of which the first so many are there.
+pub struct Instruments {
+    pub table: [Instrument; MOST_INSTRUMENTS],
+    pub count: usize,
 }
 
 // An instrument, and whether it was found.
@@ -39,11 +47,12 @@ pub enum FieldCount {
     NoSuch,
 }
 
-// The instrument with a name among the first n; else a blank one.
-pub fn find(table: [Instrument; 8], n: usize, name: u16) -> Lookup
-    ensures { λ r. ⌜ r ≡ lookupIn name (take n table) ⌝ }
+// The instrument with a name; else a blank one.
+pub fn find(instruments: Instruments, name: u16) -> Lookup
+    ensures { λ r. ⌜ r ≡ lookupIn name (instrumentsOf instruments) ⌝ }
 {
-    let m = base_numbers::at_most(n, 8);
+    let table = instruments.table;
+    let m = base_numbers::at_most(instruments.count, MOST_INSTRUMENTS);
     let mut i: usize = 0;
     while i < m {
         let x = table[i];
@@ -74,8 +83,8 @@ pub fn find(table: [Instrument; 8], n: usize, name: u16) -> Lookup
 }
 
 // How many fields a line's instrument has; for a line of another kind no such instrument.
-pub fn field_count_for(table: [Instrument; 8], n: usize, l: Line) -> FieldCount
-    ensures { λ r. ⌜ r ≡ fieldCountIn (take n table) (l .event) ⌝ }
+pub fn field_count_for(instruments: Instruments, l: Line) -> FieldCount
+    ensures { λ r. ⌜ r ≡ fieldCountIn (instrumentsOf instruments) (l .event) ⌝ }
 {
     let e = l.event;
     match e {
@@ -84,7 +93,7 @@ pub fn field_count_for(table: [Instrument; 8], n: usize, l: Line) -> FieldCount
             instrument,
             duration: _,
         } => {
-            let f = find(table, n, instrument);
+            let f = find(instruments, instrument);
             let x = f.instrument;
             if f.there {
                 FieldCount::Count(x.fields)

@@ -3,6 +3,7 @@ use base_answer::Answer;
 use code_operations::CODE;
 use code_operations::PROGRAM;
 use code_program::Instrument;
+use code_program::Instruments;
 use entrance_readers::EntranceRead;
 use player_state::Settings;
 use player_state::State;
@@ -119,8 +120,12 @@ fn submit(mut c: Core, h: EntranceRead) -> CoreEntranceResult
     ensures { λ r. ⌜ r ≡ submittedOf c (h .timed) (scoreIn h) ⌝ }
 {
     let table = c.table;
+    let instruments = Instruments {
+        table: table,
+        count: c.count,
+    };
     let state = c.state;
-    let r = player_calls::submit(table, c.count, state, h);
+    let r = player_calls::submit(instruments, state, h);
     let left = r.state;
     let given = r.answer;
     c.state = left;
@@ -167,8 +172,12 @@ impl Core {
         ensures area { λ r. ⌜ now (answers .exit) ≡ areaAfter self (now (s .entry)) (now (answers .entry)) ⌝ }
     {
         let table = self.table;
+        let instruments = Instruments {
+            table: table,
+            count: self.count,
+        };
         let state = self.state;
-        let r = player_calls::receive_burst(table, self.count, state, s, answers);
+        let r = player_calls::receive_burst(instruments, state, s, answers);
         let left = r.state;
         let given = r.answer;
         self.state = left;
@@ -231,13 +240,17 @@ impl Core {
         ensures block { λ r. ⌜ now (block .exit) ≡ blockAfter (now (code .entry)) (now (vals .entry)) self (now (block .entry)) ⌝ }
     {
         let table = self.table;
+        let instruments = Instruments {
+            table: table,
+            count: self.count,
+        };
         let state = self.state;
         let settings = Settings {
             ceiling: self.settings.last.ceiling,
             notes: self.settings.last.notes,
             chosen: self.chosen,
         };
-        let r = player_cycle::cycle_call(table, self.count, code, vals, state, settings, block);
+        let r = player_cycle::cycle_call(instruments, code, vals, state, settings, block);
         let left = r.state;
         let given = r.answer;
         self.state = left;

@@ -1,6 +1,6 @@
 // The work of every call but the cycle, on the state that it changes (documents 01 and 02).
 use base_answer::Answer;
-use code_program::Instrument;
+use code_program::Instruments;
 use entrance_readers::EntranceRead;
 use note_pool::Notes;
 use note_state::NoteEnd;
@@ -10,8 +10,9 @@ use player_queue::Queue;
 use player_state::Playing;
 use player_state::State;
 ghost use mathlib.Core.Path.{_≡_};
-ghost use lib.ListN.{length, take};
+ghost use lib.ListN.{length};
 ghost use Rattle.score_bursts.specs.inside.Reading.{burstOf};
+ghost use Rattle.code_program.specs.InstrumentTable.{instrumentsOf};
 ghost use Rattle.entrance_readers.specs.Entrances.{scoreIn};
 ghost use Rattle.entrance_burst.specs.Singly.{areaIn};
 ghost use Rattle.player_calls.specs.OnState.{startState, submittedOf, burstSubmittedOf, keyboardCallOf};
@@ -82,11 +83,11 @@ pub fn initial_state(tempo: f32, ended: bool) -> State
 }
 
 // What was handed in at an entrance, read, into the waiting lines.
-pub fn submit(table: [Instrument; 8], n: usize, mut s: State, h: EntranceRead) -> EntranceResult
-    ensures { λ r. ⌜ r ≡ submittedOf (take n table) s (h .timed) (scoreIn h) ⌝ }
+pub fn submit(instruments: Instruments, mut s: State, h: EntranceRead) -> EntranceResult
+    ensures { λ r. ⌜ r ≡ submittedOf (instrumentsOf instruments) s (h .timed) (scoreIn h) ⌝ }
 {
     let q = s.queue;
-    let r = entrance_admission::submit(table, n, s.playing.ended, q, h);
+    let r = entrance_admission::submit(instruments, s.playing.ended, q, h);
     let left = r.queue;
     let given = r.answer;
     s.queue = left;
@@ -100,17 +101,16 @@ pub fn submit(table: [Instrument; 8], n: usize, mut s: State, h: EntranceRead) -
 // A burst of access units: each as if it came singly, in order, with its answer's number in the lent area; or a refusal, and nothing is
 // taken or written.
 pub fn receive_burst(
-    table: [Instrument; 8],
-    n: usize,
+    instruments: Instruments,
     mut s: State,
     bytes: &[u8],
     answers: &mut [u8],
 ) -> BurstResult
-    ensures state { λ r. ⌜ r ≡ burstSubmittedOf (take n table) s (length (now (answers .entry))) (burstOf (now (bytes .entry))) ⌝ }
-    ensures area { λ r. ⌜ now (answers .exit) ≡ areaIn (s .playing .ended) (take n table) (s .queue) (now (answers .entry)) (burstOf (now (bytes .entry))) ⌝ }
+    ensures state { λ r. ⌜ r ≡ burstSubmittedOf (instrumentsOf instruments) s (length (now (answers .entry))) (burstOf (now (bytes .entry))) ⌝ }
+    ensures area { λ r. ⌜ now (answers .exit) ≡ areaIn (s .playing .ended) (instrumentsOf instruments) (s .queue) (now (answers .entry)) (burstOf (now (bytes .entry))) ⌝ }
 {
     let q = s.queue;
-    let r = entrance_burst::submit_burst(table, n, s.playing.ended, q, bytes, answers);
+    let r = entrance_burst::submit_burst(instruments, s.playing.ended, q, bytes, answers);
     let sent = r.queue;
     let given = r.answer;
     s.queue = sent;

@@ -2,7 +2,8 @@
 use mathlib.Core.Path.{_≡_, refl, sym, ap, _∙_, subst}
 use mathlib.Core.Bool.{true, false, _||_}
 use mathlib.Core.List.{List, []}
-use Prim.Native.Nat.{ℕ, _+_, min}
+use Prim.Native.Nat.{ℕ, _+_, _≤_, min}
+use native.Mathlib.Omega.{arith}
 use lib.Dec.{ltb}
 use lib.IntN.{ℤ}
 use lib.Ieee.{Float}
@@ -35,15 +36,17 @@ module _ (v : Voices VoiceState) (x : Settings) where
   counted p k =
       record { notes = record { notes = p .notes .notes; count = k }; position = p .position; tempo = p .tempo; missed = p .missed; ended = p .ended }
 
-  abbrev on : Playing → Playing
-  on p = record { notes = p .notes; position = p .position + cycleIn (p .tempo); tempo = p .tempo; missed = min (p .missed + 0) mostCounted; ended = false }
+  abbrev on : Playing → ℕ → Playing
+  on p missed = record { notes = p .notes; position = p .position + cycleIn (p .tempo); tempo = p .tempo; missed = missed; ended = false }
 
-  plays-here : (p : Playing) → advanced v x none (counted p 0) ≡ on (counted p 0)
+  plays-here : (p : Playing) → advanced v x none (counted p 0) ≡ on (counted p 0) (min (p .missed + 0) mostCounted)
   unfolding advanced capped played renderedOf notesToRun startedOf started controlled afterMessages fold runAll runFrom filter each lastTempo
   plays-here p = refl
 
-  none-plays : (p : Playing) → p .notes .count ≡ 0 → advanced v x none p ≡ on p
-  none-plays p e = subst (λ (k : ℕ). advanced v x none (counted p k) ≡ on (counted p k)) (sym e) (plays-here p)
+  none-plays : (p : Playing) → p .notes .count ≡ 0 → p .missed ≤ mostCounted → advanced v x none p ≡ on p (p .missed)
+  none-plays p e h =
+      let m : min (p .missed + 0) mostCounted ≡ p .missed = omega (arith, h) in
+      subst (λ (k : ℕ). advanced v x none (counted p k) ≡ on (counted p k) (p .missed)) (sym e) (plays-here p ∙ ap (on (counted p 0)) m)
 
   heard-here : (p : Playing) → renderedOf v x none (playingStateOf (counted p 0)) .mix ≡ silence
   unfolding renderedOf notesToRun startedOf started controlled afterMessages fold runAll runFrom each silence
@@ -67,9 +70,9 @@ module _ (v : Voices VoiceState) (x : Settings) where
     unfolding endsBy anyEnd fold
     goes-on = (λ i. ltb positionLimit position || anyEnd (acts i .lines)) ∙ (λ i. facts .near i || false)
 
-    pub rest-law : length (s .queue .lines) ≡ 64 → afterIdle s ≡ stateAfter v x s
+    pub rest-law : length (s .queue .lines) ≡ 64 → s .playing .missed ≤ mostCounted → afterIdle s ≡ stateAfter v x s
     unfolding afterIdle stateAfter playedOf queueAfter laterThan
-    rest-law long =
+    rest-law long few =
         let later : waitingIn (s .queue) ≡ laterThan position (waitingIn (s .queue)) = sym (all-stay position (waitingIn (s .queue)) (facts .due)) in
         (λ i. record {
           queue = record {
@@ -79,7 +82,7 @@ module _ (v : Voices VoiceState) (x : Settings) where
             last = position;
           };
           messages = record { list = s .messages .list; count = facts .messages i };
-          playing = (sym (none-plays (s .playing) (facts .notes)) ∙ ap (λ (d : Due). advanced v x d (s .playing)) (sym acts)) i;
+          playing = (sym (none-plays (s .playing) (facts .notes) few) ∙ ap (λ (d : Due). advanced v x d (s .playing)) (sym acts)) i;
         })
         ∙ sym (cond-false _ _ goes-on)
 

@@ -1,14 +1,15 @@
 // One cycle, steps 1 to 8, on the state that it changes (document 01, "One cycle, in order"), and the call that asks for it.
 use base_answer::Answer;
-use code_program::Instrument;
+use code_program::Instruments;
 use player_calls::CallResult;
 use player_state::Settings;
 use player_state::State;
 use player_steps::Due;
 ghost use mathlib.Core.Path.{_≡_};
 ghost use mathlib.Core.Bool.{cond};
-ghost use lib.ListN.{length, take};
+ghost use lib.ListN.{length};
 ghost use Rattle.base_answer.specs.declared.Answer.the-variants.{Taken, Ended};
+ghost use Rattle.code_program.specs.InstrumentTable.{instrumentsOf};
 ghost use Rattle.voices_compiled.specs.Voices.{voices};
 ghost use Rattle.player_state.specs.Playing.{settingsIn};
 ghost use Rattle.player_cycle.specs.OneCycle.{stateAfter, blockAfter};
@@ -19,16 +20,15 @@ const SAMPLES: usize = 320;
 
 // One cycle: the state afterwards, marked as ended where step 1 ends the piece.
 fn one_cycle<'a>(
-    table: [Instrument; 8],
-    n: usize,
+    instruments: Instruments,
     code: &'a [u64],
     vals: &'a [f32],
     mut s: State,
     settings: Settings,
     block: &mut [i16],
 ) -> State
-    ensures state { λ r. ⌜ r ≡ stateAfter (voices (take n table) (now (code .entry)) (now (vals .entry))) (settingsIn settings) s ⌝ }
-    ensures block { λ r. ⌜ now (block .exit) ≡ blockAfter (voices (take n table) (now (code .entry)) (now (vals .entry))) (settingsIn settings) s (now (block .entry)) ⌝ }
+    ensures state { λ r. ⌜ r ≡ stateAfter (voices (instrumentsOf instruments) (now (code .entry)) (now (vals .entry))) (settingsIn settings) s ⌝ }
+    ensures block { λ r. ⌜ now (block .exit) ≡ blockAfter (voices (instrumentsOf instruments) (now (code .entry)) (now (vals .entry))) (settingsIn settings) s (now (block .entry)) ⌝ }
 {
     if player_state::is_idle(s) {
         return player_state::idle_cycle(s, settings.ceiling, block);
@@ -48,7 +48,7 @@ fn one_cycle<'a>(
         lines: due,
         messages: keys,
     };
-    let next = player_steps::advance(table, n, code, vals, p, acts, settings, block);
+    let next = player_steps::advance(instruments, code, vals, p, acts, settings, block);
     State {
         queue: player_state::queue_after_cycle(q, position),
         messages: player_state::emptied(keys),
@@ -75,16 +75,15 @@ fn after(ended: bool) -> Answer
 
 // A cycle of sound into a block of 320 samples.
 pub fn cycle_call<'a>(
-    table: [Instrument; 8],
-    n: usize,
+    instruments: Instruments,
     code: &'a [u64],
     vals: &'a [f32],
     s: State,
     settings: Settings,
     block: &mut [i16],
 ) -> CallResult
-    ensures state { λ r. ⌜ r ≡ cycledOf (voices (take n table) (now (code .entry)) (now (vals .entry))) (settingsIn settings) s (length (now (block .entry))) ⌝ }
-    ensures block { λ r. ⌜ now (block .exit) ≡ blockLeft (voices (take n table) (now (code .entry)) (now (vals .entry))) (settingsIn settings) s (now (block .entry)) ⌝ }
+    ensures state { λ r. ⌜ r ≡ cycledOf (voices (instrumentsOf instruments) (now (code .entry)) (now (vals .entry))) (settingsIn settings) s (length (now (block .entry))) ⌝ }
+    ensures block { λ r. ⌜ now (block .exit) ≡ blockLeft (voices (instrumentsOf instruments) (now (code .entry)) (now (vals .entry))) (settingsIn settings) s (now (block .entry)) ⌝ }
 {
     let over = s.playing.ended;
     if block.len() != SAMPLES {
@@ -93,7 +92,7 @@ pub fn cycle_call<'a>(
     if over {
         return unchanged(s, Answer::Ended);
     }
-    let next = one_cycle(table, n, code, vals, s, settings, block);
+    let next = one_cycle(instruments, code, vals, s, settings, block);
     CallResult {
         state: next,
         answer: after(next.playing.ended),

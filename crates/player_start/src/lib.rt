@@ -1,5 +1,6 @@
 // A fresh start: what a panel starts with, and its answer (documents 01 and 02).
 use base_answer::Answer;
+use code_program::Instruments;
 use code_program::Program;
 use player_state::State;
 use settings_records::InUse;
@@ -61,7 +62,13 @@ fn has_chosen(program: Program, chosen: u16) -> bool
     ensures { λ r. ⌜ r ≡ hasChosen program chosen ⌝ }
 {
     let table = program.table;
-    let f = code_program::find(table, program.count, chosen);
+    let f = code_program::find(
+        Instruments {
+            table: table,
+            count: program.count,
+        },
+        chosen,
+    );
     f.there
 }
 

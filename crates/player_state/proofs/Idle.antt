@@ -12,7 +12,6 @@ use Rattle.score_line.specs.declared.Line.{Line}
 use Rattle.player_model.specs.Lists.{filter, over}
 use Rattle.player_model.specs.Cycle.{positionLimit, isDue, anyEnd}
 use Rattle.player_model.specs.PlayerState.{laterThan}
-use Rattle.player_model.specs.inside.PlayerState.{mostCounted}
 use Rattle.player_queue.specs.Waiting.{anyDue}
 use Rattle.player_queue.specs.Admission.{waitingIn}
 use Rattle.player_queue.specs.declared.Queue.{Queue}
@@ -95,16 +94,15 @@ module _ (s : State) where
 
 -- from its parts
 pub rested-law : (s : State) (step : ℕ) → step ≡ cycleIn (s .playing .tempo) → (waiting : ℕ) → waiting ≡ min (s .queue .count) 64
-    → (missed : ℕ) → missed ≡ min (s .playing .missed + 0) mostCounted
     → _≡_ {A = State} (record {
       queue = record { lines = s .queue .lines; count = waiting; ran = true; last = s .playing .position };
       messages = s .messages;
-      playing = record { notes = s .playing .notes; position = s .playing .position + step; tempo = s .playing .tempo; missed = missed; ended = false };
+      playing = record { notes = s .playing .notes; position = s .playing .position + step; tempo = s .playing .tempo; missed = s .playing .missed; ended = false };
     }) (afterIdle s)
 unfolding afterIdle
-rested-law s step e waiting f missed g =
+rested-law s step e waiting f =
     λ i. record {
       queue = record { lines = s .queue .lines; count = f i; ran = true; last = s .playing .position };
       messages = s .messages;
-      playing = record { notes = s .playing .notes; position = s .playing .position + e i; tempo = s .playing .tempo; missed = g i; ended = false };
+      playing = record { notes = s .playing .notes; position = s .playing .position + e i; tempo = s .playing .tempo; missed = s .playing .missed; ended = false };
     }

@@ -9,7 +9,6 @@ use Rattle.base_timebase.specs.Time.{cycleIn}
 use Rattle.player_model.specs.Lists.{over}
 use Rattle.player_model.specs.Cycle.{samples, positionLimit}
 use Rattle.player_model.specs.PlayerState.{PlayerState, laterThan, dueOf, endsBy}
-use Rattle.player_model.specs.inside.PlayerState.{mostCounted}
 use Rattle.player_queue.specs.Waiting.{anyDue}
 use Rattle.player_queue.specs.Admission.{mostLines, waitingIn}
 use Rattle.player_queue.specs.declared.Queue.{Queue}
@@ -55,7 +54,7 @@ afterIdle x =
     record {
       queue = record { lines = x .queue .lines; count = min (x .queue .count) mostLines; ran = true; last = p .position };
       messages = x .messages;
-      playing = record { notes = p .notes; position = p .position + cycleIn (p .tempo); tempo = p .tempo; missed = min (p .missed + 0) mostCounted; ended = false };
+      playing = record { notes = p .notes; position = p .position + cycleIn (p .tempo); tempo = p .tempo; missed = p .missed; ended = false };
     }
 
 -- a mix that nothing adds to

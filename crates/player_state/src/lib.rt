@@ -1,4 +1,4 @@
-// The state that the calls change, and what a cycle does with it beside its steps: whether it ends the piece, what waits afterwards, and a
+// The state that the calls change, and what a cycle does with it beside its steps: whether it ends the piece, what waits afterwards, and an
 // idle cycle (document 01, "One cycle, in order").
 use midi_queue::MessageQueue;
 use note_pool::Notes;
@@ -123,12 +123,10 @@ pub fn idle_cycle(mut s: State, ceiling: u16, block: &mut [i16]) -> State
     let step = base_timebase::ticks_per_cycle(s.playing.tempo);
     let next = position + step;
     let waiting = base_numbers::at_most(s.queue.count, player_queue::MOST_LINES);
-    let missed = add_missed(s.playing.missed, 0);
     s.queue.count = waiting;
     s.queue.ran = true;
     s.queue.last = position;
     s.playing.position = next;
-    s.playing.missed = missed;
     s.playing.ended = false;
     s
 }

@@ -1,5 +1,5 @@
 // Steps 2 to 8 of a cycle, on what plays (document 01, "One cycle, in order").
-use code_program::Instrument;
+use code_program::Instruments;
 use midi_queue::MessageQueue;
 use note_pool::Notes;
 use note_pool::Started;
@@ -8,10 +8,10 @@ use player_state::Playing;
 use player_state::Settings;
 ghost use mathlib.Core.Path.{_≡_};
 ghost use Prim.Native.Nat.{_≤_};
-ghost use lib.ListN.{take};
 ghost use Rattle.engine_limiter.specs.Block.{limited};
 ghost use Rattle.player_model.specs.Cycle.{positionLimit};
 ghost use Rattle.player_model.specs.PlayerState.{renderedOf};
+ghost use Rattle.code_program.specs.InstrumentTable.{instrumentsOf};
 ghost use Rattle.voices_compiled.specs.Voices.{voices};
 ghost use Rattle.player_state.specs.Playing.{playingStateOf, settingsIn};
 ghost use Rattle.player_steps.specs.Steps.{dueIn, performedOf, advanced};
@@ -30,8 +30,7 @@ struct Performed {
 
 // Steps 3 to 7, for the due lines and then the note messages in order.
 fn perform<'a>(
-    table: [Instrument; 8],
-    n: usize,
+    instruments: Instruments,
     code: &'a [u64],
     vals: &'a [f32],
     p: Playing,
@@ -40,19 +39,18 @@ fn perform<'a>(
     block: &mut [i16],
 ) -> Performed
     requires { ⌜ p .position ≤ positionLimit ⌝ }
-    ensures notes { λ r. ⌜ r ≡ performedOf (voices (take n table) (now (code .entry)) (now (vals .entry))) (settingsIn settings) (dueIn due) p ⌝ }
-    ensures block { λ r. ⌜ now (block .exit) ≡ limited (settings .ceiling) (renderedOf (voices (take n table) (now (code .entry)) (now (vals .entry))) (settingsIn settings) (dueIn due) (playingStateOf p) .mix) (now (block .entry)) ⌝ }
+    ensures notes { λ r. ⌜ r ≡ performedOf (voices (instrumentsOf instruments) (now (code .entry)) (now (vals .entry))) (settingsIn settings) (dueIn due) p ⌝ }
+    ensures block { λ r. ⌜ now (block .exit) ≡ limited (settings .ceiling) (renderedOf (voices (instrumentsOf instruments) (now (code .entry)) (now (vals .entry))) (settingsIn settings) (dueIn due) (playingStateOf p) .mix) (now (block .entry)) ⌝ }
 {
     let most = base_numbers::at_most(settings.notes as usize, note_pool::MOST_NOTES);
     let old = p.notes;
     let position = p.position;
     let acting = due.lines;
-    let v = note_events::start_notes(table, n, code, vals, old, acting, position, most);
+    let v = note_events::start_notes(instruments, code, vals, old, acting, position, most);
     let born = v.notes;
     let lines = acting.lines;
     let c = note_events::control_lines(
-        table,
-        n,
+        instruments,
         Notes {
             notes: born,
             count: v.count,
@@ -64,8 +62,7 @@ fn perform<'a>(
     let keys = due.messages;
     let list = keys.list;
     let k = note_events::play_messages(
-        table,
-        n,
+        instruments,
         code,
         vals,
         Started {
@@ -80,8 +77,7 @@ fn perform<'a>(
     );
     let played = k.notes;
     let h = engine_block::sound(
-        table,
-        n,
+        instruments,
         code,
         vals,
         Notes {
@@ -107,8 +103,7 @@ fn perform<'a>(
 
 // Steps 2 to 8 on what plays, for the due lines and then the note messages in order.
 pub fn advance<'a>(
-    table: [Instrument; 8],
-    n: usize,
+    instruments: Instruments,
     code: &'a [u64],
     vals: &'a [f32],
     p: Playing,
@@ -117,14 +112,14 @@ pub fn advance<'a>(
     block: &mut [i16],
 ) -> Playing
     requires { ⌜ p .position ≤ positionLimit ⌝ }
-    ensures playing { λ r. ⌜ r ≡ advanced (voices (take n table) (now (code .entry)) (now (vals .entry))) (settingsIn settings) (dueIn due) p ⌝ }
-    ensures block { λ r. ⌜ now (block .exit) ≡ limited (settings .ceiling) (renderedOf (voices (take n table) (now (code .entry)) (now (vals .entry))) (settingsIn settings) (dueIn due) (playingStateOf p) .mix) (now (block .entry)) ⌝ }
+    ensures playing { λ r. ⌜ r ≡ advanced (voices (instrumentsOf instruments) (now (code .entry)) (now (vals .entry))) (settingsIn settings) (dueIn due) p ⌝ }
+    ensures block { λ r. ⌜ now (block .exit) ≡ limited (settings .ceiling) (renderedOf (voices (instrumentsOf instruments) (now (code .entry)) (now (vals .entry))) (settingsIn settings) (dueIn due) (playingStateOf p) .mix) (now (block .entry)) ⌝ }
 {
     let position = p.position;
     let acting = due.lines;
     let lines = acting.lines;
     let tempo = player_queue::tempo_after(lines, acting.count, p.tempo);
-    let t = perform(table, n, code, vals, p, due, settings, block);
+    let t = perform(instruments, code, vals, p, due, settings, block);
     let notes = t.notes;
     let step = base_timebase::ticks_per_cycle(tempo);
     Playing {

@@ -2,7 +2,7 @@ use mathlib.Core.Path.{refl}
 use Prim.Native.Nat.{_-_}
 use native.Mathlib.Omega.{arith}
 use borrow.Author.Needs.{needs}
-use lib.ListN.{take}
+use Rattle.code_program.specs.InstrumentTable.{instrumentsOf}
 use Rattle.score_bursts.specs.inside.Reading.{burstOf}
 use Rattle.score_bursts.specs.Bursts.{unitsIn}
 use Rattle.entrance_burst.proofs.Sending.{Sending, send-start, send-inside, send-length, send-place, send-next, send-queue, send-area}
@@ -12,8 +12,8 @@ use Rattle.entrance_burst.proofs.submit_units.Tie as tie
 pub submit-units-spec : {M : Type 1} → statement M
 submit-units-spec =
     tie.close (tie.spec
-    (λ table n ended s m answers₀ q₀ at₀ i₀ answers q at i. Sending ended (take n table) q₀ s (unitsIn (burstOf s)) m answers₀ q at i answers)
-    (λ table n ended s m answers₀ q₀ at₀ i₀ answers q at i. m - i)
+    (λ instruments ended s m answers₀ q₀ at₀ i₀ answers q at i. Sending ended (instrumentsOf instruments) q₀ s (unitsIn (burstOf s)) m answers₀ q at i answers)
+    (λ instruments ended s m answers₀ q₀ at₀ i₀ answers q at i. m - i)
     (λ c. search send-start)
     (λ c. let l = send-inside _ _ _ _ _ _ _ _ _ _ (c .loop-test .taken) (c .before .loop .inv) _ refl in search needs)
     (λ c κs. search needs)

@@ -16,12 +16,12 @@ play-message-spec =
     (λ c κs. search needs) (λ c κs. search needs) (λ c κs. search needs)
     (λ c. let t = c .before .before .before .before in
     let s = t .before .before .before .before .before in
-    start-room _ _ (s .args .v) _ _ (simp length-map at (s .good .1 .1 .1 .1 .0 .1 .1 .0 .1 .0 .1)) (t .if2 .taken) (s .pre .2) (c .with-note .ensures)
+    start-room _ _ (s .args .v) _ _ (simp length-map at (s .good .1 .1 .1 .0 .1 .1 .0 .1 .0 .1)) (t .if2 .taken) (s .pre .2) (c .with-note .ensures)
     (press-starts _ _ _ _ _ _ _ (t .before .before .if1 .taken) _ (c .before .before .before .find .ensures) _ (c .before .note-from-key .ensures)))
     (λ c κs. search needs)
     (λ c. let t = c .before in
     let s = t .before .before .before .before .before in
-    start-full _ _ (s .args .v) _ _ (simp length-map at (s .good .1 .1 .1 .1 .0 .1 .1 .0 .1 .0 .1)) (t .if2 .left) (s .pre .0) (c .with-miss .ensures)
+    start-full _ _ (s .args .v) _ _ (simp length-map at (s .good .1 .1 .1 .0 .1 .1 .0 .1 .0 .1)) (t .if2 .left) (s .pre .0) (c .with-miss .ensures)
     (press-starts _ _ _ _ _ _ _ (t .before .before .if1 .taken) _ refl _ refl) (pressed-yields _ _ _ _ _ _))
     (λ c κs. search needs)
     (λ c. let s = c .before .before .before .before in

@@ -17,20 +17,20 @@ start-line-spec =
     (λ c. let f = c .before .before .before in
     let p = f .before in
     let s = p .before .before .before .before .before .before .before in
-    start-room _ _ (s .args .v) _ _ (simp length-map at (s .good .1 .1 .1 .1 .0 .1 .1 .0 .1 .0 .1)) (p .if1 .taken) (s .pre .3) (c .with-note .ensures)
+    start-room _ _ (s .args .v) _ _ (simp length-map at (s .good .1 .1 .1 .0 .1 .1 .0 .1 .0 .1)) (p .if1 .taken) (s .pre .3) (c .with-note .ensures)
     (start-instr _ _ _ _ _ _ _ _ _ _ _ (p .before .before .before .e .given .1) _ (born-found _ _ _ _ _ _ _ _ _ (f .find .ensures) _ (c .before .note-from-line .ensures))))
     (λ c κs. search needs)
     (λ c. let p = c .before .before .before in
     let s = p .before .before .before .before .before .before .before in
-    start-full _ _ (s .args .v) _ _ (simp length-map at (s .good .1 .1 .1 .1 .0 .1 .1 .0 .1 .0 .1)) (p .if1 .left) (s .pre .0) (c .with-miss .ensures)
+    start-full _ _ (s .args .v) _ _ (simp length-map at (s .good .1 .1 .1 .0 .1 .1 .0 .1 .0 .1)) (p .if1 .left) (s .pre .0) (c .with-miss .ensures)
     (start-instr _ _ _ _ _ _ _ _ _ _ _ (p .before .before .before .e .given .1) _ refl) (born-yields _ _ _ _ _ _ _ _ _ (not-true _ (c .before .if2 .taken))))
     (λ c κs. search needs) (λ c κs. search needs)
     (λ c. let o = c .before .before .before in
     let p = o .before .before .before in
     let s = p .before .before .before .before .before .before .before in
-    start-full _ _ (s .args .v) _ _ (simp length-map at (s .good .1 .1 .1 .1 .0 .1 .1 .0 .1 .0 .1)) (p .if1 .left) (s .pre .0) (c .with-miss2 .ensures)
+    start-full _ _ (s .args .v) _ _ (simp length-map at (s .good .1 .1 .1 .0 .1 .1 .0 .1 .0 .1)) (p .if1 .left) (s .pre .0) (c .with-miss2 .ensures)
     (start-instr _ _ _ _ _ _ _ _ _ _ _ (p .before .before .before .e .given .1) _ refl)
-    (born-alone _ _ _ _ _ _ _ _ _ (none-to-cut (s .args .v) (simp length-map at (s .good .1 .1 .1 .1 .0 .1 .1 .0 .1 .0 .1)) (s .pre .0) _ (o .oldest-without-priority .ensures) (c .before .if3 .taken))))
+    (born-alone _ _ _ _ _ _ _ _ _ (none-to-cut (s .args .v) (simp length-map at (s .good .1 .1 .1 .0 .1 .1 .0 .1 .0 .1)) (s .pre .0) _ (o .oldest-without-priority .ensures) (c .before .if3 .taken))))
     (λ c κs. search needs) (λ c κs. search needs)
     (λ c κs. let s = c .before .before .before .before .before .before .before .before .before .before .before .before .before .before .before in search (needs, s .pre))
     (λ c κs. let s = c .before .before .before .before .before .before .before .before .before .before .before .before .before .before .before .before in omega (arith, c .cut-off .ensures .1, s .pre .0))
@@ -42,7 +42,7 @@ start-line-spec =
     let p = o .before .before .before in
     let s = p .before .before .before .before .before .before .before in
     let born = born-found _ _ _ _ _ _ _ _ _ (g .find2 .ensures) _ (n .note-from-line2 .ensures) in
-    start-cut _ _ (s .args .v) _ _ _ (simp length-map at (s .good .1 .1 .1 .1 .0 .1 .1 .0 .1 .0 .1)) (p .if1 .left) (s .pre .0)
+    start-cut _ _ (s .args .v) _ _ _ (simp length-map at (s .good .1 .1 .1 .0 .1 .1 .0 .1 .0 .1)) (p .if1 .left) (s .pre .0)
     (born-priority _ _ _ _ _ _ _ _ _ born (not-false _ (o .before .if2 .left))) _ (o .oldest-without-priority .ensures) (omega (arith, f .if3 .left))
     (c .before .cut-off .ensures) (c .with-note2 .ensures)
     (start-instr _ _ _ _ _ _ _ _ _ _ _ (p .before .before .before .e .given .1) _ born))

@@ -1,5 +1,6 @@
 use mathlib.Core.Path.{_≡_, sym, _∙_}
 use lib.ListN.{length, length-map}
+use native.Mathlib.Omega.{arith}
 use borrow.Author.Needs.{needs}
 use Rattle.player_model.proofs.Loops.{take-over}
 use Rattle.player_state.specs.States.{stopped}
@@ -18,8 +19,8 @@ one-cycle-spec =
     (λ c. let i = c .before .before .before in
     let s = i .before .before .before .before in
     let h = sym (i .before .is-idle .ensures) ∙ i .if1 .taken in
-    let long : length (s .args .s .queue .lines) ≡ 64 = simp length-map at (s .good .1 .1 .1 .1 .0 .1 .1 .0 .1 .1 .0 .1 .0 .1) in
-    (c .before .idle-cycle .ensures .0 ∙ rest-law _ _ _ h long, c .before .idle-cycle .ensures .1 ∙ rest-block _ _ _ h _))
+    let long : length (s .args .s .queue .lines) ≡ 64 = simp length-map at (s .good .1 .1 .1 .0 .1 .1 .0 .1 .1 .0 .1 .0 .1) in
+    (c .before .idle-cycle .ensures .0 ∙ rest-law _ _ _ h long (omega (arith, s .good)), c .before .idle-cycle .ensures .1 ∙ rest-block _ _ _ h _))
     (λ c κs. search needs) (λ c κs. search needs)
     (λ c. unfold stopped in let d = c .before .before .due-lines .ensures in
     let due = take-over _ _ (d .0) (d .1) in

@@ -11,7 +11,7 @@ idle-cycle-spec =
     tie.close (tie.spec
     (λ c. search needs) (λ c κs. search needs) (λ c κs. search needs)
     (λ c. let s = c .before .before .before .before .before in omega (arith, c .ticks-per-cycle .ensures, cycle-most (s .args .s .playing .tempo), s .pre))
-    (λ c κs. search needs) (λ c κs. search needs) (λ c. search needs)
-    (λ c. unfold silence in let m = c .before .before .before .before .before .before in
-    let t = m .before .before in
-    (rested-law _ _ (t .ticks-per-cycle .ensures) _ (m .before .at-most .ensures) _ (m .add-missed .ensures), t .before .before .limit .ensures)))
+    (λ c κs. search needs) (λ c. search needs)
+    (λ c. unfold silence in let m = c .before .before .before .before .before in
+    let t = m .before in
+    (rested-law _ _ (t .ticks-per-cycle .ensures) _ (m .at-most .ensures), t .before .before .limit .ensures)))

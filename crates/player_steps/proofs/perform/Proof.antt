@@ -1,6 +1,7 @@
 use mathlib.Core.Path.{ap, _∙_}
 use Prim.Native.Nat.{ℕ, min}
 use lib.ListN.{take}
+use Rattle.code_program.specs.InstrumentTable.{instrumentsOf}
 use Rattle.note_events.proofs.Rendered.{control-lines-are}
 use native.Mathlib.Omega.{arith}
 use borrow.Author.Needs.{needs}
@@ -25,7 +26,7 @@ perform-spec =
     let m = v .before .before .before in
     let s = m .before .before .before .before in
     let a = s .args in
-    let t = take (a .n) (a .table) in
+    let t = instrumentsOf (a .instruments) in
     let due = dueIn (a .due) in
     let x = a .settings in
     let b = born-law t (a .code .now) (a .vals .now) (x .ceiling) (min (x .notes) 16) (x .chosen) (a .p) due (m .at-most .result) (m .at-most .ensures) (v .start-notes .result) (v .start-notes .ensures .0) in
