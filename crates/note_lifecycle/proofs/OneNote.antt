@@ -1,7 +1,7 @@
 -- What the code makes of one note, put together from its calls.
 use mathlib.Core.Path.{_≡_, refl, sym, ap, _∙_}
 use mathlib.Core.Bool.{Bool, true, false, not, _&&_}
-use mathlib.Core.List.{List, [], _∷_}
+use mathlib.Core.List.{List, [], _∷_, _++_}
 use Prim.Native.Nat.{ℕ, _+_}
 use lib.Dec.{eqb}
 use lib.Ieee.{Float, binary32, eq, neg, ofBits, ofFields, size, odd, climb, span}
@@ -15,14 +15,14 @@ use Rattle.midi_messages.specs.declared.NoteMessage.{NoteMessage}
 use Rattle.player_model.specs.Cycle.{isHeld}
 use Rattle.player_model.proofs.Lists.{cond-true, cond-false}
 use Rattle.player_model.proofs.Results.{and-false}
-use Rattle.code_interpreter.specs.Passes.{stretch, freshOf, once, Played, played}
-use Rattle.code_interpreter.specs.WorkingArea.{numbersIn, workingAreaOf}
+use Rattle.code_interpreter.specs.Passes.{stretch, frameOf, freshOf, once, sums, Played, played}
+use Rattle.code_interpreter.specs.WorkingArea.{numbersIn, workingAreaOf, areaPlayed}
 use Rattle.note_state.specs.Notes.{newNote, withValues}
 use Rattle.code_interpreter.proofs.Rooms.{once-program, played-program}
 use Rattle.note_state.specs.declared.Note.{Note}
 use Rattle.note_state.specs.declared.NoteLabel.{NoteLabel}
 use Rattle.voices_compiled.specs.Voices.{named}
-use Rattle.note_lifecycle.specs.OneNote.{labelOf, bornNote, noteFromKey, isHeldIn, controlledNote, kNote, ranNote, ranMix}
+use Rattle.note_lifecycle.specs.OneNote.{labelOf, bornNote, noteFromKey, isHeldIn, controlledNote, kNote, ranNote, ranMix, ranArea}
 use Rattle.code_program.specs.declared.Instrument.{Instrument}
 
 pub minus-one : (x : Float) → eq x (neg (ofBits binary32 0x3f800000)) ≡ eq x withoutEnd
@@ -126,6 +126,12 @@ module _ (code : List ℕ) (N N′ : List Float) (x : Instrument) (n k : Note) (
   pub mixed-in : {m : List Float} → m ≡ played N′ (stretch (x .astart) (x .aend) code) (k .values) mix .mix → m ≡ ranMix code N x n mix
   unfolding ranMix kNote
   mixed-in q = q ∙ (λ i. played (e i) (stretch (x .astart) (x .aend) code) (h i .values) mix .mix)
+
+pub area-in : (code : List ℕ) (room room′ : List Float) (x : Instrument) (n k : Note) (mix : List Float) → numbersIn room′ ≡ numbersIn room
+    → k ≡ withValues (once (numbersIn room) (stretch (x .kstart) (x .kend) code) (n .values)) n
+    → {a : List Float} → a ≡ areaPlayed room′ (stretch (x .astart) (x .aend) code) (k .values) mix → a ≡ ranArea code room x n mix
+unfolding ranArea kNote areaPlayed
+area-in code room room′ x n k mix e h q = q ∙ (λ i. sums (e i) (stretch (x .astart) (x .aend) code) (frameOf (h i .values)) mix .frame ++ e i)
 
 -- and in a room with the program's numbers
 module _ (code : List ℕ) (vals : List Float) (x : Instrument) (n : Note) (mix N : List Float) (e : N ≡ numbersIn (workingAreaOf vals)) where

@@ -9,6 +9,7 @@ use Rattle.base_timebase.specs.Time.{ticksIn, endless as withoutEnd}
 use Rattle.score_line.specs.declared.Label.{Label}
 use Rattle.score_line.specs.declared.Line.{Line}
 use Rattle.code_interpreter.specs.Passes.{stretch, freshOf, once, played}
+use Rattle.code_interpreter.specs.WorkingArea.{numbersIn, areaPlayed}
 use Rattle.note_state.specs.Notes.{newNote, withValues}
 use Rattle.note_state.specs.declared.Note.{Note}
 use Rattle.note_state.specs.declared.NoteLabel.{NoteLabel}
@@ -71,6 +72,11 @@ ranNote code vals x n mix =
 unfoldable pub ranMix : List ℕ → List Float → Instrument → Note → List Float → List Float
 unfolding kNote
 ranMix code vals x n mix = played vals (stretch (x .astart) (x .aend) code) (kNote code vals x n .values) mix .mix
+
+-- and the room that it leaves
+unfoldable pub ranArea : List ℕ → List Float → Instrument → Note → List Float → List Float
+unfolding kNote
+ranArea code room x n mix = areaPlayed room (stretch (x .astart) (x .aend) code) (kNote code (numbersIn room) x n .values) mix
 
 -- an unmarked note of a key of a channel
 abbrev pub isHeldIn : ℕ → ℕ → Note → Bool

@@ -18,7 +18,7 @@ ghost use Rattle.code_interpreter.specs.Passes.{stretch, freshOf, once};
 ghost use Rattle.note_state.specs.Notes.{withValues};
 ghost use Rattle.code_interpreter.specs.WorkingArea.{numbersIn};
 ghost use Rattle.voices_compiled.specs.Voices.{named};
-ghost use Rattle.note_lifecycle.specs.OneNote.{noteOf, labelOf, bornNote, noteFromKey, isHeldIn, controlledNote, ranNote, ranMix};
+ghost use Rattle.note_lifecycle.specs.OneNote.{noteOf, labelOf, bornNote, noteFromKey, isHeldIn, controlledNote, ranNote, ranMix, ranArea};
 
 fn select_value(first: bool, x: f32, y: f32) -> f32
     ensures { λ r. ⌜ (r ≡ cond first x y) × T (fits binary32 r) ⌝ }
@@ -176,7 +176,8 @@ pub fn run_note(
 ) -> Note
     ensures note { λ r. ⌜ r ≡ ranNote (now (code .entry)) (numbersIn (now (room .entry))) x n (now (mix .entry)) ⌝ }
     ensures mix { λ r. ⌜ now (mix .exit) ≡ ranMix (now (code .entry)) (numbersIn (now (room .entry))) x n (now (mix .entry)) ⌝ }
-    ensures room { λ r. ⌜ numbersIn (now (room .exit)) ≡ numbersIn (now (room .entry)) ⌝ }
+    ensures same { λ r. ⌜ numbersIn (now (room .exit)) ≡ numbersIn (now (room .entry)) ⌝ }
+    ensures room { λ r. ⌜ now (room .exit) ≡ ranArea (now (code .entry)) (now (room .entry)) x n (now (mix .entry)) ⌝ }
 {
     let k = code_interpreter::run_pass(code, x.kstart, x.kend, room, n);
     code_interpreter::run_a_passes(code, x.astart, x.aend, room, k, mix)

@@ -36,7 +36,7 @@ run-notes-spec =
       omega arith,
       at .inv .1,
       running-step _ _ _ _ _ _ _ _ _ (s .good .1 .1 .1 .0 .1 .0 .1) (omega arith) _ (c .before .before .before .before .before .before .find .ensures) _ (ran .0 ∙ ran-here _ _ _ _ _ _ e) _ (ran .1 .0 ∙ mixed-here _ _ _ _ _ _ e) (at .inv .2),
-      ran .1 .1 ∙ e,
+      ran .1 .1 .0 ∙ e,
     ))
     (λ c. c .before .loop .inv .2 .samples)
     (λ c. let s = c .before .before .before .before .before .before .before in
