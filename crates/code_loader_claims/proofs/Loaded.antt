@@ -33,9 +33,9 @@ use Rattle.voices_resolved.proofs.Rows.{represents}
 use Rattle.code_program.specs.declared.Program.{Program}
 use Rattle.code_loader.specs.Loading as loading
 use Rattle.code_loader.specs.Loading.{mostStarts, laidIn, rowsFrom, programOf, keptOf, loadOf}
-use Rattle.code_loader_claims.specs.Claims.{StandsFor, Loaded, TakenOnly}
+use Rattle.code_loader_claims.specs.Claims.{StandsFor, Loaded, TakenOnly, aCodes, LoadedCode}
 use Rattle.code_loader_claims.proofs.Declarations.{all-known}
-use Rattle.code_loader_claims.proofs.Rows.{programIn, startsIn, wordsIn, all-rows}
+use Rattle.code_loader_claims.proofs.Rows.{programIn, startsIn, wordsIn, all-rows, all-codes}
 
 -- the cells that count
 take-laid : {A : Type 0} (m : ℕ) (d : A) (xs : List A) → length xs ≤ m → take (length xs) (laidIn m d xs) ≡ xs
@@ -110,6 +110,33 @@ module _ (is : List Instrument) (ts : List Token) (d : Orchestra is ts) (m : mea
       subst (StandsFor is) (sym (kept-is hs os ns vs few e))
       (stands-by hs os ns vs few e (wordsOf (map placed is)) (startsOf (map placed is)) code-of is
       (rw n r))
+
+  compiled-codes : (take (keptOf (compile is) .count) (keptOf (compile is) .table) ≡ rowsFrom os ns (startsIn is) (length is) 0 (headsFrom 0 is)) × (keptOf (compile is) .code ≡ wordsIn is)
+  unfolding compile
+  compiled-codes =
+      let hs = headsFrom 0 is in
+      let vs = valsOf (programIn is) in
+      let n : length hs ≡ length is = length-heads 0 is in
+      let few : length hs ≤ mostInstruments = omega (arith, at-most-8 is named) in
+      let e : length os ≡ length ns = length-map (programIn is) opOf ∙ sym (length-map (programIn is) argOf) in
+      let k = kept-is hs os ns vs few e in (
+        ap (λ (p : Program). take (p .count) (p .table)) k ∙ table-is hs os ns vs few e (wordsOf (map placed is)) (startsOf (map placed is)) code-of
+            ∙ ap (λ (c : ℕ). rowsFrom os ns (startsIn is) c 0 hs) n,
+        ap (λ (p : Program). p .code) k ∙ code-is hs os ns vs few e (wordsOf (map placed is)) (startsOf (map placed is)) code-of,
+      )
+
+pub loaded-code : LoadedCode
+unfolding loadOf
+loaded-code bs is a =
+    let e = accepted-exactly bs .1 is a in
+    let ts = a .tokens in
+    let c = compiled-codes is ts (a .derived) (a .sized .within) (a .named) in
+    let t = ap (λ (o : OrchestraRead). take (keptOf (o .program) .count) (keptOf (o .program) .table)) e ∙ c .0 in
+    let w = ap (λ (o : OrchestraRead). keptOf (o .program) .code) e ∙ c .1 in
+    record {
+      rows = ap length t ∙ length-rows (opsOf (programIn is)) (argsOf (programIn is)) (startsIn is) (length is) 0 (headsFrom 0 is) ∙ length-heads 0 is;
+      code = ap₂ aCodes t w ∙ all-codes is [] ts (a .derived) (a .sized .within);
+    }
 
 pub loaded : Loaded
 unfolding loadOf

@@ -18,9 +18,10 @@ use Rattle.code_operations.specs.Words.{codeSize}
 use Rattle.code_interpreter.specs.Passes.{stretch}
 use Rattle.code_translation.specs.Translation.{lowered}
 use Rattle.code_lowering.specs.Orchestra.{filled}
-use Rattle.code_bounds.specs.Sizes.{bodyAt}
+use Rattle.code_bounds.specs.Sizes.{bodyAt, allLowered}
 use Rattle.code_bounds.proofs.Sounding.{instrument-sounds}
 use Rattle.code_loader_claims.specs.Code.{wordsOf, startsOf, InstrumentCode}
+use Rattle.code_loader_claims.specs.Claims.{aCodes}
 use Rattle.code_loader_claims.proofs.Stretches.{instrument-code, getD-filled}
 use Rattle.orchestra_reader.specs.inside.Compiled.{headsFrom}
 use Rattle.code_program.specs.declared.Instrument as row
@@ -127,6 +128,21 @@ module _ (is : List Instrument) (more : List Float) (ts : List Token) (d : Orche
       let r : NamedRow is more i (rowIn is (length before) (length (programIn before))) = rw e (row-is before i rest more ts (rw e at d) m k) in
       let next = rows-from (before ++ i ∷ []) rest (e ∙ sym (append-assoc before (i ∷ []) rest)) ks in
       (r .0, (r .1, rw (length-next before i rest, head-next before i rest) at next))
+
+  -- their a code, one behind the other
+  codes-from : (before rest : List Instrument) → is ≡ before ++ rest
+      → aCodes (rows (length before) (length (programIn before)) rest) (wordsIn is) ≡ allLowered 2 (length (programIn before)) (map placed rest)
+  unfolding aCodes rowsFrom headsFrom allLowered
+  codes-from before [] e = refl
+  codes-from before (i ∷ rest) e =
+      let here : stretch (getD (startsIn is) (2 * (length is + 1) + length before) 0) (getD (startsIn is) (2 * (length is + 1) + length before + 1) 0) (wordsIn is) ≡ lowered 2 (bodyAt (length (programIn before)) (placed i)) 0 (placed i .body) =
+      rw e (code-at before i rest 2 (2 * (length (before ++ i ∷ rest) + 1) + length before) (omega arith) (omega arith)) in
+      let next = codes-from (before ++ i ∷ []) rest (e ∙ sym (append-assoc before (i ∷ []) rest)) in
+      ap₂ (λ (a b : List ℕ). a ++ b) here (rw (length-next before i rest, head-next before i rest) at next)
+
+  pub all-codes : aCodes (rows 0 0 is) (wordsIn is) ≡ allLowered 2 0 (map placed is)
+  unfolding program
+  all-codes = codes-from [] is refl
 
   pub all-rows : AllKnown is → Rows (wordsIn is) (valsOf (programIn is) ++ more) is (rows 0 0 is)
   unfolding program

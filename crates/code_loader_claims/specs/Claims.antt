@@ -1,13 +1,17 @@
 -- What the panel keeps of an orchestra stands for its tree.
 use Prim.Native.Nat.{ℕ}
 use mathlib.Core.Path.{_≡_}
-use mathlib.Core.List.{List}
-use lib.ListN.{take, replicate}
+use mathlib.Core.List.{List, [], _∷_, _++_, map}
+use lib.ListN.{length, take, replicate}
 use Rattle.orchestra_syntax.specs.Names.{mostInstruments}
 use Rattle.base_answer.specs.declared.Answer.the-variants.{Taken}
 use Rattle.orchestra_tokens.specs.Encoding.{Bytes}
 use Rattle.orchestra_syntax.specs.Tree.{Instrument}
 use Rattle.orchestra_syntax.specs.inside.Program.{zeroF}
+use Rattle.orchestra_syntax.specs.inside.Placed.{placed}
+use Rattle.code_interpreter.specs.Passes.{stretch}
+use Rattle.code_bounds.specs.Sizes.{allLowered}
+use Rattle.code_program.specs.declared.Instrument as row
 use Rattle.code_operations.specs.Words.{codeSize, programSize}
 use Rattle.code_program.specs.InstrumentTable.{blank}
 use Rattle.orchestra_reader.specs.Verdict.{Accepted}
@@ -39,3 +43,16 @@ blankProgram = record { table = replicate mostInstruments blank; count = 0; code
 -- A refusal hands back a blank program.
 abbrev pub RefusedBlank : Type 0
 RefusedBlank = (bs : List ℕ) → (loadOf bs .answer ≡ Taken → ⊥) → loadOf bs .program ≡ blankProgram
+
+-- the a code of a table's rows, one behind the other
+unfoldable pub aCodes : List row.Instrument → List ℕ → List ℕ
+aCodes [] code = []
+aCodes (x ∷ xs) code = stretch (x .astart) (x .aend) code ++ aCodes xs code
+
+pub record CodedAs (bs : List ℕ) (is : List Instrument) : Type 0 where
+  pub rows : length (take (loadOf bs .program .count) (loadOf bs .program .table)) ≡ length is
+  pub code : aCodes (take (loadOf bs .program .count) (loadOf bs .program .table)) (loadOf bs .program .code) ≡ allLowered 2 0 (map placed is)
+
+-- An accepted orchestra's program has a row for each instrument, and its a code is that of the instruments.
+abbrev pub LoadedCode : Type 0
+LoadedCode = (bs : List ℕ) (is : List Instrument) → Accepted bs is → CodedAs bs is

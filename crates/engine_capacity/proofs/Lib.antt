@@ -1,0 +1,4 @@
+pub mod Tokens
+pub mod Counts
+pub mod Holds
+pub mod Plans
