@@ -8,6 +8,7 @@
   last bracket; a name that several crates have, without a bracket, is of the crate that was named last.
 - Every `crate: name` of PROMISES.md is declared in that crate's specs/ or proofs/, every `crate::name` in its src/, and every other name in backticks in some crate.
 - The table in docs/DECISIONS.md has exactly the public functions that have a `requires`.
+- README's table of what to read has each file's lines, and in brackets those that are no comment, import or blank.
 """
 import glob
 import os
@@ -140,6 +141,26 @@ def conditions_wrong(decisions):
             + [f"DECISIONS: {f} is in the table and has no condition" for f in sorted(told - have)])
 
 
+def reading_wrong(readme):
+    """The table of what to read against the files: each row's lines, and the sums so far."""
+    wrong, whole = [], [0, 0]
+    table = readme.split("## Where to start reading")[1].split("\n\n")[2]
+    for row in table.split("\n")[2:]:
+        _, part, names, _, told, _ = (cell.strip() for cell in row.split("|"))
+        if names:
+            have = [0, 0]
+            for crate, listed in re.findall(r"`(\w+)/specs/` ([\w, ]+?)(?=, `|$)", names):
+                for name in listed.split(", "):
+                    lines = text_of(f"{ROOT}/crates/{crate}/specs/{name}.antt").split("\n")[:-1]
+                    have[0] += len(lines)
+                    have[1] += sum(1 for line in lines if line.strip() and not line.strip().startswith(("--", "use ")))
+            whole = [a + b for a, b in zip(whole, have)]
+        shown = f"{(have if names else whole)[0]:,} ({(have if names else whole)[1]:,})"
+        if told != shown:
+            wrong.append(f"README: {part}: {shown}, not {told}")
+    return wrong
+
+
 CRATES = crates()
 WRITTEN = {crate: written(crate) for crate in CRATES}
 SPECIFIED = {crate: declared(crate, "specs", "proofs") for crate in CRATES}
@@ -154,7 +175,7 @@ def main():
         wrong += misplaced(crate, label)
     wrong += [f"PROMISES: {crate}/{label} is in no row" for crate, label in sorted(pairs - named)]
     wrong += [f"PROMISES: {label} ({crate}): there is no such edit" for crate, label in sorted(named - pairs)]
-    wrong += names_missing(promises) + conditions_wrong(decisions)
+    wrong += names_missing(promises) + conditions_wrong(decisions) + reading_wrong(text_of(f"{ROOT}/README.md"))
     gate = len(glob.glob(f"{ROOT}/crates/*/must-fail/*.edit"))
     print("\n".join(wrong) if wrong else f"documents: {len(pairs)} edits, {gate} of them in the gate, {len(CRATES)} crates, as they say")
     sys.exit(1 if wrong else 0)
