@@ -117,11 +117,12 @@ fn least(x: f32, d: u8) -> Found
     ensures { λ r. ⌜ LeastIs x d r ⌝ }
 {
     let n = part(x, d);
+    let next = n + 1;
     if reads(x, n, d) {
         return Found::Number(n);
     }
-    if reads(x, n + 1, d) {
-        return Found::Number(n + 1);
+    if reads(x, next, d) {
+        return Found::Number(next);
     }
     Found::None
 }

@@ -13,5 +13,5 @@ held c = subst T (sym (c .good .0 .1)) tt
 pub least-spec : {M : Type 1} → statement M
 least-spec =
     tie.close
-    (tie.spec (λ c κs. search needs) (λ c κs. search needs) (λ c. search (first, held (c .before .before .before)))
-    (λ c. search needs) (λ c κs. search needs) (λ c. search needs) (λ c. search (second, held (c .before .before .before .before .before))) (λ c. search neither))
+    (tie.spec (λ c κs. search needs) (λ c. search needs) (λ c κs. search needs) (λ c. search (first, held (c .before .before .before)))
+    (λ c κs. search needs) (λ c. search (second, held (c .before .before .before .before .before))) (λ c. search neither))
