@@ -39,7 +39,7 @@ use Rattle.panel.specs.Calls.{submitOf}
 use Rattle.code_loader_claims.specs.Claims.{StandsFor}
 use Rattle.panel_claims.specs.Verdict.{Playable, faulty, unplayable, mostLines as mostWait}
 use Rattle.panel_claims.specs.Fresh.{Setup}
-use Rattle.panel_claims.specs.Claims.{afterOf, panel, Given, firstInUse, fresh}
+use Rattle.panel_claims.specs.Claims.{afterOf, coreAfter, panel, Given, firstInUse, fresh}
 use Rattle.panel_claims.proofs.Fitting.{Judged, yes-so, no-so, event-judged}
 use Rattle.panel_claims.proofs.Answers.{at-entrance-given}
 use Rattle.panel_claims.proofs.Past.{own, stands, fresh-invariant, fresh-own}
@@ -95,7 +95,7 @@ firstNumber (a ∷ given) = a .number
 
 module _ (u : Setup) (is : List Instrument) (g : Given u is) where
   answers-four : (l : Line) → afterOf (fresh u) (handing l) .answers ≡ one 4 0 → isTaken (submitOf (fresh u .core) keypad (lineWords l) .answer) ≡ false
-  unfolding afterOf firstNumber
+  unfolding afterOf coreAfter firstNumber
   answers-four l e = ap (λ (given : List Answer). eqb (firstNumber given) 0) e
 
   fresh-takes : (l : Line) → T (valid l) → isTaken (submitOf (fresh u .core) keypad (lineWords l) .answer) ≡ true → Playable is (l .count) (l .event)

@@ -14,7 +14,7 @@ use Rattle.note_pool.proofs.Steps.{each-append}
 use Rattle.panel.specs.State.{playerStateOf, panelOf}
 use Rattle.panel.specs.declared.Panel.{Panel}
 use Rattle.panel.specs.declared.Core.{Core}
-use Rattle.panel_claims.specs.Claims.{afterOf, panel}
+use Rattle.panel_claims.specs.Claims.{afterOf, coreAfter, panel}
 use Rattle.panel_claims.specs.Core.{core, transitionOnCore, GoesAsPanel, CoreAsPanel}
 use Rattle.panel_claims.proofs.Ceiling.{core-as-panel}
 use Rattle.panel_feeder.specs.Order.{numberIn, lineIn, ticksInRank, orderOf}
@@ -50,15 +50,15 @@ module _ (code : List ℕ) (vals : List Float) where
   Made q = panelOf (coreOf q) code vals ≡ q
 
   made-after : (q : Panel) → Made q → (call : Call) → Made (afterOf q call .player)
-  unfolding afterAll
-  made-after q e call = subst (λ (x : Panel). panelOf (coreOf (afterOf x call .player)) code vals ≡ afterOf q call .player) e (goes q (coreOf q) e (call ∷ []) .left)
+  unfolding afterOf
+  made-after q e call = λ i. panelOf (afterOf q call .player .core) (e i .code) (e i .vals)
 
   module _ (area : List ℕ) (n : ℕ) where
     abbrev fc : ℕ → Core → Feeds Core
     fc = coreFeeder code vals area n
 
     handed-made : (position rank : ℕ) (p : Panel) → Made p → Made (handedOf area position rank p .panel)
-    unfolding handedOf afterOf
+    unfolding handedOf afterOf coreAfter
     handed-made position rank p e =
         either-way (λ (x : PanelHanded). Made (x .panel)) (leb (ticksInRank rank) position) (made-after p e (submit keypad (lineWords (lineIn area (numberIn rank))))) e
 
@@ -97,6 +97,7 @@ module _ (code : List ℕ) (vals : List Float) where
       feeds-same = ap (λ (x : Panel). let f = feeder area n at x in record { player = coreOf (f .player); answer = f .answer; line = f .line; at = f .at }) e₁
 
       cycle-same : (k : ℕ) (z : Last) → transitionOf (core code vals) k z (coreOf q) (cycle (r .block)) ≡ transitionOnCore (transitionOf panel k z q (cycle (r .block)))
+      unfolding afterOf
       cycle-same k z = λ i. record { call = cycle (r .block); cycles = k; last = z; before = coreOf q; after = onCore (afterOf (made i) (cycle (r .block))) }
 
       calls-same : (k : ℕ) (z : Last) → traceFrom (core code vals) k z c (r .before) ++ (transitionOf (core code vals) k z (coreOf q) (cycle (r .block)) ∷ [])
@@ -108,7 +109,7 @@ module _ (code : List ℕ) (vals : List Float) where
 
     seen-same : (rs : List Round) (k : ℕ) (z : Last) (p : Panel) (c : Core) → panelOf c code vals ≡ p → (at : ℕ)
         → performance (core code vals) fc k z c at rs ≡ each seenOnCore (performance panel (feeder area n) k z p at rs)
-    unfolding performance each
+    unfolding performance each afterOf
     seen-same [] k z p c e at = refl
     seen-same (r ∷ rs) k z p c e at =
         let f = feeder area n at (p₁ p c e at r) in
@@ -127,7 +128,7 @@ module _ (code : List ℕ) (vals : List Float) where
       place : x .at ≡ y .at
 
     place-same : (rs : List Round) (p : Panel) (c : Core) → panelOf c code vals ≡ p → (at : ℕ) → SamePlace (playedTo (core code vals) fc c at rs) (playedTo panel (feeder area n) p at rs)
-    unfolding playedTo
+    unfolding playedTo afterOf
     place-same [] p c e at = record { left = e; place = refl }
     place-same (r ∷ rs) p c e at =
         let f = feeder area n at (p₁ p c e at r) in

@@ -36,7 +36,7 @@ use Rattle.base_sorting.specs.Sorted.{AllFrom, Rising}
 use Rattle.base_sorting.proofs.Merging.{rising-drop}
 use Rattle.panel_claims.specs.Verdict.{Fits, AllFit, tooLate, mostLines, withLines}
 use Rattle.panel_claims.specs.Fresh.{Setup}
-use Rattle.panel_claims.specs.Claims.{afterOf, panel, Given}
+use Rattle.panel_claims.specs.Claims.{afterOf, coreAfter, panel, Given}
 use Rattle.panel_claims.proofs.Past.{own}
 use Rattle.panel_feeder.specs.Order.{ticksInRank, numberIn, ticksAt, lineIn}
 use Rattle.panel_feeder.specs.Feeding.{Feeds, PanelHanded, handedOf, fedFrom, fedOf}
@@ -110,7 +110,7 @@ module _ (u : Setup) (is : List Instrument) (g : Given u is) where
     handed-due : (p : Panel) (k : ℕ) → K u is g p → (ok : Valid is (lineOf area k)) → playerStateOf p .plays .ended ≡ false
         → AllFit is keypad (own p .reached) (length (own p .holds .waits)) (lineOf area k ∷ []) → leb (ticksInRank k) position ≡ true
         → handedOf area position k p ≡ record { panel = afterOf p (handing (lineOf area k)) .player; answer = submitOf (p .core) keypad (lineWords (lineOf area k)) .answer; more = true }
-    unfolding handedOf afterOf submitOf firstNumber
+    unfolding handedOf afterOf coreAfter submitOf firstNumber
     handed-due p k kept ok runs fit e =
         let z : numberOf (submitOf (p .core) keypad (lineWords (lineOf area k)) .answer) ≡ 0 =
         ap firstNumber (zero-answered u is g 0 none p kept (lineOf area k) ok runs (fit .0)) in
@@ -163,7 +163,7 @@ module _ (u : Setup) (is : List Instrument) (g : Given u is) where
     no-room : (p : Panel) (k : ℕ) → K u is g p → Valid is (lineOf area k) → playerStateOf p .plays .ended ≡ false → tooLate (own p .reached) (lineOf area k .when) ≡ false
         → mostLines ≤ length (own p .holds .waits) → leb (ticksInRank k) position ≡ true
         → (handedOf area position k p .more ≡ false) × (numberOf (handedOf area position k p .answer) ≡ 8)
-    unfolding handedOf afterOf firstNumber
+    unfolding handedOf afterOf coreAfter firstNumber
     no-room p k kept ok runs early full e =
         let l = lineOf area k in
         let z : numberOf (submitOf (p .core) keypad (lineWords l) .answer) ≡ 8 =
