@@ -3,6 +3,20 @@
 // More than any score that a panel takes.
 pub const SCORE_ROOM: usize = 1048576;
 
+// The most lines that are played: their slots and the order of them stand on the stack, of which most systems give 8 MB.
+pub const MOST_LINES: usize = 32768;
+
+// The words of so many slots.
+pub const AREA: usize = 589824;
+
+pub fn area() -> [u32; AREA] {
+    [0; AREA]
+}
+
+pub fn ranks() -> [u64; MOST_LINES] {
+    [0; MOST_LINES]
+}
+
 pub fn score_buffer() -> [u8; SCORE_ROOM] {
     [0; SCORE_ROOM]
 }

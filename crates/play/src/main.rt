@@ -7,20 +7,22 @@ mod wav;
 
 use base_answer::Answer;
 use panel::Core;
-use panel::CoreEntranceResult;
 use panel::Panel;
+use score_decoder::Decoded;
 
 const DEFAULT_CEILING: u32 = 32767;
 
-// Refusal 4.
+// Refusals 4 and 8.
 const NO_INSTRUMENT: u8 = 4;
 
-// The score into a panel's core: typed as text where its name says so.
-fn brought(core: Core, path: &[u8], score: &[u8]) -> CoreEntranceResult {
+const NO_ROOM: u8 = 8;
+
+// The score's lines into an area: typed as text where its name says so.
+fn decoded(path: &[u8], score: &[u8], area: &mut [u32; files::AREA]) -> Decoded {
     if names::is_text(path) {
-        return Core::load_text(core, score);
+        return text_decoder::decode_text(score, area);
     }
-    Core::load_score(core, score)
+    score_decoder::decode_score(score, area)
 }
 
 fn refused(path: &[u8], length: usize, line: usize, a: Answer) {
@@ -38,7 +40,59 @@ fn explained(path: &[u8], score: &[u8], line: usize, a: Answer) {
     }
 }
 
-// The score into it, and then the piece.
+// What is refused of a score: a line of it, or all of it.
+fn told(path: &[u8], score: &[u8], line: usize, a: Answer) {
+    refused(path, score.len(), line, a);
+    explained(path, score, line, a);
+}
+
+// A score that is decoded into no area as long as ours has too many lines.
+fn undecoded(path: &[u8], score: &[u8], line: usize, a: Answer) {
+    if base_answer::number(a) == NO_ROOM {
+        reports::too_many_lines(path);
+        return;
+    }
+    told(path, score, line, a);
+}
+
+// The piece, its lines in order.
+fn in_order<'a>(
+    core: Core,
+    code: &'a [u64],
+    vals: &'a [f32],
+    area: &[u32],
+    order: &[u64],
+    n: usize,
+    out: &[u8],
+) {
+    if n <= order.len() {
+        wav::recorded(core, code, vals, area, &order[..n], out);
+    }
+}
+
+// The lines put in order, and then the piece.
+fn ordered<'a>(
+    core: Core,
+    code: &'a [u64],
+    vals: &'a [f32],
+    path: &[u8],
+    score: &[u8],
+    area: &[u32; files::AREA],
+    n: usize,
+    out: &[u8],
+) {
+    let mut order = files::ranks();
+    let mut room = files::ranks();
+    let r = panel_feeder::prepare(core, area, n, &mut order, &mut room);
+    let a = r.answer;
+    if base_answer::is_taken(a) {
+        in_order(core, code, vals, area, &order, n, out);
+        return;
+    }
+    told(path, score, r.line, a);
+}
+
+// The score decoded, and then the piece.
 fn performed<'a>(
     core: Core,
     code: &'a [u64],
@@ -47,15 +101,14 @@ fn performed<'a>(
     score: &[u8],
     out: &[u8],
 ) {
-    let r = brought(core, path, score);
-    let a = r.answer;
+    let mut area = files::area();
+    let d = decoded(path, score, &mut area);
+    let a = d.answer;
     if base_answer::is_taken(a) {
-        let ready = r.core;
-        wav::recorded(ready, code, vals, out);
+        ordered(core, code, vals, path, score, &area, d.count, out);
         return;
     }
-    refused(path, score.len(), r.line, a);
-    explained(path, score, r.line, a);
+    undecoded(path, score, d.line, a);
 }
 
 // The first n bytes of a buffer are the score, if it did not fill the buffer.

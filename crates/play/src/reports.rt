@@ -22,7 +22,7 @@ pub fn usage() {
         b"  NAMES is a symbol table; a line that names no instrument is then told with its name.\n",
     );
     say(
-        b"  A piece stops at its end line, or where nothing waits and nothing sounds, or after 10 minutes.\n",
+        b"  A piece stops at its end line, or where no line is left and nothing sounds, or 10 minutes behind its last line.\n",
     );
 }
 
@@ -36,7 +36,7 @@ fn meaning(a: Answer) {
         Answer::TooManyValues => say(b"more than 8 values"),
         Answer::NoTime => say(b"a line without a time"),
         Answer::Late => say(b"late"),
-        Answer::NoRoom => say(b"more than 64 lines wait"),
+        Answer::NoRoom => say(b"more than 64 lines are due at once"),
         Answer::Ended => say(b"the piece has ended"),
         Answer::BlockLength => say(b"a block that is not 320 samples long"),
         Answer::LeftOver => say(b"filling bits not zero, or bytes left over"),
@@ -206,7 +206,21 @@ pub fn progress_over() {
 }
 
 pub fn stopped() {
-    say(b"play: stopped after 10 minutes: the piece has not ended\n");
+    say(b"play: stopped 10 minutes behind the last line: the piece has not ended\n");
+}
+
+// A score with more lines than there is room for.
+pub fn too_many_lines(path: &[u8]) {
+    about(path, b": a score of more than 32,768 lines is not read\n");
+}
+
+// A line that is refused when it is due: those before it are in, and nothing of that cycle has sounded.
+pub fn unfed(line: usize, a: Answer) {
+    say(b"play: line ");
+    io::print_decimal(2, line as u64);
+    say(b" (counted from 0): ");
+    meaning(a);
+    numbered(a);
 }
 
 // What was played.
