@@ -36,9 +36,11 @@ unfoldable pub lookupIn : ℕ → List Instrument → Lookup
 lookupIn name [] = record { there = false; instrument = blank }
 lookupIn name (x ∷ xs) = cond (eqb (x .name) name) (record { there = true; instrument = x }) (lookupIn name xs)
 
+-- the instrument with a name, or the blank one
 abbrev pub instrumentIn : List Instrument → ℕ → Instrument
 instrumentIn table name = lookupIn name table .instrument
 
+-- how many fields a found instrument has
 abbrev pub fieldCountFound : Lookup → FieldCount
 fieldCountFound f = cond (f .there) (Count (f .instrument .fields)) NoSuch
 

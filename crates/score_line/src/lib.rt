@@ -26,16 +26,19 @@ pub const MOST_VALUES: usize = 8;
 // How many fields a line has at most: those of an instr line with time, label and all its values. In an area of words each line has a slot of so many.
 pub const SLOT: usize = 10 + MOST_VALUES;
 
+// When a line is used: at its time, or late where use-if-late is set; untimed, in the next cycle (document 01, "has-time").
 pub enum When {
     Timed { use_if_late: bool, time: f32 },
     Untimed,
 }
 
+// The label of an instr line, by which control lines find its note; it may have none (document 01, "has-label").
 pub enum Label {
     Unlabelled,
     Labelled(u16),
 }
 
+// What a line asks for, by its type: instr, control, end or tempo (document 01, types 0, 1, 4 and 5).
 pub enum Event {
     Instr {
         label: Label,
