@@ -49,7 +49,7 @@ by_sfront() {
 # by_play NAME
 by_play() {
     "$here/../bin/assemble" "$1.orc" "$1.sco" >/dev/null
-    echo "$play $1.orc.bin $1.sco.bin $1.wav"
+    echo "$play $1.orc.bin $1.sco.bin -"
 }
 
 # A costly piece's instructions are counted over 10 cycles, a tone's over 100, so that starting the notes weighs little.
