@@ -50,7 +50,7 @@ unfolding insert
 all-insert P x [] h f = (h, tt)
 all-insert P x (y ∷ ys) h f = either-way (All P) (earlier (x .when) (y .when)) (h, f) (f .0, all-insert P x ys h (f .1))
 
-length-onto : (acc xs : List Line) → length (fold (λ (a : List Line) (x : Line). insert x a) acc xs) ≡ length acc + length xs
+pub length-onto : (acc xs : List Line) → length (fold (λ (a : List Line) (x : Line). insert x a) acc xs) ≡ length acc + length xs
 unfolding fold
 length-onto acc [] = omega arith
 length-onto acc (x ∷ xs) = omega (arith, length-insert x acc, length-onto (insert x acc) xs)

@@ -29,7 +29,7 @@ lt-itself x = refuted (lt x x) (λ h. true≢false (sym (lt-le x x h) ∙ lt-not
 lt-back : (x y : Float) → lt x y ≡ true → lt y x ≡ false
 lt-back x y h = refuted (lt y x) (λ k. true≢false (sym (lt-le y x k) ∙ lt-not-le x y h))
 
-eq-le : (x y : Float) → eq x y ≡ true → le x y ≡ true
+pub eq-le : (x y : Float) → eq x y ≡ true → le x y ≡ true
 unfolding le
 eq-le x y h = rw h (or-true (lt x y))
 
@@ -57,7 +57,7 @@ eq-turned (fin s m e) nan = refl
 eq-turned (fin s m e) (inf t) = refl
 eq-turned (fin s m e) (fin t n d) = level-turned s (m * up e * down d) t (n * up d * down e)
 
-eq-back : (x y : Float) → eq x y ≡ true → le y x ≡ true
+pub eq-back : (x y : Float) → eq x y ≡ true → le y x ≡ true
 eq-back x y h = eq-le y x (sym (eq-turned x y) ∙ h)
 
 -- ---- one more line put in
@@ -172,7 +172,7 @@ both-ways Untimed Untimed m n h k = refl
 same-itself : (a : When) → isNumber a → sameTime a a ≡ true
 same-itself a n = both-ways a a n n (may-itself a) (may-itself a)
 
-abbrev AllNumbers : List Line → Type 0
+abbrev pub AllNumbers : List Line → Type 0
 AllNumbers ls = All (λ (l : Line). isNumber (l .when)) ls
 
 -- a line that stands among those of its time stands behind the head
@@ -199,7 +199,7 @@ tails : (x y : Line) (xs ys : List Line) (w : When) → x ≡ y → atTime w (x 
 unfolding filter
 tails x y xs ys w e q = by-test (sameTime w (x .when)) (λ t. cc) (λ t. cc)
 
-alike : (a b : List Line) → AllNumbers a → AllNumbers b → InOrder a → InOrder b → ((w : When) → atTime w a ≡ atTime w b) → a ≡ b
+pub alike : (a b : List Line) → AllNumbers a → AllNumbers b → InOrder a → InOrder b → ((w : When) → atTime w a ≡ atTime w b) → a ≡ b
 unfolding filter
 alike [] [] m n h k q = refl
 alike [] (y ∷ ys) m n h k q = cc (q (y .when), at-head y ys (y .when) (same-itself (y .when) (n .0)))

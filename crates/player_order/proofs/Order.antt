@@ -2,7 +2,7 @@
 use mathlib.Core.Path.{_≡_, refl, sym, ap, _∙_}
 use mathlib.Core.Bool.{Bool, true, false, not, true≢false}
 use mathlib.Core.List.{List, [], _∷_}
-use Prim.Native.Nat.{ℕ, suc, _+_, _≤_}
+use Prim.Native.Nat.{ℕ, suc, _≤_}
 use lib.ListN.{length}
 use native.Mathlib.Omega.{arith}
 use native.Mathlib.Nat.{le-antisymm}
@@ -13,16 +13,15 @@ use Rattle.base_timebase.proofs.RangesAndTicks.{ticks-grow}
 use Rattle.base_timebase.proofs.Pattern.{too-late}
 use Rattle.score_line.specs.declared.When.{When}
 use Rattle.score_line.specs.declared.Line.{Line}
-use Rattle.player_model.specs.Lists.{filter, fold, All}
-use Rattle.player_model.specs.Cycle.{Voices, isDue, insert, ordered}
+use Rattle.player_model.specs.Lists.{filter, All}
+use Rattle.player_model.specs.Cycle.{Voices, isDue, ordered}
 use Rattle.player_model.specs.PlayerState.{Settings, dueAt, laterThan}
 use Rattle.player_model.specs.Plain.{plainAt}
 use Rattle.player_model.specs.Results.{Rearranged, sameTime, atTime, isNumber, DueOrder}
 use Rattle.player_model.proofs.Lists.{by-test, fold-keeps, all-filter}
-use Rattle.player_model.proofs.Count.{length-insert, all-insert}
-use Rattle.player_model.proofs.Order.{due-order}
+use Rattle.player_model.proofs.Count.{all-insert, length-onto}
+use Rattle.player_model.proofs.Order.{eq-le, eq-back, due-order, alike}
 use Rattle.player_order.specs.Order.{AllNumbers, SameByTime, OrderOfTimes}
-use Rattle.player_order.proofs.OneOrder.{alike, eq-le, eq-back}
 use Rattle.player_order.proofs.Waits.{Related, go-alike}
 
 -- two tests, one after the other, in either order
@@ -37,11 +36,6 @@ same-filter f xs ys h w = filter-filter _ f xs ∙ ap (filter f) (h w) ∙ filte
 pub all-ordered : (P : Line → Type 0) (xs : List Line) → All P xs → All P (ordered xs)
 unfolding ordered
 all-ordered P xs h = fold-keeps (All P) P _ (λ before x p r. all-insert P x before p r) xs h [] tt
-
-length-onto : (acc xs : List Line) → length (fold (λ (before : List Line) (x : Line). insert x before) acc xs) ≡ length acc + length xs
-unfolding fold
-length-onto acc [] = omega arith
-length-onto acc (x ∷ xs) = omega (arith, length-insert x acc, length-onto (insert x acc) xs)
 
 pub length-ordered : (xs : List Line) → length (ordered xs) ≡ length xs
 unfolding ordered
