@@ -54,18 +54,3 @@ pub fn is_text(path: &[u8]) -> bool {
     }
     end == SASL && fifth_last(path) == b'.'
 }
-
-// Where the ninth digit of the largest stack's size stands in Linux's table of limits: the fifth line of 79 bytes, behind a name of 26.
-const NINTH_DIGIT: usize = 4 * 79 + 26 + 8;
-
-// Whether the stack may have 100,000,000 bytes, or any number.
-pub fn has_large_stack() -> bool {
-    let fd = os::open_read(b"/proc/self/limits");
-    if fd < 0 {
-        return false;
-    }
-    let mut table = io::buffer();
-    io::read_full(fd, &mut table);
-    libc::close(fd);
-    b' ' < table[NINTH_DIGIT]
-}

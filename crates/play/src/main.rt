@@ -1,17 +1,26 @@
 // Plays a score of any length through an orchestra into a WAV. It tells numbers; the words for people are the front's (bin/play).
 mod files;
-mod large;
 mod piece;
 mod report;
-mod small;
 mod wav;
 
+use base_answer::Answer;
 use panel::Core;
 use panel::Panel;
 use score_decoder::Decoded;
 use score_line::SLOT;
 
 const DEFAULT_CEILING: u32 = 32767;
+
+// What the usual stack of 8 MB has room for, and the kit has no other memory: lines, the words of their slots, bytes of their file.
+const LINES: usize = 32_768;
+
+const WORDS: usize = LINES * SLOT;
+
+const BYTES: usize = 1_048_576;
+
+// Refusal 8.
+const NO_ROOM: u8 = 8;
 
 // A score's lines into the area: of a text where the file's name says so.
 fn decoded(path: &[u8], bytes: &[u8], area: &mut [u32]) -> Decoded {
@@ -21,42 +30,98 @@ fn decoded(path: &[u8], bytes: &[u8], area: &mut [u32]) -> Decoded {
     score_decoder::decode_score(bytes, area)
 }
 
+// More lines than the area has slots are refused 8.
+fn not_taken(path: &[u8], line: usize, a: Answer) {
+    if base_answer::number(a) == NO_ROOM {
+        report::room(path, BYTES, LINES);
+        return;
+    }
+    report::refused_score(path, line, a);
+}
+
+// A file that fills its buffer; one that could not be read was told before.
+fn not_read(path: &[u8], length: usize) {
+    if length < usize::MAX {
+        report::room(path, BYTES, LINES);
+    }
+}
+
 // The lines of a file's first n bytes into the area, and how many; a number past any, and a message, where they are not taken.
-pub fn lines_in(path: &[u8], buffer: &[u8], n: usize, area: &mut [u32]) -> usize {
+fn lines_in(path: &[u8], buffer: &[u8], n: usize, area: &mut [u32]) -> usize {
     if n < buffer.len() {
         let d = decoded(path, &buffer[..n], area);
         let a = d.answer;
         if base_answer::is_taken(a) {
             return d.count;
         }
-        report::refused_score(path, d.line, a);
+        not_taken(path, d.line, a);
         return usize::MAX;
     }
-    report::unread(path, n, buffer.len(), area.len() / SLOT);
+    not_read(path, n);
     usize::MAX
 }
 
 // The piece, the first n ranks its order.
-pub fn in_order<'a>(
+fn in_order<'a>(
     core: Core,
     code: &'a [u64],
     vals: &'a [f32],
     area: &[u32],
     order: &[u64],
     n: usize,
+    path: &[u8],
     out: &[u8],
 ) {
     if n <= order.len() {
-        wav::recorded(core, code, vals, area, &order[..n], out);
+        wav::recorded(core, code, vals, area, &order[..n], path, out);
     }
 }
 
-fn with_score<'a>(core: Core, code: &'a [u64], vals: &'a [f32], path: &[u8], out: &[u8]) {
-    if files::has_large_stack() {
-        large::played(core, code, vals, path, out);
+fn bytes() -> [u8; BYTES] {
+    [0; BYTES]
+}
+
+fn words() -> [u32; WORDS] {
+    [0; WORDS]
+}
+
+fn ranks() -> [u64; LINES] {
+    [0; LINES]
+}
+
+fn lines_of(path: &[u8], buffer: &mut [u8; BYTES], area: &mut [u32; WORDS]) -> usize {
+    let n = files::read(path, buffer);
+    lines_in(path, buffer, n, area)
+}
+
+// The lines put in order, and then the piece.
+fn ordered<'a>(
+    core: Core,
+    code: &'a [u64],
+    vals: &'a [f32],
+    path: &[u8],
+    area: &[u32; WORDS],
+    n: usize,
+    out: &[u8],
+) {
+    let mut order = ranks();
+    let mut room = ranks();
+    let r = panel_feeder::prepare(core, area, n, &mut order, &mut room);
+    let a = r.answer;
+    if base_answer::is_taken(a) {
+        in_order(core, code, vals, area, &order, n, path, out);
         return;
     }
-    small::played(core, code, vals, path, out);
+    report::refused_score(path, r.line, a);
+}
+
+fn with_score<'a>(core: Core, code: &'a [u64], vals: &'a [f32], path: &[u8], out: &[u8]) {
+    let mut buffer = bytes();
+    let mut area = words();
+    let n = lines_of(path, &mut buffer, &mut area);
+    if n <= LINES {
+        ordered(core, code, vals, path, &area, n, out);
+    }
 }
 
 // The settings are one record of version 1: this ceiling, and 16 notes. No keyboard plays here: the first instrument is chosen.

@@ -36,8 +36,13 @@ fn numbered(a: Answer) {
     say(b"\n");
 }
 
+// A fresh start refuses 3 only of the ceiling.
 pub fn refused_start(path: &[u8], a: Answer) {
-    about(path, b": refusal ");
+    if base_answer::number(a) == 3 {
+        about(b"CEILING", b": refusal ");
+    } else {
+        about(path, b": refusal ");
+    }
     numbered(a);
 }
 
@@ -49,16 +54,13 @@ pub fn refused_score(path: &[u8], line: usize, a: Answer) {
     numbered(a);
 }
 
-// A file that fills its buffer; one that could not be read was told before.
-pub fn unread(path: &[u8], length: usize, bytes: usize, lines: usize) {
-    if length == usize::MAX {
-        return;
-    }
+// A score that is longer than there is room for.
+pub fn room(path: &[u8], bytes: usize, lines: usize) {
     about(path, b": there is room for ");
     io::print_decimal(2, lines as u64);
     say(b" lines in fewer than ");
     io::print_decimal(2, bytes as u64);
-    say(b" bytes: a larger stack (ulimit -s 131072) has room for more\n");
+    say(b" bytes; bin/play takes more\n");
 }
 
 // Where a reader has closed the pipe there is nothing to tell.

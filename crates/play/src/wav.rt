@@ -113,37 +113,52 @@ fn filled<'a>(
 ) -> Piece {
     let mut p = crate::piece::begun(core);
     p.ended = crate::piece::is_over(core, 0, order);
-    if write_header(fd, UNKNOWN, UNKNOWN) {
+    p.lost = !write_header(fd, UNKNOWN, UNKNOWN);
+    if !p.lost {
         p = all_cycles(p, code, vals, area, order, fd, most_cycles());
     }
     crate::report::progress_over();
     p
 }
 
-// What was played, on `fd`; a line that is refused on its way was told by none before.
-fn summary(fd: i32, p: Piece, out: &[u8]) {
-    if p.lost {
-        return;
-    }
-    let core = p.core;
+// Whether the piece is as it should be, with a message where a line was refused on its way.
+fn is_sound(p: Piece, path: &[u8]) -> bool {
     let a = p.answer;
-    if !base_answer::is_taken(a) {
-        crate::report::refused_score(out, p.line, a);
-        return;
+    if base_answer::is_taken(a) {
+        return !p.lost;
     }
+    crate::report::refused_score(path, p.line, a);
+    false
+}
+
+// What was played, on `fd`.
+fn summary(fd: i32, p: Piece, out: &[u8]) {
     if !p.ended {
         crate::report::stopped();
     }
+    let core = p.core;
     crate::report::played(fd, out, p.cycles, Core::missed_notes(core), p.first, p.sum);
 }
 
 // The header again, with the number of bytes.
-fn sized(fd: i32, cycles: u32) -> bool {
+fn is_sized(fd: i32, cycles: u32) -> bool {
     let size = cycles % (MOST_CYCLES + 1) * 640;
     if libc::lseek(fd, 0, libc::SEEK_SET) != 0 {
         return false;
     }
     write_header(fd, size % (UNKNOWN - 36) + 36, size)
+}
+
+// What is not whole is removed.
+fn kept_or_removed(p: Piece, path: &[u8], out: &[u8], fd: i32) {
+    let sound = is_sound(p, path);
+    let sized = is_sized(fd, p.cycles);
+    libc::close(fd);
+    if sound && sized {
+        summary(1, p, out);
+        return;
+    }
+    os::unlink(out);
 }
 
 fn to_file<'a>(
@@ -152,6 +167,7 @@ fn to_file<'a>(
     vals: &'a [f32],
     area: &[u32],
     order: &[u64],
+    path: &[u8],
     out: &[u8],
 ) {
     let fd = os::create(out);
@@ -159,16 +175,21 @@ fn to_file<'a>(
         crate::report::fault(out);
         return;
     }
-    let p = filled(core, code, vals, area, order, fd);
-    if sized(fd, p.cycles) {
-        summary(1, p, out);
-    }
-    libc::close(fd);
+    kept_or_removed(filled(core, code, vals, area, order, fd), path, out, fd);
 }
 
-fn to_output<'a>(core: Core, code: &'a [u64], vals: &'a [f32], area: &[u32], order: &[u64]) {
+fn to_output<'a>(
+    core: Core,
+    code: &'a [u64],
+    vals: &'a [f32],
+    area: &[u32],
+    order: &[u64],
+    path: &[u8],
+) {
     let p = filled(core, code, vals, area, order, 1);
-    summary(2, p, b"-");
+    if is_sound(p, path) {
+        summary(2, p, b"-");
+    }
 }
 
 pub fn recorded<'a>(
@@ -177,13 +198,14 @@ pub fn recorded<'a>(
     vals: &'a [f32],
     area: &[u32],
     order: &[u64],
+    path: &[u8],
     out: &[u8],
 ) {
     if out.len() == 1 {
         if program_io::byte_at(out, 0) == b'-' {
-            to_output(core, code, vals, area, order);
+            to_output(core, code, vals, area, order, path);
             return;
         }
     }
-    to_file(core, code, vals, area, order, out);
+    to_file(core, code, vals, area, order, path, out);
 }
