@@ -4,27 +4,18 @@ from __future__ import annotations
 import argparse
 import contextlib
 import os
-import signal
 import sys
-from collections.abc import Callable, Iterator, Sequence
-from types import FrameType
+from collections.abc import Callable, Sequence
 from typing import NoReturn
 
 from .faults import Fault, Usage
 from .files import printable
+from .outputs import drop_unfinished
+from .stopping import Stopped, stopping
 
 DONE, REFUSED, WRONG_USAGE = 0, 1, 2
 # A command that a signal ends has this status and the signal's number more.
 SIGNALLED = 128
-STOPPING = (signal.SIGINT, signal.SIGTERM, signal.SIGHUP)
-
-
-class Stopped(BaseException):
-    """A signal asks for the end: what is half written goes, and then the command ends."""
-
-    def __init__(self, number: int) -> None:
-        super().__init__(number)
-        self.number = number
 
 
 class Parser(argparse.ArgumentParser):
@@ -32,26 +23,6 @@ class Parser(argparse.ArgumentParser):
 
     def error(self, message: str) -> NoReturn:
         raise Usage(message)
-
-
-@contextlib.contextmanager
-def stopping() -> Iterator[None]:
-    """The first signal raises `Stopped`; further ones do not disturb the end. Those that the caller has told to pass over stay so."""
-    before = {number: signal.getsignal(number) for number in STOPPING}
-
-    def stop(number: int, _: FrameType | None) -> NoReturn:
-        for other in before:
-            signal.signal(other, signal.SIG_IGN)
-        raise Stopped(number)
-
-    for number, handler in before.items():
-        if handler is not signal.SIG_IGN:
-            signal.signal(number, stop)
-    try:
-        yield
-    finally:
-        for number, handler in before.items():
-            signal.signal(number, handler)
 
 
 def open_standard_files() -> None:
@@ -91,7 +62,10 @@ def carried_out(name: str, carry_out: Callable[[Sequence[str]], None], arguments
     """The status of a command."""
     try:
         with stopping():
-            carry_out(arguments)
+            try:
+                carry_out(arguments)
+            finally:
+                drop_unfinished()
         return DONE
     except Usage as usage:
         say(name, f"{usage}\n{name} --help tells how it is used")

@@ -10,6 +10,7 @@ from typing import BinaryIO
 
 from .faults import Fault
 from .files import reason, shown
+from .stopping import undisturbed
 
 FIRST_BYTES = 512
 NEW_FILE = 0o666
@@ -66,7 +67,7 @@ class Growing:
         self.path, self.part = path, path + ".part"
         self.is_whole = False
 
-    def opened(self) -> BinaryIO:
+    def locked(self) -> BinaryIO:
         """The part, empty and locked."""
         while True:
             try:
@@ -88,7 +89,9 @@ class Growing:
             os.close(number)
 
     def __enter__(self) -> BinaryIO:
-        self.file = self.opened()
+        with undisturbed():
+            self.file = self.locked()
+            UNFINISHED.add(self)
         return self.file
 
     def __exit__(self, kind: type[BaseException] | None, *_: object) -> None:
@@ -98,12 +101,17 @@ class Growing:
         except OSError as fault:
             raise Fault(f"{shown(self.path)}: not written: {reason(fault)}") from None
         finally:
+            self.drop()
+
+    def drop(self) -> None:
+        """What is not whole goes; the lock goes last."""
+        with undisturbed():
             if not self.is_whole:
                 with contextlib.suppress(OSError):
                     os.remove(self.part)
-            # The lock goes last.
             with contextlib.suppress(OSError):
                 self.file.close()
+            UNFINISHED.discard(self)
 
     def finish(self) -> None:
         """The mode of a file that is replaced stays."""
@@ -112,6 +120,16 @@ class Growing:
             os.fchmod(self.file.fileno(), stat.S_IMODE(os.stat(self.path).st_mode))
         os.replace(self.part, self.path)
         self.is_whole = True
+
+
+# Parts that are neither whole nor removed yet.
+UNFINISHED: set[Growing] = set()
+
+
+def drop_unfinished() -> None:
+    """At the end of a command: a signal can come between a file's making and the care that is taken of it."""
+    for growing in list(UNFINISHED):
+        growing.drop()
 
 
 def is_open_as(number: int, path: str) -> bool:

@@ -15,13 +15,14 @@ from dataclasses import dataclass
 from fractions import Fraction
 
 from . import files, live, midi_file, orchestra, outputs, panel, picture, piece, report, symbols, wav
-from .command import Parser, Stopped, answer, run, say
+from .command import Parser, answer, run, say
 from .faults import Fault, Usage, Warnings
 from .meter import Meter
 from .orchestra import Orchestra
 from .panel import MOST_CEILING, Panel, Samples
 from .piece import Piece
 from .schedule import CYCLES_A_SECOND
+from .stopping import Stopped
 
 NAME = "play"
 HELP = """\
