@@ -60,13 +60,13 @@ unfolding field
 length-field zero v = refl
 length-field (suc n) v = ap suc (length-field n v)
 
-pub getD-field : (n v i : ℕ) → i < n → get_or (field n v) i false ≡ bit (n - suc i) v
+pub get_d-field : (n v i : ℕ) → i < n → get_or (field n v) i false ≡ bit (n - suc i) v
 unfolding field
-getD-field zero v i h = absurd (omega arith)
-getD-field (suc n) v zero h = let e : n ≡ suc n - 1 = omega arith in cc
-getD-field (suc n) v (suc i) h =
+get_d-field zero v i h = absurd (omega arith)
+get_d-field (suc n) v zero h = let e : n ≡ suc n - 1 = omega arith in cc
+get_d-field (suc n) v (suc i) h =
     let e : n - suc i ≡ suc n - suc (suc i) = omega arith in
-    cc (getD-field n v i (omega arith))
+    cc (get_d-field n v i (omega arith))
 
 -- a field of n bits sees only the lowest n
 pub field-low : (n m a w : ℕ) → n ≤ m → field n (a * 2 ^ m + w) ≡ field n w
@@ -74,34 +74,34 @@ unfolding field
 field-low zero m a w h = refl
 field-low (suc n) m a w h = cc (bit-low n m a w h, field-low n m a w (omega arith))
 
-pub valueOf-lt : (l : List Bool) → value_of l < 2 ^ length l
+pub value_of-lt : (l : List Bool) → value_of l < 2 ^ length l
 unfolding value_of
-valueOf-lt [] = omega arith
-valueOf-lt (true ∷ l) = rw pow-suc (omega (arith, valueOf-lt l))
-valueOf-lt (false ∷ l) = rw pow-suc (omega (arith, valueOf-lt l))
+value_of-lt [] = omega arith
+value_of-lt (true ∷ l) = rw pow-suc (omega (arith, value_of-lt l))
+value_of-lt (false ∷ l) = rw pow-suc (omega (arith, value_of-lt l))
 
 -- ---- one law each way, over the width
 
 -- what a field writes is read back
-pub valueOf-field : (n v : ℕ) → value_of (field n v) ≡ v % 2 ^ n
+pub value_of-field : (n v : ℕ) → value_of (field n v) ≡ v % 2 ^ n
 unfolding field value_of
-valueOf-field zero v = sym (mod-one v)
-valueOf-field (suc n) v = cc (digit-bit n v, length-field n v, valueOf-field n v, mod-pow-add v 1 n, add_comm 1 n, add-one n)
+value_of-field zero v = sym (mod-one v)
+value_of-field (suc n) v = cc (digit-bit n v, length-field n v, value_of-field n v, mod-pow-add v 1 n, add_comm 1 n, add-one n)
 
 -- and any bits are the field of the number that they write
-pub field-valueOf : (l : List Bool) → field (length l) (value_of l) ≡ l
+pub field-value_of : (l : List Bool) → field (length l) (value_of l) ≡ l
 unfolding field value_of bit
-field-valueOf [] = refl
-field-valueOf (b ∷ l) =
+field-value_of [] = refl
+field-value_of (b ∷ l) =
     let n = length l in
-    cc (add-zero n, bit_high 0 n (digit b) (value_of l) (valueOf-lt l), bit-own b, field-low n n (digit b) (value_of l) (omega arith), field-valueOf l)
+    cc (add-zero n, bit_high 0 n (digit b) (value_of l) (value_of-lt l), bit-own b, field-low n n (digit b) (value_of l) (omega arith), field-value_of l)
 
 -- ---- bytes
 
-pub length-bitsOf : (s : List ℕ) → length (bits_of s) ≡ 8 * length s
+pub length-bits_of : (s : List ℕ) → length (bits_of s) ≡ 8 * length s
 unfolding bits_of
-length-bitsOf [] = refl
-length-bitsOf (b ∷ s) = omega (arith, length-append (field 8 b) (bits_of s), length-field 8 b, length-bitsOf s)
+length-bits_of [] = refl
+length-bits_of (b ∷ s) = omega (arith, length-append (field 8 b) (bits_of s), length-field 8 b, length-bits_of s)
 
 -- ---- storing
 
@@ -110,60 +110,60 @@ set-append-add [] ys n b = ap (λ (k : ℕ). set ys k b) (zero-add n)
 set-append-add (x ∷ xs) ys n b = rw (suc-add (length xs) n, set-append-add xs ys n b)
 
 -- v with the bit at the place m set to b
-unfoldable pub withBit : ℕ → Bool → ℕ → ℕ
-withBit m b v = (v / 2 ^ m / 2 * 2 + digit b) * 2 ^ m + v % 2 ^ m
+unfoldable pub with_bit : ℕ → Bool → ℕ → ℕ
+with_bit m b v = (v / 2 ^ m / 2 * 2 + digit b) * 2 ^ m + v % 2 ^ m
 
 low-lt : (v m : ℕ) → v % 2 ^ m < 2 ^ m
 low-lt v m = mod-lt v (pow_pos m)
 
-bit-withBit-same : (m v : ℕ) (b : Bool) → bit m (withBit m b v) ≡ b
-unfolding withBit
-bit-withBit-same m v b =
+bit-with_bit-same : (m v : ℕ) (b : Bool) → bit m (with_bit m b v) ≡ b
+unfolding with_bit
+bit-with_bit-same m v b =
     let h = v / 2 ^ m / 2 in
     cc (add-zero m, bit_high 0 m (h * 2 + digit b) (v % 2 ^ m) (low-lt v m), bit-low 0 1 h (digit b) (omega arith), bit-own b)
 
-bit-withBit-below : (k m v : ℕ) (b : Bool) → k < m → bit k (withBit m b v) ≡ bit k v
-unfolding withBit
-bit-withBit-below k m v b h = bit-low k m (v / 2 ^ m / 2 * 2 + digit b) (v % 2 ^ m) h ∙ bit-mod k m v h
+bit-with_bit-below : (k m v : ℕ) (b : Bool) → k < m → bit k (with_bit m b v) ≡ bit k v
+unfolding with_bit
+bit-with_bit-below k m v b h = bit-low k m (v / 2 ^ m / 2 * 2 + digit b) (v % 2 ^ m) h ∙ bit-mod k m v h
 
-bit-withBit-above : (j m v : ℕ) (b : Bool) → bit (m + (1 + j)) (withBit m b v) ≡ bit (m + (1 + j)) v
-unfolding withBit
-bit-withBit-above j m v b =
+bit-with_bit-above : (j m v : ℕ) (b : Bool) → bit (m + (1 + j)) (with_bit m b v) ≡ bit (m + (1 + j)) v
+unfolding with_bit
+bit-with_bit-above j m v b =
     let h = v / 2 ^ m / 2 in
-    let new : bit (m + (1 + j)) (withBit m b v) ≡ bit j h = cc (bit_high (1 + j) m (h * 2 + digit b) (v % 2 ^ m) (low-lt v m), bit_high j 1 h (digit b) (digit_lt b)) in
+    let new : bit (m + (1 + j)) (with_bit m b v) ≡ bit j h = cc (bit_high (1 + j) m (h * 2 + digit b) (v % 2 ^ m) (low-lt v m), bit_high j 1 h (digit b) (digit_lt b)) in
     let old = bit_high j 1 h (v / 2 ^ m % 2) (mod-lt (v / 2 ^ m) (omega arith)) in
     cc (div-add-mod' (v / 2 ^ m) 2, split v m, bit_high (1 + j) m (v / 2 ^ m) (v % 2 ^ m) (low-lt v m))
 
-bit-withBit-other : (k m v : ℕ) (b : Bool) → (k ≡ m → ⊥) → bit k (withBit m b v) ≡ bit k v
-bit-withBit-other k m v b n =
+bit-with_bit-other : (k m v : ℕ) (b : Bool) → (k ≡ m → ⊥) → bit k (with_bit m b v) ≡ bit k v
+bit-with_bit-other k m v b n =
     cases (leb m k)
     (λ h. let l : m < k = lt_of_le-ne (leb-true m k h)
-    (λ e. n (sym e)) in let e : m + (1 + (k - suc m)) ≡ k = omega arith in rw e at (bit-withBit-above (k - suc m) m v b))
-    (λ h. bit-withBit-below k m v b (leb-false m k h))
+    (λ e. n (sym e)) in let e : m + (1 + (k - suc m)) ≡ k = omega arith in rw e at (bit-with_bit-above (k - suc m) m v b))
+    (λ h. bit-with_bit-below k m v b (leb-false m k h))
 
 -- a stored bit is a stored bit of the field
-pub field-withBit : (n v j : ℕ) (b : Bool) → j < n → field n (withBit (n - suc j) b v) ≡ set (field n v) j b
-field-withBit n v j b h =
-    ext_get_or false (field n (withBit (n - suc j) b v)) (set (field n v) j b)
+pub field-with_bit : (n v j : ℕ) (b : Bool) → j < n → field n (with_bit (n - suc j) b v) ≡ set (field n v) j b
+field-with_bit n v j b h =
+    ext_get_or false (field n (with_bit (n - suc j) b v)) (set (field n v) j b)
     (length-field n _ ∙ sym (length-set (field n v) j b ∙ length-field n v))
-    (λ i hi. let l : i < n = rw (length-field n (withBit (n - suc j) b v)) at hi in
-    let g = getD-field n (withBit (n - suc j) b v) i l in
+    (λ i hi. let l : i < n = rw (length-field n (with_bit (n - suc j) b v)) at hi in
+    let g = get_d-field n (with_bit (n - suc j) b v) i l in
     cases (eqb i j)
-    (λ e. let q = eqb-true i j e in cc (g, bit-withBit-same (n - suc j) v b, get_or-set_same (field n v) j b false (rw length-field h)))
+    (λ e. let q = eqb-true i j e in cc (g, bit-with_bit-same (n - suc j) v b, get_or-set_same (field n v) j b false (rw length-field h)))
     (λ e.
     let ne = eqb-false i j e in
-    cc (g, bit-withBit-other (n - suc i) (n - suc j) v b (λ z. ne (omega arith)), get_or-set_other (field n v) j i b false ne, getD-field n v i l)))
+    cc (g, bit-with_bit-other (n - suc i) (n - suc j) v b (λ z. ne (omega arith)), get_or-set_other (field n v) j i b false ne, get_d-field n v i l)))
 
 -- a bit stored in a byte is a bit stored in the bits
-pub set-bitsOf : (s : List ℕ) (q j : ℕ) (b : Bool) → j < 8 → q < length s → bits_of (set s q (withBit (7 - j) b (get_or s q 0))) ≡ set (bits_of s) (8 * q + j) b
+pub set-bits_of : (s : List ℕ) (q j : ℕ) (b : Bool) → j < 8 → q < length s → bits_of (set s q (with_bit (7 - j) b (get_or s q 0))) ≡ set (bits_of s) (8 * q + j) b
 unfolding bits_of
-set-bitsOf [] q j b hj h = absurd (omega arith)
-set-bitsOf (x ∷ s) zero j b hj h =
+set-bits_of [] q j b hj h = absurd (omega arith)
+set-bits_of (x ∷ s) zero j b hj h =
     let e : 7 - j ≡ 8 - suc j = omega arith in
-    cc (field-withBit 8 x j b hj, zero-add j, set-append_left (field 8 x) (bits_of s) j b (rw length-field hj))
-set-bitsOf (x ∷ s) (suc q) j b hj h =
+    cc (field-with_bit 8 x j b hj, zero-add j, set-append_left (field 8 x) (bits_of s) j b (rw length-field hj))
+set-bits_of (x ∷ s) (suc q) j b hj h =
     let e : 8 * suc q + j ≡ 8 + (8 * q + j) = omega arith in
-    cc (set-bitsOf s q j b hj (omega arith), length-field 8 x, set-append-add (field 8 x) (bits_of s) (8 * q + j) b)
+    cc (set-bits_of s q j b hj (omega arith), length-field 8 x, set-append-add (field 8 x) (bits_of s) (8 * q + j) b)
 
 -- a byte with a stored bit is a byte
 pub with-lt : (m v d : ℕ) → m < 8 → v < 2 ^ 8 → d < 2 → (v / 2 ^ m / 2 * 2 + d) * 2 ^ m + v % 2 ^ m < 2 ^ 8

@@ -12,10 +12,10 @@ use lib.Seq.{take_at, drop_at, drop-drop, drop-nil, drop-append-add, take_all, t
 use lib.Dec.{leb}
 use Rattle.base_laws.proofs.Choice.{both_true}
 use Rattle.base_bitstream.specs.Bits.{field, bits_of, value_of}
-use Rattle.base_bitstream.specs.Fields.{farthest, put, over, pick, room_for, readAt, number_of, EveryNumber}
+use Rattle.base_bitstream.specs.Fields.{farthest, put, over, pick, room_for, read_at, number_of, EveryNumber}
 use Rattle.base_bitstream.specs.inside.Fields.{Room, written}
 use Rattle.base_bitstream.specs.declared.FieldRead.TheVariants.{Value, Short}
-use Rattle.base_bitstream.proofs.BitValues.{length-field, valueOf-field, field-valueOf, valueOf-lt, length-bitsOf}
+use Rattle.base_bitstream.proofs.BitValues.{length-field, value_of-field, field-value_of, value_of-lt, length-bits_of}
 
 -- ---- room
 
@@ -52,12 +52,12 @@ room_back bits at n e =
 
 -- where a field stands, it is read, and what follows it follows
 pub read_here : (l : List Bool) (at n v : ℕ) (rest : List Bool) → length l ≤ farthest → 0 < n → n ≤ 32 → v < 2 ^ n → drop at l ≡ put n v rest
-    → (readAt l at n ≡ Value v (at + n)) × (drop (at + n) l ≡ rest)
-unfolding readAt
+    → (read_at l at n ≡ Value v (at + n)) × (drop (at + n) l ≡ rest)
+unfolding read_at
 read_here l at n v rest hl hn hw hv e =
     let k = length-field n v in
     let len : length l - at ≡ length (field n v) + length rest = cc (length-drop at l, length-append (field n v) rest) in
-    let w : value_of (take n (drop at l)) ≡ v = cc (take_at (field n v) rest n k, valueOf-field n v, mod-eq_of_lt hv) in
+    let w : value_of (take n (drop at l)) ≡ v = cc (take_at (field n v) rest n k, value_of-field n v, mod-eq_of_lt hv) in
     (rw (room-yes (length l) at n hw (omega arith) (omega arith), w), cc (drop-drop n at l, drop_at (field n v) rest n k))
 
 -- what is read stands there
@@ -68,8 +68,8 @@ pub record Read (l : List Bool) (at n v p : ℕ) : Type 0 where
   pub value : v ≡ value_of (take n (drop at l))
   pub here : drop at l ≡ put n v (drop p l)
 
-pub read_back : (l : List Bool) (at n v p : ℕ) → readAt l at n ≡ Value v p → Read l at n v p
-unfolding readAt
+pub read_back : (l : List Bool) (at n v p : ℕ) → read_at l at n ≡ Value v p → Read l at n v p
+unfolding read_at
 read_back l at n v p e =
     cases (room_for (length l) at n)
     (λ f.
@@ -79,7 +79,7 @@ read_back l at n v p e =
     let vv : value_of t ≡ v = cc in
     let pp : p ≡ at + n = cc in
     let k : length t ≡ n = length-take-le n (drop at l) (rw length-drop (omega arith)) in
-    record { next = pp; room = h; value = sym vv; small = rw (k, vv) at (valueOf-lt t); here = cc (take-append-drop n (drop at l), field-valueOf t, drop-drop n at l) })
+    record { next = pp; room = h; value = sym vv; small = rw (k, vv) at (value_of-lt t); here = cc (take-append-drop n (drop at l), field-value_of t, drop-drop n at l) })
     (λ f. let r : Short ≡ Value v p = sym (rw f) ∙ e in let z : ◌≡◌ {A = ℕ} 0 1 = cc in absurd (omega arith))
 
 -- ---- writing
@@ -134,25 +134,25 @@ paste-over l at b n e = cc (append_assoc (take at l) (take n b) (drop (at + n) l
 
 -- ---- bits give back the bytes
 
-pub bitsOf-inj : (s t : List ℕ) → ((i : ℕ) → get_or s i 0 < 2 ^ 8) → ((i : ℕ) → get_or t i 0 < 2 ^ 8) → bits_of s ≡ bits_of t → s ≡ t
+pub bits_of-inj : (s t : List ℕ) → ((i : ℕ) → get_or s i 0 < 2 ^ 8) → ((i : ℕ) → get_or t i 0 < 2 ^ 8) → bits_of s ≡ bits_of t → s ≡ t
 unfolding bits_of
-bitsOf-inj [] [] hs ht e = refl
-bitsOf-inj [] (b ∷ t) hs ht e = absurd (omega (arith, ap length e, length-append (field 8 b) (bits_of t), length-field 8 b))
-bitsOf-inj (a ∷ s) [] hs ht e = absurd (omega (arith, ap length e, length-append (field 8 a) (bits_of s), length-field 8 a))
-bitsOf-inj (a ∷ s) (b ∷ t) hs ht e =
+bits_of-inj [] [] hs ht e = refl
+bits_of-inj [] (b ∷ t) hs ht e = absurd (omega (arith, ap length e, length-append (field 8 b) (bits_of t), length-field 8 b))
+bits_of-inj (a ∷ s) [] hs ht e = absurd (omega (arith, ap length e, length-append (field 8 a) (bits_of s), length-field 8 a))
+bits_of-inj (a ∷ s) (b ∷ t) hs ht e =
     let f : field 8 a ≡ field 8 b = cc (take_at (field 8 a) (bits_of s) 8 (length-field 8 a), take_at (field 8 b) (bits_of t) 8 (length-field 8 b)) in
     let r : bits_of s ≡ bits_of t = cc (drop_at (field 8 a) (bits_of s) 8 (length-field 8 a), drop_at (field 8 b) (bits_of t) 8 (length-field 8 b)) in
-    let v : a ≡ b = cc (mod-eq_of_lt (hs 0), valueOf-field 8 a, valueOf-field 8 b, mod-eq_of_lt (ht 0)) in
-    cc (bitsOf-inj s t (λ i. hs (suc i)) (λ i. ht (suc i)) r)
+    let v : a ≡ b = cc (mod-eq_of_lt (hs 0), value_of-field 8 a, value_of-field 8 b, mod-eq_of_lt (ht 0)) in
+    cc (bits_of-inj s t (λ i. hs (suc i)) (λ i. ht (suc i)) r)
 
 -- whole bytes from k on
-pub bitsOf-drop : (k : ℕ) (s : List ℕ) → bits_of (drop k s) ≡ drop (8 * k) (bits_of s)
+pub bits_of-drop : (k : ℕ) (s : List ℕ) → bits_of (drop k s) ≡ drop (8 * k) (bits_of s)
 unfolding bits_of
-bitsOf-drop zero s = refl
-bitsOf-drop (suc k) [] = sym (drop-nil (8 * suc k))
-bitsOf-drop (suc k) (b ∷ s) =
+bits_of-drop zero s = refl
+bits_of-drop (suc k) [] = sym (drop-nil (8 * suc k))
+bits_of-drop (suc k) (b ∷ s) =
     let e : 8 * suc k ≡ 8 + 8 * k = omega arith in
-    cc (bitsOf-drop k s, length-field 8 b, drop-append-add (field 8 b) (bits_of s) (8 * k))
+    cc (bits_of-drop k s, length-field 8 b, drop-append-add (field 8 b) (bits_of s) (8 * k))
 
 -- ---- the two ways through reading and writing, on bytes
 
@@ -160,26 +160,26 @@ bitsOf-drop (suc k) (b ∷ s) =
 pub room-found : {b : Bool} (s : List ℕ) (at n : ℕ) → b ≡ room_for (8 * length s) at n → b ≡ true → Room (8 * length s) at n
 room-found s at n e f = room_back (8 * length s) at n (sym e ∙ f)
 
-pub read_none : {b : Bool} (s : List ℕ) (at n : ℕ) → b ≡ room_for (8 * length s) at n → b ≡ false → Short ≡ readAt (bits_of s) at n
-unfolding readAt
-read_none s at n e f = sym (rw (length-bitsOf s, sym e ∙ f))
+pub read_none : {b : Bool} (s : List ℕ) (at n : ℕ) → b ≡ room_for (8 * length s) at n → b ≡ false → Short ≡ read_at (bits_of s) at n
+unfolding read_at
+read_none s at n e f = sym (rw (length-bits_of s, sym e ∙ f))
 
 pub read_some : {b : Bool} (s : List ℕ) (at n v : ℕ) → b ≡ room_for (8 * length s) at n → b ≡ true → v ≡ value_of (take n (drop at (bits_of s)))
-    → Value v (at + n) ≡ readAt (bits_of s) at n
-unfolding readAt
-read_some s at n v e f g = sym (rw (length-bitsOf s, sym e ∙ f, g))
+    → Value v (at + n) ≡ read_at (bits_of s) at n
+unfolding read_at
+read_some s at n v e f g = sym (rw (length-bits_of s, sym e ∙ f, g))
 
 pub write-none : {b : Bool} (s : List ℕ) (at n v : ℕ) → b ≡ room_for (8 * length s) at n → b ≡ false → bits_of s ≡ written (bits_of s) at n v
 unfolding written
-write-none s at n v e f = sym (rw (length-bitsOf s, sym e ∙ f))
+write-none s at n v e f = sym (rw (length-bits_of s, sym e ∙ f))
 
 pub write-some : {b : Bool} (s t : List ℕ) (at n v : ℕ) → b ≡ room_for (8 * length s) at n → b ≡ true → bits_of t ≡ over (bits_of s) at (field n v)
     → bits_of t ≡ written (bits_of s) at n v
 unfolding written
-write-some s t at n v e f g = g ∙ sym (rw (length-bitsOf s, sym e ∙ f))
+write-some s t at n v e f g = g ∙ sym (rw (length-bits_of s, sym e ∙ f))
 
 pub every-number : EveryNumber
-unfolding readAt
+unfolding read_at
 every-number l at n = go (room_for (length l) at n)
   where
     go : (b : Bool) → number_of (pick b (Value (value_of (take n (drop at l))) (at + n)) Short) ≡ pick b 0 1

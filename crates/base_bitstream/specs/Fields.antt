@@ -25,8 +25,8 @@ pick true a b = a
 pick false a b = b
 
 -- n bits from a position on: their number and the position past them, or `Short` where the list has no such field
-unfoldable pub readAt : List Bool → ℕ → ℕ → FieldRead
-readAt l at n = pick (room_for (length l) at n) (Value (value_of (take n (drop at l))) (at + n)) Short
+unfoldable pub read_at : List Bool → ℕ → ℕ → FieldRead
+read_at l at n = pick (room_for (length l) at n) (Value (value_of (take n (drop at l))) (at + n)) Short
 
 -- document 01's number of each case: 0, or 1 where the bits end before the field is whole
 abbrev pub number_of : FieldRead → ℕ
@@ -34,4 +34,4 @@ number_of (Value v p) = 0
 number_of Short = 1
 
 abbrev pub EveryNumber : Type 0
-EveryNumber = (l : List Bool) (at n : ℕ) → number_of (readAt l at n) ≡ pick (room_for (length l) at n) 0 1
+EveryNumber = (l : List Bool) (at n : ℕ) → number_of (read_at l at n) ≡ pick (room_for (length l) at n) 0 1

@@ -11,14 +11,14 @@ abbrev pub missing : ℕ → ℕ
 missing n = (8 - n % 8) % 8
 
 -- bits, and zero bits to a whole byte
-unfoldable pub filledUp : List Bool → List Bool
-filledUp l = l ++ replicate (missing (length l)) false
+unfoldable pub filled_up : List Bool → List Bool
+filled_up l = l ++ replicate (missing (length l)) false
 
 -- the first n bytes that bits make up
-unfoldable pub bytesFrom : ℕ → List Bool → List ℕ
-bytesFrom zero l = []
-bytesFrom (suc n) l = value_of (take 8 l) ∷ bytesFrom n (drop 8 l)
+unfoldable pub bytes_from : ℕ → List Bool → List ℕ
+bytes_from zero l = []
+bytes_from (suc n) l = value_of (take 8 l) ∷ bytes_from n (drop 8 l)
 
 -- the bytes of a run of whole bytes
 unfoldable pub bytes_of : List Bool → List ℕ
-bytes_of l = bytesFrom (length l / 8) l
+bytes_of l = bytes_from (length l / 8) l

@@ -2,7 +2,7 @@
 ghost use Rattle.std.specs.Prelude.{◌≡◌, ◌+◌, ◌*◌, ◌/◌, ◌%◌, ◌^◌, ◌<◌, ◌≤◌, length, take, drop, set};
 ghost use Rattle.base_bitstream.specs.Bits.{bits_of, bit, field, value_of};
 ghost use Rattle.base_bitstream.specs.inside.Fields.{Room, written};
-ghost use Rattle.base_bitstream.specs.Fields.{room_for, over, readAt};
+ghost use Rattle.base_bitstream.specs.Fields.{room_for, over, read_at};
 ghost use Rattle.base_bitstream.specs.Filling.{filled};
 
 // The last position at which a field may begin.
@@ -53,7 +53,7 @@ fn value_at(s: &[u8], at: usize, n: usize) -> u32
 
 // A field of n bits at a position.
 pub fn read(s: &[u8], at: usize, n: usize) -> FieldRead
-    ensures { result ≡ readAt (bits_of s.now) at n }
+    ensures { result ≡ read_at (bits_of s.now) at n }
 {
     if has_room(s.len(), at, n) {
         let next = at + n;

@@ -2,8 +2,8 @@
 use Rattle.std.specs.Prelude.{ℕ, ◌≡◌, List, [], ◌∷◌, map, ℤ, pos, negsuc}
 use Rattle.std.specs.Float.{binary32}
 use Rattle.std.specs.Float.Ieee.{of_bits}
-use Rattle.base_timebase.specs.Time.{ticksIn, cycleIn}
-use Rattle.base_float32.specs.Limit.{sampleOf}
+use Rattle.base_timebase.specs.Time.{ticks_in, cycle_in}
+use Rattle.base_float32.specs.Limit.{sample_of}
 
 -- what is asked of a float, which is written by its bits
 pub data Question : Type 0 where
@@ -15,10 +15,10 @@ pub data Question : Type 0 where
   sample : ℕ → Question
 
 -- the answer that the definitions give
-unfoldable pub answerTo : Question → ℤ
-answerTo (time b) = pos (ticksIn (of_bits binary32 b))
-answerTo (tempo b) = pos (cycleIn (of_bits binary32 b))
-answerTo (sample b) = sampleOf (of_bits binary32 b) 32767
+unfoldable pub answer_to : Question → ℤ
+answer_to (time b) = pos (ticks_in (of_bits binary32 b))
+answer_to (tempo b) = pos (cycle_in (of_bits binary32 b))
+answer_to (sample b) = sample_of (of_bits binary32 b) 32767
 
 pub record Row : Type 0 where
   pub asked : Question
@@ -49,4 +49,4 @@ table =
 
 -- every row's answer is the printed one
 abbrev pub EveryRowHolds : Type 0
-EveryRowHolds = map (λ (r : Row). answerTo r.asked) table ≡ map (λ (r : Row). r.printed) table
+EveryRowHolds = map (λ (r : Row). answer_to r.asked) table ≡ map (λ (r : Row). r.printed) table

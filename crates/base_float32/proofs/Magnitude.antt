@@ -5,10 +5,10 @@ use lib.IntN.{+ℤ_idl}
 use mir.Facts.{to_z_pos, sfits_lit}
 use lib.Ieee.{Float, nan, inf, fin, lt, neg, of_bits, to_unsigned, up, down}
 use lib.Ieee.Fits.{down_pos}
-use Rattle.base_float32.specs.Builtins.{zeroF, minusOneF}
+use Rattle.base_float32.specs.Builtins.{zero_f, minus_one_f}
 use Rattle.base_float32.specs.Limit.{held}
 
-pub held-large : (y : Float) (c : ℕ) → c < 2 ^ 16 → lt minusOneF y ≡ true → lt y (fin false 1 (pos 16)) ≡ false → c ≡ min (to_unsigned 64 y) c
+pub held-large : (y : Float) (c : ℕ) → c < 2 ^ 16 → lt minus_one_f y ≡ true → lt y (fin false 1 (pos 16)) ≡ false → c ≡ min (to_unsigned 64 y) c
 unfolding lt to_unsigned
 held-large nan c h p q = absurd (true≢false (sym p))
 held-large (inf true) c h p q = absurd (true≢false (sym p))
@@ -20,7 +20,7 @@ held-large (fin false m d) c h p q =
     let b : 2 ^ 16 ≤ m * up d / down d = (le-div_iff_mul-le (down_pos d)).1 (omega arith) in
     omega arith
 
-pub held_none : (y : Float) (c : ℕ) → lt minusOneF y ≡ false → 0 ≡ min (to_unsigned 64 y) c
+pub held_none : (y : Float) (c : ℕ) → lt minus_one_f y ≡ false → 0 ≡ min (to_unsigned 64 y) c
 unfolding lt to_unsigned
 held_none nan c p = omega arith
 held_none (inf true) c p = omega arith
@@ -31,7 +31,7 @@ held_none (fin false m d) c p =
 
 -- a sample's sign and size
 module _ (c : ℕ) (h : c ≤ 32767) where
-  pub sample-below : (y : Float) → lt y zeroF ≡ true → held c y ≡ neg_ℤ (pos (min (to_unsigned 64 (neg y)) c))
+  pub sample-below : (y : Float) → lt y zero_f ≡ true → held c y ≡ neg_ℤ (pos (min (to_unsigned 64 (neg y)) c))
   unfolding lt to_unsigned held neg of_bits
   sample-below nan p = absurd (true≢false (sym p))
   sample-below (inf false) p = absurd (true≢false (sym p))
@@ -41,7 +41,7 @@ module _ (c : ℕ) (h : c ≤ 32767) where
       let v = m * up d / down d in
       let e : min v c ≡ min (min v (2 ^ 64 - 1)) c = omega arith in ap (λ (n : ℕ). neg_ℤ (pos n)) e
 
-  pub sample-above : (y : Float) → lt y zeroF ≡ false → held c y ≡ pos (min (to_unsigned 64 y) c)
+  pub sample-above : (y : Float) → lt y zero_f ≡ false → held c y ≡ pos (min (to_unsigned 64 y) c)
   unfolding lt to_unsigned held of_bits
   sample-above nan p = rw zero-min
   sample-above (inf true) p = absurd (true≢false p)

@@ -3,7 +3,7 @@ use Rattle.std.proofs.Common.{◌≡◌, ℕ, zero, suc, ◌+◌, ◌*◌, ◌<�
 use borrow.Table.Steps.{cases}
 use lib.Ieee.{Float, nan, inf, fin, fits, lt, eq, neg, of_bits, binary32, up, down}
 use lib.Ieee.Back.{whole_unique}
-use Rattle.base_float32.specs.Builtins.{absOf, zeroF}
+use Rattle.base_float32.specs.Builtins.{abs_of, zero_f}
 
 and-true-l : (a b : Bool) → a && b ≡ true → a ≡ true
 and-true-l true b e = refl
@@ -14,24 +14,24 @@ unfolding fits
 fits-abs s zero e t = t
 fits-abs s (suc m) e t = t
 
-abs-below : (x : Float) → lt x zeroF ≡ true → neg x ≡ absOf x
-unfolding lt neg absOf of_bits
+abs-below : (x : Float) → lt x zero_f ≡ true → neg x ≡ abs_of x
+unfolding lt neg abs_of of_bits
 abs-below nan e = cc
 abs-below (inf true) e = refl
 abs-below (inf false) e = cc
 abs-below (fin true m d) e = refl
 abs-below (fin false m d) e = absurd (let h : m * up d * 1 < 0 * down d = ltb-true _ _ e in omega arith)
 
-abs-zero : (x : Float) → T (fits binary32 x) → eq x zeroF ≡ true → zeroF ≡ absOf x
-unfolding eq absOf fits of_bits
+abs-zero : (x : Float) → T (fits binary32 x) → eq x zero_f ≡ true → zero_f ≡ abs_of x
+unfolding eq abs_of fits of_bits
 abs-zero nan t e = cc
 abs-zero (inf s) t e = cc
 abs-zero (fin s m d) t e =
     let h : m * up d * 1 ≡ 0 * down d = eqb-true _ _ (and-true-l _ _ e) in
-    whole_unique binary32 zeroF (fin false m d) false 0 tt (fits-abs s m d t) (refl, refl) (refl, h)
+    whole_unique binary32 zero_f (fin false m d) false 0 tt (fits-abs s m d t) (refl, refl) (refl, h)
 
-abs-above : (x : Float) → lt x zeroF ≡ false → eq x zeroF ≡ false → x ≡ absOf x
-unfolding lt eq absOf of_bits
+abs-above : (x : Float) → lt x zero_f ≡ false → eq x zero_f ≡ false → x ≡ abs_of x
+unfolding lt eq abs_of of_bits
 abs-above nan e f = refl
 abs-above (inf true) e f = cc
 abs-above (inf false) e f = refl
@@ -42,6 +42,6 @@ abs-above (fin true m d) e f =
     let w : m * up d * 1 ≡ 0 * down d = omega arith in
     absurd (true≢false (sym (simp (eq-eqb _ _ w, eq-eqb _ _ z)) ∙ f))
 
-pub abs_is : (x : Float) → T (fits binary32 x) → cond (eq x zeroF) zeroF (cond (lt x zeroF) (neg x) x) ≡ absOf x
+pub abs_is : (x : Float) → T (fits binary32 x) → cond (eq x zero_f) zero_f (cond (lt x zero_f) (neg x) x) ≡ abs_of x
 abs_is x t =
-    cases (eq x zeroF) (λ e. cc (abs-zero x t e)) (λ e. cases (lt x zeroF) (λ f. cc (abs-below x f)) (λ f. cc (abs-above x f e)))
+    cases (eq x zero_f) (λ e. cc (abs-zero x t e)) (λ e. cases (lt x zero_f) (λ f. cc (abs-below x f)) (λ f. cc (abs-above x f e)))

@@ -10,7 +10,7 @@ use lib.Ieee.Fits.{up_pos, down_pos, round-fits}
 use lib.Ieee.Order.{round_mono}
 use lib.Ieee.Positive.{num, den, positive, own_value, positive_of_value, between, values_of_le}
 use lib.Ieee.Scale.{round_same}
-use Rattle.base_float32.specs.Builtins.{int_of, flagOf, zeroF}
+use Rattle.base_float32.specs.Builtins.{int_of, flag_of, zero_f}
 
 -- 2^23, from which on a float is whole
 abbrev big : Float
@@ -69,7 +69,7 @@ sub-whole (fin false m e) (fin false n d) a b h k l =
     (cc (mul-one (m * up e * down d - n * up d * down e), mul-sub c a b, mul_comm c (a - b))))
 
 -- 0 less a whole number; the zero is +0
-minus-whole : (y : Float) (n : ℕ) → HasValue y false n 1 → sub binary32 zeroF y ≡ cond (eqb n 0) zeroF (round binary32 true n 1)
+minus-whole : (y : Float) (n : ℕ) → HasValue y false n 1 → sub binary32 zero_f y ≡ cond (eqb n 0) zero_f (round binary32 true n 1)
 unfolding sub of_bits
 minus-whole (fin true k d) n v = absurd (true≢false v.0)
 minus-whole (fin false k d) zero v =
@@ -139,7 +139,7 @@ abbrev near : Float → Float
 near a = sub binary32 (add binary32 a big) big
 
 abbrev dropped : Float → Float
-dropped a = sub binary32 (near a) (flagOf (lt a (near a)))
+dropped a = sub binary32 (near a) (flag_of (lt a (near a)))
 
 near-is : (s : Float) (n : ℕ) → HasValue s false (2 ^ 23 + n) 1 → sub binary32 s big ≡ round binary32 false n 1
 near-is s n v =
@@ -147,14 +147,14 @@ near-is s n v =
     sub-whole s big (2 ^ 23 + n) (2 ^ 23) v (refl, refl) (omega arith) ∙ ap (λ (z : ℕ). round binary32 false z 1) o
 
 dropped-at : (m : ℕ) (e : ℤ) (n k v : ℕ) (b : Bool) → HasValue (add binary32 (fin false m e) big) false (2 ^ 23 + n) 1 → n ≤ 2 ^ 23 → lt (fin false m e) (round binary32 false n 1) ≡ b
-    → HasValue (flagOf b) false k 1 → n ≡ v + k → dropped (fin false m e) ≡ round binary32 false v 1
+    → HasValue (flag_of b) false k 1 → n ≡ v + k → dropped (fin false m e) ≡ round binary32 false v 1
 dropped-at m e n k v b s h l w o =
     let d : n - k ≡ v = omega arith in
     rw (near-is (add binary32 (fin false m e) big) n s, l)
-    (sub-whole (round binary32 false n 1) (flagOf b) n k (round_whole binary32 false n (omega arith)) w (omega arith) ∙ ap (λ (z : ℕ). round binary32 false z 1) d)
+    (sub-whole (round binary32 false n 1) (flag_of b) n k (round_whole binary32 false n (omega arith)) w (omega arith) ∙ ap (λ (z : ℕ). round binary32 false z 1) d)
 
 dropped-is : (m : ℕ) (e : ℤ) → m * up e < 2 ^ 23 * down e → dropped (fin false m e) ≡ round binary32 false (whole m e) 1
-unfolding flagOf of_bits
+unfolding flag_of of_bits
 dropped-is m e h =
     let v = whole m e in
     let b : v < 2 ^ 23 = (div-lt_iff_lt-mul (down_pos e)).1 h in
@@ -163,13 +163,13 @@ dropped-is m e h =
     (λ s. dropped-at m e (suc v) 1 v true s (omega arith) (below-whole m e (round binary32 false (suc v) 1) (suc v) (round_whole binary32 false (suc v) (omega arith)) ((div-lt_iff_lt-mul (down_pos e)).0 (le_refl (suc v)))) (refl, refl) (omega arith))
     (sum-whole m e h)
 
-zero_is : (n : ℕ) → round binary32 false n 1 ≡ cond (eqb n 0) zeroF (round binary32 false n 1)
+zero_is : (n : ℕ) → round binary32 false n 1 ≡ cond (eqb n 0) zero_f (round binary32 false n 1)
 unfolding round of_bits
 zero_is zero = refl
 zero_is (suc n) = rw eqb-suc-zero
 
 -- the whole part with its sign
-signed_is : (s : Bool) (m : ℕ) (e : ℤ) → m * up e < 2 ^ 23 * down e → cond s (sub binary32 zeroF (dropped (fin false m e))) (dropped (fin false m e)) ≡ int_of (fin s m e)
+signed_is : (s : Bool) (m : ℕ) (e : ℤ) → m * up e < 2 ^ 23 * down e → cond s (sub binary32 zero_f (dropped (fin false m e))) (dropped (fin false m e)) ≡ int_of (fin s m e)
 unfolding int_of
 signed_is false m e h = rw (dropped-is m e h) (zero_is (whole m e))
 signed_is true m e h =
@@ -179,7 +179,7 @@ signed_is true m e h =
 
 -- of x, its magnitude a and whether it is below zero
 abbrev worked : Float → Float → Bool → Float
-worked x a b = cond (lt a big) (cond b (sub binary32 zeroF (dropped a)) (dropped a)) x
+worked x a b = cond (lt a big) (cond b (sub binary32 zero_f (dropped a)) (dropped a)) x
 
 worked-is : (s : Bool) (m : ℕ) (e : ℤ) → T (fits binary32 (fin s m e)) → worked (fin s m e) (fin false m e) s ≡ int_of (fin s m e)
 worked-is s m e t =
@@ -187,11 +187,11 @@ worked-is s m e t =
     (λ p. cc (own-large s m e t (unfold lt in ltb-false _ _ p)))
 
 abbrev worked-out : Float → Float
-worked-out x = worked x (cond (lt x zeroF) (neg x) x) (lt x zeroF)
+worked-out x = worked x (cond (lt x zero_f) (neg x) x) (lt x zero_f)
 
 -- -0 is not below zero
 minus-zero : (e : ℤ) → T (fits binary32 (fin true zero e)) → worked-out (fin true zero e) ≡ int_of (fin true zero e)
-unfolding lt add sub flagOf of_bits int_of fits
+unfolding lt add sub flag_of of_bits int_of fits
 minus-zero e t =
     let v : zero * up e * 1 ≡ 0 * down e = mul-one _ ∙ zero-mul (up e) ∙ sym (zero-mul (down e)) in
     subst (λ (x : Float). worked-out x ≡ int_of x) (whole_unique binary32 (fin true zero (pos 0)) (fin true zero e) true 0 tt t (refl, refl) (refl, v)) refl
@@ -202,10 +202,10 @@ int_is nan t = unfold lt int_of in refl
 int_is (inf true) t = unfold lt int_of of_bits in refl
 int_is (inf false) t = unfold lt int_of of_bits in refl
 int_is (fin false m e) t =
-    let l : lt (fin false m e) zeroF ≡ false = unfold of_bits in from-whole m e zeroF 0 (refl, refl) (omega (arith, zero-mul (down e))) in
+    let l : lt (fin false m e) zero_f ≡ false = unfold of_bits in from-whole m e zero_f 0 (refl, refl) (omega (arith, zero-mul (down e))) in
     rw l (worked-is false m e t)
 int_is (fin true zero e) t = minus-zero e t
 int_is (fin true (suc m) e) t =
     let g : 0 < suc m * up e = mul-pos (zero-lt-suc m) (up_pos e) in
-    let l : lt (fin true (suc m) e) zeroF ≡ true = unfold lt of_bits in lt-ltb 0 (suc m * up e * 1 + 0 * down e) (omega arith) in
+    let l : lt (fin true (suc m) e) zero_f ≡ true = unfold lt of_bits in lt-ltb 0 (suc m * up e * 1 + 0 * down e) (omega arith) in
     rw l (worked-is true (suc m) e t)

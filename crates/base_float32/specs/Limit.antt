@@ -18,8 +18,8 @@ abbrev pub scale : Float
 scale = fin false 1 (pos 15)
 
 -- the sample times 32,768, rounded once, and held; a ceiling past 32,767 counts as 32,767
-unfoldable pub sampleOf : Float → ℕ → ℤ
-sampleOf x ceiling = held (min ceiling 32767) (mul binary32 x scale)
+unfoldable pub sample_of : Float → ℕ → ℤ
+sample_of x ceiling = held (min ceiling 32767) (mul binary32 x scale)
 
 -- not above the ceiling and not below its negative
 abbrev pub Within : ℕ → ℤ → Type 0
@@ -27,4 +27,4 @@ Within ceiling z = (neg_ℤ (pos ceiling) ≤ℤ z) × (z ≤ℤ pos ceiling)
 
 -- the promise of the lock: for every float and every ceiling
 abbrev pub EverySampleWithin : Type 0
-EverySampleWithin = (x : Float) (ceiling : ℕ) → 1 ≤ ceiling → ceiling ≤ 32767 → Within ceiling (sampleOf x ceiling)
+EverySampleWithin = (x : Float) (ceiling : ℕ) → 1 ≤ ceiling → ceiling ≤ 32767 → Within ceiling (sample_of x ceiling)

@@ -2,8 +2,8 @@
 // code does"), and the limited sample (step 6 of a cycle). Every function is total.
 ghost use Rattle.std.specs.Prelude.{◌≡◌, min as lesser, if◌then◌else◌};
 ghost use Rattle.std.specs.Float.Ieee as Ieee;
-ghost use Rattle.base_float32.specs.Builtins.{absOf, sgnOf, int_of, fracOf, minOf, max_of, flagOf, truth, either_of, bothOf, notOf, selectOf};
-ghost use Rattle.base_float32.specs.Limit.{sampleOf};
+ghost use Rattle.base_float32.specs.Builtins.{abs_of, sgn_of, int_of, frac_of, min_of, max_of, flag_of, truth, either_of, both_of, not_of, select_of};
+ghost use Rattle.base_float32.specs.Limit.{sample_of};
 
 // One of two by a test: a choice of values and no branch, so that lanes are worked together.
 fn select_if(test: bool, x: f32, y: f32) -> f32
@@ -13,14 +13,14 @@ fn select_if(test: bool, x: f32, y: f32) -> f32
 }
 
 pub fn abs(x: f32) -> f32
-    ensures { result ≡ absOf x }
+    ensures { result ≡ abs_of x }
 {
     let magnitude = select_if(x < 0.0, -x, x);
     select_if(x == 0.0, 0.0, magnitude)
 }
 
 pub fn sgn(x: f32) -> f32
-    ensures { result ≡ sgnOf x }
+    ensures { result ≡ sgn_of x }
 {
     if 0.0 < x {
         return 1.0;
@@ -47,13 +47,13 @@ pub fn int(x: f32) -> f32
 }
 
 pub fn frac(x: f32) -> f32
-    ensures { result ≡ fracOf x }
+    ensures { result ≡ frac_of x }
 {
     x - int(x)
 }
 
 pub fn min(x: f32, y: f32) -> f32
-    ensures { result ≡ minOf x y }
+    ensures { result ≡ min_of x y }
 {
     if y < x { y } else { x }
 }
@@ -66,43 +66,43 @@ pub fn max(x: f32, y: f32) -> f32
 
 // 1 where a test holds, else 0.
 fn flag(b: bool) -> f32
-    ensures { result ≡ flagOf b }
+    ensures { result ≡ flag_of b }
 {
     if b { 1.0 } else { 0.0 }
 }
 
 pub fn less(x: f32, y: f32) -> f32
-    ensures { result ≡ flagOf (Ieee.lt x y) }
+    ensures { result ≡ flag_of (Ieee.lt x y) }
 {
     flag(x < y)
 }
 
 pub fn greater(x: f32, y: f32) -> f32
-    ensures { result ≡ flagOf (Ieee.lt y x) }
+    ensures { result ≡ flag_of (Ieee.lt y x) }
 {
     flag(y < x)
 }
 
 pub fn less_or_equal(x: f32, y: f32) -> f32
-    ensures { result ≡ flagOf (Ieee.le x y) }
+    ensures { result ≡ flag_of (Ieee.le x y) }
 {
     flag(x <= y)
 }
 
 pub fn greater_or_equal(x: f32, y: f32) -> f32
-    ensures { result ≡ flagOf (Ieee.le y x) }
+    ensures { result ≡ flag_of (Ieee.le y x) }
 {
     flag(y <= x)
 }
 
 pub fn equal(x: f32, y: f32) -> f32
-    ensures { result ≡ flagOf (Ieee.eq x y) }
+    ensures { result ≡ flag_of (Ieee.eq x y) }
 {
     flag(x == y)
 }
 
 pub fn not_equal(x: f32, y: f32) -> f32
-    ensures { result ≡ flagOf (Ieee.ne x y) }
+    ensures { result ≡ flag_of (Ieee.ne x y) }
 {
     flag(x != y)
 }
@@ -123,7 +123,7 @@ pub fn logical_or(x: f32, y: f32) -> f32
 }
 
 pub fn logical_and(x: f32, y: f32) -> f32
-    ensures { result ≡ bothOf x y }
+    ensures { result ≡ both_of x y }
 {
     let p = is_true(x);
     let q = is_true(y);
@@ -131,7 +131,7 @@ pub fn logical_and(x: f32, y: f32) -> f32
 }
 
 pub fn logical_not(x: f32) -> f32
-    ensures { result ≡ notOf x }
+    ensures { result ≡ not_of x }
 {
     let p = is_true(x);
     flag(!p)
@@ -146,7 +146,7 @@ pub fn negate(x: f32) -> f32
 
 // c ? x : y
 pub fn select(c: f32, x: f32, y: f32) -> f32
-    ensures { result ≡ selectOf c x y }
+    ensures { result ≡ select_of c x y }
 {
     if is_true(c) { x } else { y }
 }
@@ -176,7 +176,7 @@ fn capped(ceiling: u16) -> u16
 
 // The sample of x: 16 bits, held between -ceiling and ceiling.
 pub fn sample(x: f32, ceiling: u16) -> i16
-    ensures { result ≡ sampleOf x ceiling }
+    ensures { result ≡ sample_of x ceiling }
 {
     let limit = capped(ceiling);
     let y = x * 32768.0;

@@ -15,7 +15,7 @@ use lib.Ieee.Fits.{and_i, and_l, and_r, eq→eqb}
 use Rattle.base_bitstream.specs.Bits.{digit}
 use Rattle.base_bitstream.specs.declared.FieldRead.{FieldRead}
 use Rattle.base_bitstream.specs.declared.FieldRead.TheVariants.{Value, Short}
-use Rattle.base_formats.specs.Format.{Source, Read, got, refused, and_then, whole, numberFrom, Field, of, Format, field, small, flag, named, found, one_of, nothing, choose, ifSet, ifSetFields, ifSetValid, setThen, timesFrom, timesFields, all, times, as-a}
+use Rattle.base_formats.specs.Format.{Source, Read, got, refused, and_then, whole, number_from, Field, of, Format, field, small, flag, named, found, one_of, nothing, choose, if_set, if_set_fields, if_set_valid, set_then, times_from, times_fields, all, times, as-a}
 use Rattle.base_formats.specs.declared.Fault.{Fault}
 use Rattle.base_formats.specs.declared.Fault.TheVariants as fault
 use Rattle.base_formats.proofs.Gives.{Fits, Gives, Found, Bounded}
@@ -55,12 +55,12 @@ holds-cond P false x y f g = g refl
 
 -- ---- numbers
 
-pub number-there : (s : Source) (width at v q : ℕ) → s width at ≡ Value v q → numberFrom s width at ≡ got v q
-unfolding numberFrom
+pub number-there : (s : Source) (width at v q : ℕ) → s width at ≡ Value v q → number_from s width at ≡ got v q
+unfolding number_from
 number-there s width at v q e = rw e
 
-number-back : (s : Source) (width at : ℕ) → Holds (λ v q. s width at ≡ Value v q) (numberFrom s width at)
-unfolding numberFrom
+number-back : (s : Source) (width at : ℕ) → Holds (λ v q. s width at ≡ Value v q) (number_from s width at)
+unfolding number_from
 number-back s width at = go (s width at) refl
   where
     go : (g : FieldRead) → s width at ≡ g → Holds (λ v q. s width at ≡ Value v q) (whole g)
@@ -90,7 +90,7 @@ module _ {A : Type 0} (width : ℕ) (test : ℕ → Bool) (g : Fault) (value : �
 
   field_back : (s : Source) → Bounded s → (at : ℕ) → Holds (Back (field width test g value number good) s at) ((field width test g value number good).from s at)
   field_back s b at =
-      holds_then (λ v q. s width at ≡ Value v q) (Back (field width test g value number good) s at) (numberFrom s width at) (λ v p. cond (test v) (got (value v) p) (refused g)) (number-back s width at)
+      holds_then (λ v q. s width at ≡ Value v q) (Back (field width test g value number good) s at) (number_from s width at) (λ v p. cond (test v) (got (value v) p) (refused g)) (number-back s width at)
       (λ v q e. holds-cond (Back (field width test g value number good) s at) (test v) (got (value v) q) (refused g)
       (λ t.
       let n : number (value v) ≡ v = st.back v (λ w. b at v q (subst (λ (x : ℕ). s x at ≡ Value v q) w e)) t in
@@ -170,14 +170,14 @@ module _ {K : Type 0} (width : ℕ) (number : K → ℕ) (ks : List K) (g : Faul
   name-fits : (k : K) → Fits width (number k)
   name-fits k = record { some = some_bits; most = most-bits; small = below k }
 
-  pub oneOf-law : Law (one_of width number ks g)
-  oneOf-law =
+  pub one_of-law : Law (one_of width number ks g)
+  one_of-law =
       record {
         there = λ s at p k rest h given.
             let r = given (name-fits k) in
             record { next = r.next; is = rw (number-there s width at (number k) r.next r.reads, listed k); then = r.then };
         back = λ s b at.
-            holds_then (λ v q. s width at ≡ Value v q) (Back (one_of width number ks g) s at) (numberFrom s width at) (λ n p. found g p (named number ks n)) (number-back s width at)
+            holds_then (λ v q. s width at ≡ Value v q) (Back (one_of width number ks g) s at) (number_from s width at) (λ n p. found g p (named number ks n)) (number-back s width at)
             (λ v q e. holds-map (found g q (named number ks v)) (λ k p h. record {
               is-valid = tt;
               gives = λ rest end r f. record { next = p; reads = e ∙ ap₂ (λ (x y : ℕ). Value x y) h.0 h.1; then = r };
@@ -222,78 +222,78 @@ module _ {K : Type 0} {B : K → Type 0} (f : Format K) (g : (k : K) → Format 
       }
 
 module _ {A : Type 0} (f : Format A) (lf : Law f) where
-  ifSet-there : (s : Source) (at p : ℕ) (a : Option A) (rest : List Field) → T (ifSetValid f a) → Gives s at (ifSetFields f a rest) p → Found ((ifSet f).from s at) a (λ q. Gives s q rest p)
-  ifSet-there s at p none rest h r =
+  if_set-there : (s : Source) (at p : ℕ) (a : Option A) (rest : List Field) → T (if_set_valid f a) → Gives s at (if_set_fields f a rest) p → Found ((if_set f).from s at) a (λ q. Gives s q rest p)
+  if_set-there s at p none rest h r =
       let a = flag-law.there s at p false rest (valid-flag false) r in
       record { next = a.next; is = rw a.is; then = a.then }
-  ifSet-there s at p (some x) rest h r =
+  if_set-there s at p (some x) rest h r =
       let a = flag-law.there s at p true (f.fields x rest) (valid-flag true) r in
       let b = lf.there s a.next p x rest h a.then in
       record { next = b.next; is = rw (a.is, b.is); then = b.then }
 
-  ifSet-back : (s : Source) → Bounded s → (at : ℕ) → Holds (Back (ifSet f) s at) ((ifSet f).from s at)
-  ifSet-back s b at =
-      holds_then (Back flag s at) (Back (ifSet f) s at) (flag.from s at) (λ has p. cond has (and_then (f.from s p) (λ a q. got (some a) q)) (got none p)) (flag-law.back s b at) cases
+  if_set-back : (s : Source) → Bounded s → (at : ℕ) → Holds (Back (if_set f) s at) ((if_set f).from s at)
+  if_set-back s b at =
+      holds_then (Back flag s at) (Back (if_set f) s at) (flag.from s at) (λ has p. cond has (and_then (f.from s p) (λ a q. got (some a) q)) (got none p)) (flag-law.back s b at) cases
     where
-      cases : (has : Bool) (p : ℕ) → Back flag s at has p → Holds (Back (ifSet f) s at) (cond has (and_then (f.from s p) (λ a q. got (some a) q)) (got none p))
-      cases true p h = holds_then (Back f s p) (Back (ifSet f) s at) (f.from s p) (λ a q. got (some a) q) (lf.back s b p)
+      cases : (has : Bool) (p : ℕ) → Back flag s at has p → Holds (Back (if_set f) s at) (cond has (and_then (f.from s p) (λ a q. got (some a) q)) (got none p))
+      cases true p h = holds_then (Back f s p) (Back (if_set f) s at) (f.from s p) (λ a q. got (some a) q) (lf.back s b p)
           (λ a q j. record { is-valid = j.is-valid; gives = λ rest end r. h.gives (f.fields a rest) end (j.gives rest end r) })
       cases false p h = record { is-valid = tt; gives = h.gives }
 
-  ifSet-small : (a : Option A) (rest : List Field) → T (ifSetValid f a) → Small rest → Small (ifSetFields f a rest)
-  ifSet-small none rest h r = flag-law.small false rest (valid-flag false) r
-  ifSet-small (some x) rest h r = flag-law.small true (f.fields x rest) (valid-flag true) (lf.small x rest h r)
+  if_set-small : (a : Option A) (rest : List Field) → T (if_set_valid f a) → Small rest → Small (if_set_fields f a rest)
+  if_set-small none rest h r = flag-law.small false rest (valid-flag false) r
+  if_set-small (some x) rest h r = flag-law.small true (f.fields x rest) (valid-flag true) (lf.small x rest h r)
 
-  pub ifSet-law : Law (ifSet f)
-  ifSet-law = record { there = ifSet-there; back = ifSet-back; small = ifSet-small }
+  pub if_set-law : Law (if_set f)
+  if_set-law = record { there = if_set-there; back = if_set-back; small = if_set-small }
 
-  setThen-there : (g : Fault) (s : Source) (at p : ℕ) (a : A) (rest : List Field) → T (f.valid a) → Gives s at ((setThen g f).fields a rest) p → Found ((setThen g f).from s at) a (λ q. Gives s q rest p)
-  setThen-there g s at p x rest h r =
+  set_then-there : (g : Fault) (s : Source) (at p : ℕ) (a : A) (rest : List Field) → T (f.valid a) → Gives s at ((set_then g f).fields a rest) p → Found ((set_then g f).from s at) a (λ q. Gives s q rest p)
+  set_then-there g s at p x rest h r =
       let a = flag-law.there s at p true (f.fields x rest) (valid-flag true) r in
       let b = lf.there s a.next p x rest h a.then in
       record { next = b.next; is = rw (a.is, b.is); then = b.then }
 
-  setThen-back : (g : Fault) (s : Source) → Bounded s → (at : ℕ) → Holds (Back (setThen g f) s at) ((setThen g f).from s at)
-  setThen-back g s b at =
-      holds_then (Back flag s at) (Back (setThen g f) s at) (flag.from s at) (λ has p. cond has (f.from s p) (refused g)) (flag-law.back s b at) cases
+  set_then-back : (g : Fault) (s : Source) → Bounded s → (at : ℕ) → Holds (Back (set_then g f) s at) ((set_then g f).from s at)
+  set_then-back g s b at =
+      holds_then (Back flag s at) (Back (set_then g f) s at) (flag.from s at) (λ has p. cond has (f.from s p) (refused g)) (flag-law.back s b at) cases
     where
-      cases : (has : Bool) (p : ℕ) → Back flag s at has p → Holds (Back (setThen g f) s at) (cond has (f.from s p) (refused g))
+      cases : (has : Bool) (p : ℕ) → Back flag s at has p → Holds (Back (set_then g f) s at) (cond has (f.from s p) (refused g))
       cases true p h = holds-map (f.from s p)
           (λ a q j. record { is-valid = j.is-valid; gives = λ rest end r. h.gives (f.fields a rest) end (j.gives rest end r) }) (lf.back s b p)
       cases false p h = tt
 
-  pub setThen-law : (g : Fault) → Law (setThen g f)
-  setThen-law g = record { there = setThen-there g; back = setThen-back g; small = λ a rest h r. flag-law.small true (f.fields a rest) (valid-flag true) (lf.small a rest h r) }
+  pub set_then-law : (g : Fault) → Law (set_then g f)
+  set_then-law g = record { there = set_then-there g; back = set_then-back g; small = λ a rest h r. flag-law.small true (f.fields a rest) (valid-flag true) (lf.small a rest h r) }
 
   -- ---- that many
 
-  times-there : (s : Source) (at p : ℕ) (xs : List A) (rest : List Field) → T (all f.valid xs) → Gives s at (timesFields f xs rest) p
-      → Found (timesFrom f s (length xs) at) xs (λ q. Gives s q rest p)
+  times-there : (s : Source) (at p : ℕ) (xs : List A) (rest : List Field) → T (all f.valid xs) → Gives s at (times_fields f xs rest) p
+      → Found (times_from f s (length xs) at) xs (λ q. Gives s q rest p)
   times-there s at p [] rest h r = record { next = at; is = refl; then = r }
   times-there s at p (x ∷ xs) rest h r =
-      let a = lf.there s at p x (timesFields f xs rest) (and_l (f.valid x) (all f.valid xs) h) r in
+      let a = lf.there s at p x (times_fields f xs rest) (and_l (f.valid x) (all f.valid xs) h) r in
       let b = times-there s a.next p xs rest (and_r (f.valid x) (all f.valid xs) h) a.then in
       record { next = b.next; is = rw (a.is, b.is); then = b.then }
 
-  times-back : (s : Source) → Bounded s → (n at : ℕ) → Holds (Back (times n f) s at) (timesFrom f s n at)
+  times-back : (s : Source) → Bounded s → (n at : ℕ) → Holds (Back (times n f) s at) (times_from f s n at)
   times-back s b zero at = record { is-valid = tt; gives = λ rest end r. r }
   times-back s b (suc n) at =
-      holds_then (Back f s at) (Back (times (suc n) f) s at) (f.from s at) (λ x p. and_then (timesFrom f s n p) (λ xs q. got (x ∷ xs) q)) (lf.back s b at)
-      (λ x p h. holds_then (Back (times n f) s p) (Back (times (suc n) f) s at) (timesFrom f s n p) (λ xs q. got (x ∷ xs) q) (times-back s b n p)
+      holds_then (Back f s at) (Back (times (suc n) f) s at) (f.from s at) (λ x p. and_then (times_from f s n p) (λ xs q. got (x ∷ xs) q)) (lf.back s b at)
+      (λ x p h. holds_then (Back (times n f) s p) (Back (times (suc n) f) s at) (times_from f s n p) (λ xs q. got (x ∷ xs) q) (times-back s b n p)
       (λ xs q j. record {
         is-valid = and_i (eqb (suc (length xs)) (suc n)) (f.valid x && all f.valid xs) (eq→eqb (ap suc (eqb→eq (length xs) n (and_l (eqb (length xs) n) (all f.valid xs) j.is-valid))))
             (and_i (f.valid x) (all f.valid xs) h.is-valid (and_r (eqb (length xs) n) (all f.valid xs) j.is-valid));
-        gives = λ rest end r. h.gives (timesFields f xs rest) end (j.gives rest end r);
+        gives = λ rest end r. h.gives (times_fields f xs rest) end (j.gives rest end r);
       }))
 
-  times-small : (xs : List A) (rest : List Field) → T (all f.valid xs) → Small rest → Small (timesFields f xs rest)
+  times-small : (xs : List A) (rest : List Field) → T (all f.valid xs) → Small rest → Small (times_fields f xs rest)
   times-small [] rest h r = r
-  times-small (x ∷ xs) rest h r = lf.small x (timesFields f xs rest) (and_l (f.valid x) (all f.valid xs) h) (times-small xs rest (and_r (f.valid x) (all f.valid xs) h) r)
+  times-small (x ∷ xs) rest h r = lf.small x (times_fields f xs rest) (and_l (f.valid x) (all f.valid xs) h) (times-small xs rest (and_r (f.valid x) (all f.valid xs) h) r)
 
   pub times-law : (n : ℕ) → Law (times n f)
   times-law n =
       record {
-        there = λ s at p xs rest h r. subst (λ (k : ℕ). Found (timesFrom f s k at) xs (λ q. Gives s q rest p)) (eqb→eq (length xs) n (and_l (eqb (length xs) n) (all f.valid xs) h))
+        there = λ s at p xs rest h r. subst (λ (k : ℕ). Found (times_from f s k at) xs (λ q. Gives s q rest p)) (eqb→eq (length xs) n (and_l (eqb (length xs) n) (all f.valid xs) h))
             (times-there s at p xs rest (and_r (eqb (length xs) n) (all f.valid xs) h) r);
         back = λ s b at. times-back s b n at;
         small = λ xs rest h r. times-small xs rest (and_r (eqb (length xs) n) (all f.valid xs) h) r;

@@ -19,9 +19,9 @@ pub data Description : Type 0 → Type 1 where
   -- one, and then one that depends on it
   choose : {K : Type 0} {B : K → Type 0} → Description K → ((k : K) → Description (B k)) → Description ((k : K) × B k)
   -- a flag, and if set, what follows
-  ifSet : {A : Type 0} → Description A → Description (Option A)
+  if_set : {A : Type 0} → Description A → Description (Option A)
   -- a flag that must be set, else a fault, before what follows
-  setThen : {A : Type 0} → Fault → Description A → Description A
+  set_then : {A : Type 0} → Fault → Description A → Description A
   -- that many, one after the other
   times : {A : Type 0} → ℕ → Description A → Description (List A)
   -- the same fields, as another type; of that type, those that the test admits
@@ -42,7 +42,7 @@ format (field w t g v n ok) = F.field w t g v n ok
 format (one_of w n ks g) = F.one_of w n ks g
 format nothing = F.nothing
 format (choose d e) = F.choose (format d) (λ k. format (e k))
-format (ifSet d) = F.ifSet (format d)
-format (setThen g d) = F.setThen g (format d)
+format (if_set d) = F.if_set (format d)
+format (set_then g d) = F.set_then g (format d)
 format (times n d) = F.times n (format d)
 format (as-a into out is d) = F.as-a into out is (format d)

@@ -5,7 +5,7 @@ use Rattle.std.proofs.Math.Option.{Option, none, some}
 use Rattle.base_bitstream.specs.Bits.{digit}
 use Rattle.base_formats.specs.declared.Fault.{Fault}
 use Rattle.base_formats.specs.declared.Fault.TheVariants as fault
-use Rattle.base_bitstream.specs.Fields.{readAt, pick, put}
+use Rattle.base_bitstream.specs.Fields.{read_at, pick, put}
 use Rattle.base_bitstream.specs.declared.FieldRead.{FieldRead}
 use Rattle.base_bitstream.specs.declared.FieldRead.TheVariants.{Value, Short}
 use Rattle.base_formats.specs.declared.Fault.TheVariants.{CutShort}
@@ -17,12 +17,12 @@ abbrev pub Source : Type 0
 Source = ℕ → ℕ → FieldRead
 
 -- bits: a field of that width
-unfoldable pub bitSource : List Bool → Source
-bitSource l width at = readAt l at width
+unfoldable pub bit_source : List Bool → Source
+bit_source l width at = read_at l at width
 
 -- the keypad: the next of its numbers, whatever the width
-unfoldable pub keypadSource : List ℕ → Source
-keypadSource words width at = pick (ltb at (length words)) (Value (get_or words at 0) (at + 1)) Short
+unfoldable pub keypad_source : List ℕ → Source
+keypad_source words width at = pick (ltb at (length words)) (Value (get_or words at 0) (at + 1)) Short
 
 -- ---- what reading a part gives
 
@@ -41,8 +41,8 @@ whole (Value v p) = got v p
 whole Short = refused CutShort
 
 -- a field's number
-unfoldable pub numberFrom : Source → ℕ → ℕ → Read ℕ
-numberFrom s width at = whole (s width at)
+unfoldable pub number_from : Source → ℕ → ℕ → Read ℕ
+number_from s width at = whole (s width at)
 
 -- ---- the one list of fields that a record's bits and its keypad numbers are made of
 
@@ -51,14 +51,14 @@ pub data Field : Type 0 where
   of : ℕ → ℕ → Field
 
 -- the bits of fields, each in its width, before what follows
-unfoldable pub fieldBits : List Field → List Bool → List Bool
-fieldBits [] rest = rest
-fieldBits (of width v ∷ fs) rest = put width v (fieldBits fs rest)
+unfoldable pub field_bits : List Field → List Bool → List Bool
+field_bits [] rest = rest
+field_bits (of width v ∷ fs) rest = put width v (field_bits fs rest)
 
 -- the numbers of fields, for the keypad
-unfoldable pub fieldWords : List Field → List ℕ
-fieldWords [] = []
-fieldWords (of width v ∷ fs) = v ∷ fieldWords fs
+unfoldable pub field_words : List Field → List ℕ
+field_words [] = []
+field_words (of width v ∷ fs) = v ∷ field_words fs
 
 -- ---- a format
 
@@ -73,7 +73,7 @@ pub record Format (A : Type 0) : Type 0 where
 abbrev pub field : {A : Type 0} → ℕ → (ℕ → Bool) → Fault → (ℕ → A) → (A → ℕ) → (A → Bool) → Format A
 field width test f value number good =
     record {
-      from = λ s at. and_then (numberFrom s width at) (λ v p. cond (test v) (got (value v) p) (refused f));
+      from = λ s at. and_then (number_from s width at) (λ v p. cond (test v) (got (value v) p) (refused f));
       fields = λ a rest. of width (number a) ∷ rest;
       valid = λ a. good a && test (number a);
     }
@@ -110,7 +110,7 @@ found f p (some k) = got k p
 abbrev pub one_of : {K : Type 0} → ℕ → (K → ℕ) → List K → Fault → Format K
 one_of width number ks f =
     record {
-      from = λ s at. and_then (numberFrom s width at) (λ n p. found f p (named number ks n));
+      from = λ s at. and_then (number_from s width at) (λ n p. found f p (named number ks n));
       fields = λ k rest. of width (number k) ∷ rest;
       valid = λ k. true;
     }
@@ -131,25 +131,25 @@ choose f g =
     }
 
 -- a flag, and if set, what follows
-abbrev pub ifSetFields : {A : Type 0} → Format A → Option A → List Field → List Field
-ifSetFields f none rest = flag.fields false rest
-ifSetFields f (some a) rest = flag.fields true (f.fields a rest)
+abbrev pub if_set_fields : {A : Type 0} → Format A → Option A → List Field → List Field
+if_set_fields f none rest = flag.fields false rest
+if_set_fields f (some a) rest = flag.fields true (f.fields a rest)
 
-abbrev pub ifSetValid : {A : Type 0} → Format A → Option A → Bool
-ifSetValid f none = true
-ifSetValid f (some a) = f.valid a
+abbrev pub if_set_valid : {A : Type 0} → Format A → Option A → Bool
+if_set_valid f none = true
+if_set_valid f (some a) = f.valid a
 
-abbrev pub ifSet : {A : Type 0} → Format A → Format (Option A)
-ifSet f =
+abbrev pub if_set : {A : Type 0} → Format A → Format (Option A)
+if_set f =
     record {
       from = λ s at. and_then (flag.from s at) (λ has p. cond has (and_then (f.from s p) (λ a q. got (some a) q)) (got none p));
-      fields = ifSetFields f;
-      valid = ifSetValid f;
+      fields = if_set_fields f;
+      valid = if_set_valid f;
     }
 
 -- a flag that must be set, before what follows
-abbrev pub setThen : {A : Type 0} → Fault → Format A → Format A
-setThen g f =
+abbrev pub set_then : {A : Type 0} → Fault → Format A → Format A
+set_then g f =
     record {
       from = λ s at. and_then (flag.from s at) (λ has p. cond has (f.from s p) (refused g));
       fields = λ a rest. flag.fields true (f.fields a rest);
@@ -157,17 +157,17 @@ setThen g f =
     }
 
 -- that many, one after the other
-abbrev pub timesFrom : {A : Type 0} → Format A → Source → ℕ → ℕ → Read (List A)
-timesFrom f s zero at = got [] at
-timesFrom f s (suc n) at = and_then (f.from s at) (λ x p. and_then (timesFrom f s n p) (λ xs q. got (x ∷ xs) q))
+abbrev pub times_from : {A : Type 0} → Format A → Source → ℕ → ℕ → Read (List A)
+times_from f s zero at = got [] at
+times_from f s (suc n) at = and_then (f.from s at) (λ x p. and_then (times_from f s n p) (λ xs q. got (x ∷ xs) q))
 
-abbrev pub timesFields : {A : Type 0} → Format A → List A → List Field → List Field
-timesFields f [] rest = rest
-timesFields f (x ∷ xs) rest = f.fields x (timesFields f xs rest)
+abbrev pub times_fields : {A : Type 0} → Format A → List A → List Field → List Field
+times_fields f [] rest = rest
+times_fields f (x ∷ xs) rest = f.fields x (times_fields f xs rest)
 
 abbrev pub all : {A : Type 0} → (A → Bool) → List A → Bool
 all p [] = true
 all p (x ∷ xs) = p x && all p xs
 
 abbrev pub times : {A : Type 0} → ℕ → Format A → Format (List A)
-times n f = record { from = λ s at. timesFrom f s n at; fields = timesFields f; valid = λ xs. eqb (length xs) n && all f.valid xs }
+times n f = record { from = λ s at. times_from f s n at; fields = times_fields f; valid = λ xs. eqb (length xs) n && all f.valid xs }

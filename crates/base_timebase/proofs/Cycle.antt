@@ -8,7 +8,7 @@ use lib.Ieee.Fits.{down_pos}
 use lib.Ieee.Nearest.{div_same}
 use lib.Ieee.Positive.{num, den, positive, values_of_le, own_value, between}
 use Rattle.base_timebase.proofs.Shift.{pow_le_back}
-use Rattle.base_timebase.specs.Time.{cycleOf, cycleIn, slowest, fastest}
+use Rattle.base_timebase.specs.Time.{cycle_of, cycle_in, slowest, fastest}
 
 -- what a value a / c below 2 ^ 64 is as a whole number
 pub record Cut (y : Float) (n : ℕ) : Type 0 where
@@ -73,8 +73,8 @@ exact m (negsuc k) t h =
     let b : M * 2 ^ j < 2 ^ 277 = lt_of_lt_of_le (shl_lt 24 j f.0) (pow_mono {j = 277} (omega arith)) in
     round_exact binary32 false (M * 1 * 1024) (2 ^ suc k * 1) M j (rw mul-one (pow_pos (suc k))) f.0 b q
 
-go : (x : Float) → T (fits binary32 x) → T (positive x) → num x * 1 ≤ 960 * den x → Cut (mul binary32 x scale) (cycleOf x)
-unfolding cycleOf
+go : (x : Float) → T (fits binary32 x) → T (positive x) → num x * 1 ≤ 960 * den x → Cut (mul binary32 x scale) (cycle_of x)
+unfolding cycle_of
 go nan t p h = absurd p
 go (inf s) t p h = absurd p
 go (fin true m e) t p h = absurd p
@@ -83,17 +83,17 @@ go (fin false (suc m) e) t p h =
     subst (λ (n : ℕ). Cut (mul binary32 (fin false (suc m) e) scale) (suc m * up e * 1024 / n)) (mul-one (down e))
     (cut (mul binary32 (fin false (suc m) e) scale) (suc m * up e * 1024) (down e * 1) (rw mul-one (down_pos e)) (exact m e t h) (omega (arith, down_pos e)))
 
-pub tempo : (x : Float) → T (fits binary32 x) → le slowest x ≡ true → le x fastest ≡ true → Cut (mul binary32 x scale) (cycleIn x)
-unfolding cycleIn
+pub tempo : (x : Float) → T (fits binary32 x) → le slowest x ≡ true → le x fastest ≡ true → Cut (mul binary32 x scale) (cycle_in x)
+unfolding cycle_in
 tempo x t p q =
     let o : T (positive x) = between slowest x fastest tt tt (passes _ p) (passes _ q) in
     subst (Cut (mul binary32 x scale)) (sym (rw (p, q)))
     (go x t o (values_of_le x fastest (num x) (den x) 960 1 o tt (own_value x o) (refl, refl) (passes _ q)))
 
-pub not-slow : (x : Float) → le slowest x ≡ false → 0 ≡ cycleIn x
-unfolding cycleIn
+pub not-slow : (x : Float) → le slowest x ≡ false → 0 ≡ cycle_in x
+unfolding cycle_in
 not-slow x p = sym (rw p)
 
-pub not-fast : (x : Float) → le x fastest ≡ false → 0 ≡ cycleIn x
-unfolding cycleIn
+pub not-fast : (x : Float) → le x fastest ≡ false → 0 ≡ cycle_in x
+unfolding cycle_in
 not-fast x p = cc (and-false (le slowest x))

@@ -3,7 +3,7 @@ use Rattle.std.proofs.Common.{◌≡◌, ℕ, ◌+◌, ◌-◌, ◌*◌, ◌/◌
 use lib.Ieee.{Float, nan, inf, fin, up, down, lt, eq, le}
 use lib.Ieee.Fits.{down_pos}
 use lib.Ieee.Nearest.{div_same}
-use Rattle.base_timebase.specs.Time.{nearest, ticksOf, cycleOf, latest, slowest, fastest}
+use Rattle.base_timebase.specs.Time.{nearest, ticks_of, cycle_of, latest, slowest, fastest}
 use Rattle.base_timebase.proofs.Shift.{nearest-scale}
 use Rattle.base_timebase.proofs.Order.{AtMost, at_most, none}
 
@@ -45,28 +45,28 @@ no-ticks : (a d : ℕ) → 0 < d → a ≡ 0 → nearest (a * 6144000) d ≤ 0
 unfolding nearest
 no-ticks a d h e = let z : (a * 6144000 * 2 + d) / (d * 2) ≡ 0 = native.Mathlib.Nat.div-eq_of_lt (omega arith) in omega arith
 
-pub ticksOf-grows : (x y : Float) → le x y ≡ true → le y latest ≡ true → ticksOf x ≤ ticksOf y
-unfolding ticksOf le lt eq
-ticksOf-grows nan y h k = zero-le
-ticksOf-grows (inf s) y h k = zero-le
-ticksOf-grows (fin true m e) y h k = zero-le
-ticksOf-grows (fin false m e) nan h k = absurd (true≢false (sym h))
-ticksOf-grows (fin false m e) (inf true) h k = absurd (true≢false (sym h))
-ticksOf-grows (fin false m e) (inf false) h k = absurd (true≢false (sym k))
-ticksOf-grows (fin false m e) (fin true n d) h k = no-ticks (m * up e) (down e) (down_pos e) (is_zero m n e d h)
-ticksOf-grows (fin false m e) (fin false n d) h k =
+pub ticks_of-grows : (x y : Float) → le x y ≡ true → le y latest ≡ true → ticks_of x ≤ ticks_of y
+unfolding ticks_of le lt eq
+ticks_of-grows nan y h k = zero-le
+ticks_of-grows (inf s) y h k = zero-le
+ticks_of-grows (fin true m e) y h k = zero-le
+ticks_of-grows (fin false m e) nan h k = absurd (true≢false (sym h))
+ticks_of-grows (fin false m e) (inf true) h k = absurd (true≢false (sym h))
+ticks_of-grows (fin false m e) (inf false) h k = absurd (true≢false (sym k))
+ticks_of-grows (fin false m e) (fin true n d) h k = no-ticks (m * up e) (down e) (down_pos e) (is_zero m n e d h)
+ticks_of-grows (fin false m e) (fin false n d) h k =
     near-grows (m * up e * 6144000) (down e) (n * up d * 6144000) (down d) (down_pos e) (down_pos d)
     (scaled (m * up e) (down e) (n * up d) (down d) 6144000 (fractions m n e d h))
 
-pub cycleOf-grows : (x y : Float) → le slowest x ≡ true → le x y ≡ true → le y fastest ≡ true → cycleOf x ≤ cycleOf y
-unfolding cycleOf le lt eq
-cycleOf-grows nan y g h k = zero-le
-cycleOf-grows (inf s) y g h k = zero-le
-cycleOf-grows (fin true m e) y g h k = zero-le
-cycleOf-grows (fin false m e) nan g h k = absurd (true≢false (sym h))
-cycleOf-grows (fin false m e) (inf true) g h k = absurd (true≢false (sym h))
-cycleOf-grows (fin false m e) (inf false) g h k = absurd (true≢false (sym k))
-cycleOf-grows (fin false m e) (fin true n d) g h k = let u = is_zero m n e d h in let f = fractions 1 m (pos 0) e g in absurd (omega (arith, down_pos e))
-cycleOf-grows (fin false m e) (fin false n d) g h k =
+pub cycle_of-grows : (x y : Float) → le slowest x ≡ true → le x y ≡ true → le y fastest ≡ true → cycle_of x ≤ cycle_of y
+unfolding cycle_of le lt eq
+cycle_of-grows nan y g h k = zero-le
+cycle_of-grows (inf s) y g h k = zero-le
+cycle_of-grows (fin true m e) y g h k = zero-le
+cycle_of-grows (fin false m e) nan g h k = absurd (true≢false (sym h))
+cycle_of-grows (fin false m e) (inf true) g h k = absurd (true≢false (sym h))
+cycle_of-grows (fin false m e) (inf false) g h k = absurd (true≢false (sym k))
+cycle_of-grows (fin false m e) (fin true n d) g h k = let u = is_zero m n e d h in let f = fractions 1 m (pos 0) e g in absurd (omega (arith, down_pos e))
+cycle_of-grows (fin false m e) (fin false n d) g h k =
     down-grows (m * up e * 1024) (down e) (n * up d * 1024) (down d) (down_pos e) (down_pos d)
     (scaled (m * up e) (down e) (n * up d) (down d) 1024 (fractions m n e d h))

@@ -8,7 +8,7 @@ use lib.Ieee.Exact.{HasValue, odd_sign}
 use lib.Ieee.Fits.{down_pos}
 use lib.Ieee.Scale.{finite}
 use lib.Ieee.Positive.{num, den, positive, positive-finite, values_of_le, value_pos, value→cross, den_pos}
-use Rattle.base_timebase.specs.Time.{nearest, ticksOf, ticksIn, latest}
+use Rattle.base_timebase.specs.Time.{nearest, ticks_of, ticks_in, latest}
 use Rattle.base_timebase.proofs.Shift.{nearest-cross}
 
 -- ---- a pattern with the exponent's field x and the digits t
@@ -40,10 +40,10 @@ high-pattern b n f = high-field (leb (2 ^ 31) b) (b % 2 ^ 31 / 2 ^ 23) (b % 2 ^ 
 
 -- ---- a time above 0
 
-abbrev zeroF : Float
-zeroF = fin false 0 (pos 0)
+abbrev zero_f : Float
+zero_f = fin false 0 (pos 0)
 
-pub above_zero : (x : Float) → lt zeroF x ≡ true → le x latest ≡ true → T (positive x)
+pub above_zero : (x : Float) → lt zero_f x ≡ true → le x latest ≡ true → T (positive x)
 unfolding lt le
 above_zero nan p q = absurd (true≢false (sym p))
 above_zero (inf true) p q = absurd (true≢false (sym p))
@@ -58,8 +58,8 @@ clear (inf t) s a c p h = absurd p
 clear (fin true m e) s a c p h = absurd p
 clear (fin false m e) s a c p h = (refl, h.1)
 
-ticks-num : (x : Float) → T (positive x) → ticksOf x ≡ nearest (num x * 6144000) (den x)
-unfolding ticksOf
+ticks-num : (x : Float) → T (positive x) → ticks_of x ≡ nearest (num x * 6144000) (den x)
+unfolding ticks_of
 ticks-num nan p = absurd p
 ticks-num (inf s) p = absurd p
 ticks-num (fin true m e) p = absurd p
@@ -69,10 +69,10 @@ ticks-num (fin false m e) p = refl
 pub record Units (x : Float) (a : ℕ) : Type 0 where
   pub some : 0 < a
   pub most : a ≤ 2 ^ 163
-  pub ticks : nearest (a * 6144000) (2 ^ 149) ≡ ticksIn x
+  pub ticks : nearest (a * 6144000) (2 ^ 149) ≡ ticks_in x
 
-pub units : (x : Float) (s : Bool) (a : ℕ) → lt zeroF x ≡ true → le x latest ≡ true → HasValue x s a (2 ^ 149) → Units x a
-unfolding ticksIn
+pub units : (x : Float) (s : Bool) (a : ℕ) → lt zero_f x ≡ true → le x latest ≡ true → HasValue x s a (2 ^ 149) → Units x a
+unfolding ticks_in
 units x s a p q h =
     let o = above_zero x p q in
     let v = clear x s a (2 ^ 149) o h in
@@ -82,11 +82,11 @@ units x s a p q h =
     record {
       some = value_pos x a (2 ^ 149) o (pow_pos 149) v;
       most = subst (λ (n : ℕ). n ≤ 2 ^ 163) (native.Mathlib.Nat.mul-one a) m;
-      ticks = nearest-cross (a * 6144000) (2 ^ 149) (num x * 6144000) (den x) (pow_pos 149) (den_pos x) u ∙ sym (ticks-num x o) ∙ sym (ap (λ (b : Bool). cond b (ticksOf x) 0) q);
+      ticks = nearest-cross (a * 6144000) (2 ^ 149) (num x * 6144000) (den x) (pow_pos 149) (den_pos x) u ∙ sym (ticks-num x o) ∙ sym (ap (λ (b : Bool). cond b (ticks_of x) 0) q);
     }
 
 -- of its pattern's exponent e and digits d: a subnormal float has no hidden digit, and the exponent of the smallest normal one
-module _ (x : Float) (e d : ℕ) (good : T (fits binary32 x)) (p : lt zeroF x ≡ true) (q : le x latest ≡ true)
+module _ (x : Float) (e d : ℕ) (good : T (fits binary32 x)) (p : lt zero_f x ≡ true) (q : le x latest ≡ true)
     (he : e ≡ to_bits binary32 x % 2 ^ 31 / 2 ^ 23) (hd : d ≡ to_bits binary32 x % 2 ^ 23) where
   own : of_bits binary32 (to_bits binary32 x) ≡ x
   own = of_bits-to_bits binary32 x good
@@ -114,8 +114,8 @@ nothing : (d : ℕ) → 0 < d → 0 ≡ nearest 0 d
 unfolding nearest
 nothing d h = sym (div-eq_of_lt (omega arith))
 
-pub not-above : (x : Float) → lt zeroF x ≡ false → 0 ≡ ticksIn x
-unfolding ticksIn lt le ticksOf
+pub not-above : (x : Float) → lt zero_f x ≡ false → 0 ≡ ticks_in x
+unfolding ticks_in lt le ticks_of
 not-above nan p = refl
 not-above (inf true) p = refl
 not-above (inf false) p = absurd (true≢false p)
@@ -125,9 +125,9 @@ not-above (fin false m e) p =
     let z : m * up e ≡ 0 = omega arith in
     same (le (fin false m e) latest) ∙ ap (λ (n : ℕ). cond (le (fin false m e) latest) n 0) (nothing (down e) (down_pos e) ∙ ap (λ (n : ℕ). nearest n (down e)) (sym (ap (λ (k : ℕ). k * 6144000) z)))
 
-pub too-late : (x : Float) → le x latest ≡ false → 0 ≡ ticksIn x
-unfolding ticksIn
-too-late x p = sym (ap (λ (b : Bool). cond b (ticksOf x) 0) p)
+pub too-late : (x : Float) → le x latest ≡ false → 0 ≡ ticks_in x
+unfolding ticks_in
+too-late x p = sym (ap (λ (b : Bool). cond b (ticks_of x) 0) p)
 
 pub no_nan : (x : Float) → T (positive x) → T (not (is_nan x))
 unfolding is_nan

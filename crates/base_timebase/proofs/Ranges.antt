@@ -7,7 +7,7 @@ use lib.Ieee.{Float, nan, inf, fin, binary32, up, down, odd, of_fields, of_bits,
 use lib.Ieee.Bits.{nan_bits_is, nan_bits_above}
 use lib.Ieee.Scale.{finite}
 use Rattle.base_timebase.proofs.Order.{AtMost, at-most-back}
-use Rattle.base_timebase.specs.Time.{latest, slowest, fastest, finiteBits, timeBits, tempoBits}
+use Rattle.base_timebase.specs.Time.{latest, slowest, fastest, finite_bits, time_bits, tempo_bits}
 use Rattle.base_timebase.specs.inside.Range.{checked}
 use Rattle.base_timebase.specs.declared.Checked.TheVariants.{Value, Outside}
 
@@ -37,25 +37,25 @@ pub nan-of : (b : ℕ) → 0x7f80_0000 < b % 2 ^ 31 → of_bits binary32 b ≡ n
 nan-of b h = is-nan (of_bits binary32 b) (sym (nan_bits_is binary32 b) ∙ nan_bits_above binary32 b ∙ lt-ltb (0x7f80_0000) (b % 2 ^ 31) h)
 
 -- the tests that `time_of` and `tempo_of` refuse by
-pub time-outside : (b : ℕ) → b < 2 ^ 32 → 0x7f80_0000 < b → timeBits b ≡ false
-unfolding timeBits
+pub time-outside : (b : ℕ) → b < 2 ^ 32 → 0x7f80_0000 < b → time_bits b ≡ false
+unfolding time_bits
 time-outside b f h =
     cases (ltb b (2 ^ 31)) (λ l. rw (nan-of b (rw (mod-eq_of_lt (ltb-true b (2 ^ 31) l)) h)) (and-false (ltb b (2 ^ 31)))) (λ l. rw l)
 
-pub time-is : (b : ℕ) → b ≤ 0x7f80_0000 → timeBits b ≡ le (of_bits binary32 b) latest
-unfolding timeBits
+pub time-is : (b : ℕ) → b ≤ 0x7f80_0000 → time_bits b ≡ le (of_bits binary32 b) latest
+unfolding time_bits
 time-is b h = rw (lt-ltb b (2 ^ 31) (omega arith))
 
-pub tempo-outside : (b : ℕ) → 0x7f80_0000 < b % 2 ^ 31 → tempoBits b ≡ false
-unfolding tempoBits le
+pub tempo-outside : (b : ℕ) → 0x7f80_0000 < b % 2 ^ 31 → tempo_bits b ≡ false
+unfolding tempo_bits le
 tempo-outside b h = rw (nan-of b h)
 
-pub tempo-is : (b : ℕ) → le slowest (of_bits binary32 b) ≡ true → tempoBits b ≡ le (of_bits binary32 b) fastest
-unfolding tempoBits
+pub tempo-is : (b : ℕ) → le slowest (of_bits binary32 b) ≡ true → tempo_bits b ≡ le (of_bits binary32 b) fastest
+unfolding tempo_bits
 tempo-is b h = rw h
 
-pub tempo-slow : (b : ℕ) → le slowest (of_bits binary32 b) ≡ false → tempoBits b ≡ false
-unfolding tempoBits
+pub tempo-slow : (b : ℕ) → le slowest (of_bits binary32 b) ≡ false → tempo_bits b ≡ false
+unfolding tempo_bits
 tempo-slow b h = rw h
 
 -- ---- finite: the exponent's field is not all ones
@@ -81,14 +81,14 @@ field_below r h =
     (λ l. let u : r / 8388608 ≡ 255 = omega (arith, ltb-false r 0x7f80_0000 l) in cc (eq-eqb (r / 8388608) 255 u))
 
 -- the test that `value_of` makes
-finite-test : (b : ℕ) → finiteBits b ≡ ltb (b % 2 ^ 31) 0x7f80_0000
-unfolding finiteBits of_bits
+finite-test : (b : ℕ) → finite_bits b ≡ ltb (b % 2 ^ 31) 0x7f80_0000
+unfolding finite_bits of_bits
 finite-test b = fields-finite (leb (2 ^ 31) b) (b % 2 ^ 31 / 2 ^ 23) (b % 2 ^ 23) ∙ field_below (b % 2 ^ 31) (mod-lt b (lib.Dec.lit< tt))
 
-pub finite-in : (b : ℕ) → b % 2 ^ 31 < 0x7f80_0000 → finiteBits b ≡ true
+pub finite-in : (b : ℕ) → b % 2 ^ 31 < 0x7f80_0000 → finite_bits b ≡ true
 finite-in b h = finite-test b ∙ lt-ltb _ _ h
 
-pub finite-out : (b : ℕ) → 0x7f80_0000 ≤ b % 2 ^ 31 → finiteBits b ≡ false
+pub finite-out : (b : ℕ) → 0x7f80_0000 ≤ b % 2 ^ 31 → finite_bits b ≡ false
 finite-out b h = finite-test b ∙ le-ltb _ _ h
 
 -- ---- sign bit clear: zero or more, where it is a number
@@ -118,10 +118,10 @@ bits-plus : (b : ℕ) → b < 2 ^ 31 → plus (of_bits binary32 b) ≡ true
 unfolding of_bits
 bits-plus b h = rw (lt-leb (2 ^ 31) b h) (fields-plus (b % 2 ^ 31 / 2 ^ 23) (b % 2 ^ 23))
 
-abbrev pub zeroF : Float
-zeroF = fin false 0 (pos 0)
+abbrev pub zero_f : Float
+zero_f = fin false 0 (pos 0)
 
-plus-from-zero : (x y : Float) → plus x ≡ true → le x y ≡ true → le zeroF x ≡ true
+plus-from-zero : (x y : Float) → plus x ≡ true → le x y ≡ true → le zero_f x ≡ true
 unfolding le lt eq AtMost
 plus-from-zero nan y p h = absurd (true≢false (sym h))
 plus-from-zero (inf true) y p h = absurd (true≢false (sym p))
@@ -129,11 +129,11 @@ plus-from-zero (inf false) y p h = refl
 plus-from-zero (fin true m e) y p h = absurd (true≢false (sym p))
 plus-from-zero (fin false m e) y p h = at-most-back false (0 * down e) false (m * up e * 1) (omega arith)
 
-pub from_zero : (b : ℕ) (y : Float) → b < 2 ^ 31 → le (of_bits binary32 b) y ≡ true → le zeroF (of_bits binary32 b) ≡ true
+pub from_zero : (b : ℕ) (y : Float) → b < 2 ^ 31 → le (of_bits binary32 b) y ≡ true → le zero_f (of_bits binary32 b) ≡ true
 from_zero b y h l = plus-from-zero (of_bits binary32 b) y (bits-plus b h) l
 
 -- between zero and a finite float
-pub between-finite : (x y : Float) → le zeroF x ≡ true → le x y ≡ true → finite y ≡ true → finite x ≡ true
+pub between-finite : (x y : Float) → le zero_f x ≡ true → le x y ≡ true → finite y ≡ true → finite x ≡ true
 unfolding le lt eq
 between-finite nan y k h f = absurd (true≢false (sym h))
 between-finite (inf true) y k h f = absurd (true≢false (sym k))

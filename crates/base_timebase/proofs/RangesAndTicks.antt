@@ -7,12 +7,12 @@ use lib.Ieee.Bits.{to_bits-of_bits}
 use lib.Ieee.Fits.{down_pos}
 use lib.Ieee.Scale.{finite}
 use Rattle.base_laws.proofs.Choice.{both_true}
-use Rattle.base_timebase.specs.Time.{finiteBits, timeBits, durationBits, tempoBits, nearest, ticksOf, ticksIn, cycleOf, cycleIn, latest, slowest, fastest, endless, Nearest, TicksNearest, OneNearest}
+use Rattle.base_timebase.specs.Time.{finite_bits, time_bits, duration_bits, tempo_bits, nearest, ticks_of, ticks_in, cycle_of, cycle_in, latest, slowest, fastest, endless, Nearest, TicksNearest, OneNearest}
 use Rattle.base_timebase.specs.inside.Range.{checked, EveryNumber}
 use Rattle.base_timebase.specs.declared.Checked.TheVariants.{Value, Outside}
 use Rattle.base_timebase.proofs.Order.{le_trans as le_on}
-use Rattle.base_timebase.proofs.Ranges.{zeroF, from_zero, between-finite}
-use Rattle.base_timebase.proofs.Growth.{ticksOf-grows, cycleOf-grows}
+use Rattle.base_timebase.proofs.Ranges.{zero_f, from_zero, between-finite}
+use Rattle.base_timebase.proofs.Growth.{ticks_of-grows, cycle_of-grows}
 
 -- ---- what an answer tells of its pattern
 
@@ -34,8 +34,8 @@ every-number false b = refl
 -- ---- patterns and floats, there and back
 
 -- finite patterns are those of finite floats
-pub finite-is : (b : ℕ) → finiteBits b ≡ finite (of_bits binary32 b)
-unfolding finiteBits
+pub finite-is : (b : ℕ) → finite_bits b ≡ finite (of_bits binary32 b)
+unfolding finite_bits
 finite-is b = refl
 
 pub finite-no-nan : (x : Float) → finite x ≡ true → T (not (is_nan x))
@@ -45,25 +45,25 @@ finite-no-nan (inf s) e = tt
 finite-no-nan (fin s m d) e = tt
 
 -- a finite pattern comes back from its float
-pub pattern-back : (b : ℕ) → b < 2 ^ 32 → finiteBits b ≡ true → to_bits binary32 (of_bits binary32 b) ≡ b
+pub pattern-back : (b : ℕ) → b < 2 ^ 32 → finite_bits b ≡ true → to_bits binary32 (of_bits binary32 b) ≡ b
 pattern-back b h e = to_bits-of_bits binary32 b h (finite-no-nan (of_bits binary32 b) (sym (finite-is b) ∙ e))
 
 -- ---- what each range tells of the float
 
-pub time-from-to : (b : ℕ) → timeBits b ≡ true → (le zeroF (of_bits binary32 b) ≡ true) × (le (of_bits binary32 b) latest ≡ true)
-unfolding timeBits
+pub time-from-to : (b : ℕ) → time_bits b ≡ true → (le zero_f (of_bits binary32 b) ≡ true) × (le (of_bits binary32 b) latest ≡ true)
+unfolding time_bits
 time-from-to b e =
     let p = both_true (ltb b (2 ^ 31)) (le (of_bits binary32 b) latest) e in
     (from_zero b latest (ltb-true b (2 ^ 31) p.0) p.1, p.1)
 
-pub tempo-from-to : (b : ℕ) → tempoBits b ≡ true → (le slowest (of_bits binary32 b) ≡ true) × (le (of_bits binary32 b) fastest ≡ true)
-unfolding tempoBits
+pub tempo-from-to : (b : ℕ) → tempo_bits b ≡ true → (le slowest (of_bits binary32 b) ≡ true) × (le (of_bits binary32 b) fastest ≡ true)
+unfolding tempo_bits
 tempo-from-to b e = both_true (le slowest (of_bits binary32 b)) (le (of_bits binary32 b) fastest) e
 
 -- a duration is a time or the pattern of -1
-pub duration-is : (b : ℕ) → durationBits b ≡ true → (timeBits b ≡ true) ⊎ (b ≡ 0xbf80_0000)
-unfolding durationBits to_bits
-duration-is b e = cases (timeBits b) inl (λ f. inr (eqb-true b 0xbf80_0000 (cc)))
+pub duration-is : (b : ℕ) → duration_bits b ≡ true → (time_bits b ≡ true) ⊎ (b ≡ 0xbf80_0000)
+unfolding duration_bits to_bits
+duration-is b e = cases (time_bits b) inl (λ f. inr (eqb-true b 0xbf80_0000 (cc)))
 
 -- the float of that pattern
 pub endless-is : of_bits binary32 0xbf80_0000 ≡ endless
@@ -72,26 +72,26 @@ endless-is = refl
 
 -- ---- accepted patterns are finite
 
-pub time-finite : (b : ℕ) → timeBits b ≡ true → finiteBits b ≡ true
+pub time-finite : (b : ℕ) → time_bits b ≡ true → finite_bits b ≡ true
 time-finite b e = let p = time-from-to b e in finite-is b ∙ between-finite (of_bits binary32 b) latest p.0 p.1 refl
 
-pub duration-finite : (b : ℕ) → durationBits b ≡ true → finiteBits b ≡ true
+pub duration-finite : (b : ℕ) → duration_bits b ≡ true → finite_bits b ≡ true
 duration-finite b e = ⊎_elim (time-finite b) (λ f. cc (finite-is b, endless-is)) (duration-is b e)
 
-zero-slowest : le zeroF slowest ≡ true
+zero-slowest : le zero_f slowest ≡ true
 unfolding le lt eq
 zero-slowest = refl
 
-pub tempo-finite : (b : ℕ) → tempoBits b ≡ true → finiteBits b ≡ true
+pub tempo-finite : (b : ℕ) → tempo_bits b ≡ true → finite_bits b ≡ true
 tempo-finite b e =
     let p = tempo-from-to b e in
-    finite-is b ∙ between-finite (of_bits binary32 b) fastest (le_on zeroF slowest (of_bits binary32 b) zero-slowest p.0) p.1 refl
+    finite-is b ∙ between-finite (of_bits binary32 b) fastest (le_on zero_f slowest (of_bits binary32 b) zero-slowest p.0) p.1 refl
 
 -- ---- ticks
 
 -- an exact half goes up: 3 * 2 ^ -15 beats are 562.5 ticks
-pub half_up : ticksIn (of_bits binary32 0x38c0_0000) ≡ 563
-unfolding ticksIn of_bits le
+pub half_up : ticks_in (of_bits binary32 0x38c0_0000) ≡ 563
+unfolding ticks_in of_bits le
 half_up = refl
 
 nearest-is : (a c : ℕ) → 0 < c → Nearest a c (nearest a c)
@@ -105,7 +105,7 @@ nearest-is a c h =
 
 -- ticks are nearest, and nothing else is
 pub ticks-nearest : TicksNearest
-unfolding ticksIn ticksOf
+unfolding ticks_in ticks_of
 ticks-nearest m e h = rw h (nearest-is (m * up e * 6144000) (down e) (down_pos e))
 
 nearest-least : (a c n k : ℕ) → Nearest a c n → Nearest a c k → k ≤ n
@@ -120,35 +120,35 @@ pub one-nearest : OneNearest
 one-nearest a c n k p q = le_antisymm (nearest-least a c k n q p) (nearest-least a c n k p q)
 
 -- ticks do not fall as time grows
-pub ticks-grow : (x y : Float) → le x y ≡ true → le y latest ≡ true → ticksIn x ≤ ticksIn y
-unfolding ticksIn
-ticks-grow x y h k = rw k (cases (le x latest) (λ e. rw e (ticksOf-grows x y h k)) (λ e. rw e zero-le))
+pub ticks-grow : (x y : Float) → le x y ≡ true → le y latest ≡ true → ticks_in x ≤ ticks_in y
+unfolding ticks_in
+ticks-grow x y h k = rw k (cases (le x latest) (λ e. rw e (ticks_of-grows x y h k)) (λ e. rw e zero-le))
 
-latest-ticks : (le latest latest ≡ true) × (ticksOf latest ≡ 100663296000)
-unfolding le lt eq ticksOf
+latest-ticks : (le latest latest ≡ true) × (ticks_of latest ≡ 100663296000)
+unfolding le lt eq ticks_of
 latest-ticks = (refl, refl)
 
 -- no float has more ticks than the latest time
-pub ticks-most : (x : Float) → ticksIn x ≤ 100663296000
-unfolding ticksIn
-ticks-most x = cases (le x latest) (λ e. rw e (le_trans (ticksOf-grows x latest e latest-ticks.0) (le_of_eq latest-ticks.1))) (λ e. rw e zero-le)
+pub ticks-most : (x : Float) → ticks_in x ≤ 100663296000
+unfolding ticks_in
+ticks-most x = cases (le x latest) (λ e. rw e (le_trans (ticks_of-grows x latest e latest-ticks.0) (le_of_eq latest-ticks.1))) (λ e. rw e zero-le)
 
-tempo-ends : (le slowest slowest ≡ true) × (le slowest fastest ≡ true) × (le fastest fastest ≡ true) × (cycleOf slowest ≡ 1024) × (cycleOf fastest ≡ 983040)
-unfolding le lt eq cycleOf
+tempo-ends : (le slowest slowest ≡ true) × (le slowest fastest ≡ true) × (le fastest fastest ≡ true) × (cycle_of slowest ≡ 1024) × (cycle_of fastest ≡ 983040)
+unfolding le lt eq cycle_of
 tempo-ends = (refl, refl, refl, refl, refl)
 
 -- ticks per cycle of a valid tempo
-pub cycle-from-to : (x : Float) → le slowest x ≡ true → le x fastest ≡ true → (1024 ≤ cycleIn x) × (cycleIn x ≤ 983040)
-unfolding cycleIn
+pub cycle-from-to : (x : Float) → le slowest x ≡ true → le x fastest ≡ true → (1024 ≤ cycle_in x) × (cycle_in x ≤ 983040)
+unfolding cycle_in
 cycle-from-to x h k = rw (h, k) (
-  le_trans (le_of_eq (sym tempo-ends.3)) (cycleOf-grows slowest x tempo-ends.0 h k),
-  le_trans (cycleOf-grows x fastest h k tempo-ends.2) (le_of_eq tempo-ends.4),
+  le_trans (le_of_eq (sym tempo-ends.3)) (cycle_of-grows slowest x tempo-ends.0 h k),
+  le_trans (cycle_of-grows x fastest h k tempo-ends.2) (le_of_eq tempo-ends.4),
 )
 
 -- no float has more ticks per cycle than the fastest tempo
-pub cycle-most : (x : Float) → cycleIn x ≤ 983040
-unfolding cycleIn
+pub cycle-most : (x : Float) → cycle_in x ≤ 983040
+unfolding cycle_in
 cycle-most x =
     cases (le slowest x && le x fastest)
-    (λ e. let p = both_true (le slowest x) (le x fastest) e in rw e (le_trans (cycleOf-grows x fastest p.0 p.1 tempo-ends.2) (le_of_eq tempo-ends.4)))
+    (λ e. let p = both_true (le slowest x) (le x fastest) e in rw e (le_trans (cycle_of-grows x fastest p.0 p.1 tempo-ends.2) (le_of_eq tempo-ends.4)))
     (λ e. rw e zero-le)

@@ -22,24 +22,24 @@ endless = fin true 1 (pos 0)
 -- ---- which 32-bit patterns are accepted
 
 -- values are finite
-unfoldable pub finiteBits : ℕ → Bool
+unfoldable pub finite_bits : ℕ → Bool
 unfolding of_bits
-finiteBits b = finite (of_bits binary32 b)
+finite_bits b = finite (of_bits binary32 b)
 
 -- a time is zero or more (sign bit clear) and at most 16,384
-unfoldable pub timeBits : ℕ → Bool
+unfoldable pub time_bits : ℕ → Bool
 unfolding le of_bits
-timeBits b = nat_lt b (2 ^ 31) && le (of_bits binary32 b) latest
+time_bits b = nat_lt b (2 ^ 31) && le (of_bits binary32 b) latest
 
 -- a duration is the same, or exactly -1
-unfoldable pub durationBits : ℕ → Bool
-unfolding timeBits to_bits
-durationBits b = timeBits b || b == to_bits binary32 endless
+unfoldable pub duration_bits : ℕ → Bool
+unfolding time_bits to_bits
+duration_bits b = time_bits b || b == to_bits binary32 endless
 
 -- a tempo is from 1 to 960
-unfoldable pub tempoBits : ℕ → Bool
+unfoldable pub tempo_bits : ℕ → Bool
 unfolding le of_bits
-tempoBits b = le slowest (of_bits binary32 b) && le (of_bits binary32 b) fastest
+tempo_bits b = le slowest (of_bits binary32 b) && le (of_bits binary32 b) fastest
 
 -- ---- ticks, by the exact number m * 2 ^ e that a float is, which is the fraction m * up e / down e
 
@@ -48,28 +48,28 @@ unfoldable pub nearest : ℕ → ℕ → ℕ
 nearest a c = (a * 2 + c) / (c * 2)
 
 -- the exact number times 6,144,000, to the nearest whole number; 0 for what is below zero or no number
-unfoldable pub ticksOf : Float → ℕ
+unfoldable pub ticks_of : Float → ℕ
 unfolding nearest
-ticksOf nan = 0
-ticksOf (inf s) = 0
-ticksOf (fin true m e) = 0
-ticksOf (fin false m e) = nearest (m * up e * 6144000) (down e)
+ticks_of nan = 0
+ticks_of (inf s) = 0
+ticks_of (fin true m e) = 0
+ticks_of (fin false m e) = nearest (m * up e * 6144000) (down e)
 
 -- ticks of a time or duration: 0 past the latest time
-unfoldable pub ticksIn : Float → ℕ
-unfolding ticksOf le
-ticksIn x = cond (le x latest) (ticksOf x) 0
+unfoldable pub ticks_in : Float → ℕ
+unfolding ticks_of le
+ticks_in x = cond (le x latest) (ticks_of x) 0
 
 -- the exact number times 1,024, rounded down; 0 for what is below zero or no number
-unfoldable pub cycleOf : Float → ℕ
-cycleOf nan = 0
-cycleOf (inf s) = 0
-cycleOf (fin s m e) = cond s 0 (m * up e * 1024 / down e)
+unfoldable pub cycle_of : Float → ℕ
+cycle_of nan = 0
+cycle_of (inf s) = 0
+cycle_of (fin s m e) = cond s 0 (m * up e * 1024 / down e)
 
 -- ticks per cycle of a tempo: 0 out of its range
-unfoldable pub cycleIn : Float → ℕ
-unfolding cycleOf le
-cycleIn x = cond (le slowest x && le x fastest) (cycleOf x) 0
+unfoldable pub cycle_in : Float → ℕ
+unfolding cycle_of le
+cycle_in x = cond (le slowest x && le x fastest) (cycle_of x) 0
 
 -- ---- what nearest comes to
 
@@ -80,7 +80,7 @@ pub record Nearest (a c n : ℕ) : Type 0 where
 
 -- the ticks of every time, which is the fraction m * up e / down e of a beat
 abbrev pub TicksNearest : Type 0
-TicksNearest = (m : ℕ) (e : ℤ) → le (fin false m e) latest ≡ true → Nearest (m * up e * 6144000) (down e) (ticksIn (fin false m e))
+TicksNearest = (m : ℕ) (e : ℤ) → le (fin false m e) latest ≡ true → Nearest (m * up e * 6144000) (down e) (ticks_in (fin false m e))
 
 -- and no other number is
 abbrev pub OneNearest : Type 0

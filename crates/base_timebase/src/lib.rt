@@ -1,7 +1,7 @@
 // Times, durations, tempos and values by their 32-bit patterns; ticks of a time and of a tempo (document 01,
 // "Score lines, bit by bit"). Every function is total.
 ghost use Rattle.std.specs.Prelude.{◌≡◌, ◌+◌, ◌-◌, ◌*◌, ◌/◌, ◌%◌, ◌^◌, ◌<◌, ◌≤◌, min};
-ghost use Rattle.base_timebase.specs.Time.{nearest, ticksIn, cycleIn, finiteBits, timeBits, durationBits, tempoBits};
+ghost use Rattle.base_timebase.specs.Time.{nearest, ticks_in, cycle_in, finite_bits, time_bits, duration_bits, tempo_bits};
 ghost use Rattle.base_timebase.specs.inside.Range.{checked};
 
 // A float is its significand times 2^(exponent - 150): the bias of its exponent, and 23 digits behind the point. 6,144,000
@@ -66,7 +66,7 @@ fn digits_of(pattern: u32) -> u32
 
 // The ticks of a time or a duration: 0 past the latest time.
 pub fn beats_to_ticks(time: f32) -> u64
-    ensures { result ≡ ticksIn time }
+    ensures { result ≡ ticks_in time }
 {
     if 0.0 < time {
         if time <= 16384.0 {
@@ -85,7 +85,7 @@ pub fn beats_to_ticks(time: f32) -> u64
 
 // The ticks per cycle of a tempo: 0 out of its range.
 pub fn ticks_per_cycle(tempo: f32) -> u64
-    ensures { result ≡ cycleIn tempo }
+    ensures { result ≡ cycle_in tempo }
 {
     if 1.0 <= tempo {
         if tempo <= 960.0 {
@@ -104,7 +104,7 @@ pub enum Checked {
 
 // A value: finite.
 pub fn value_of(b: u32) -> Checked
-    ensures { result ≡ checked (finiteBits b) b }
+    ensures { result ≡ checked (finite_bits b) b }
 {
     if b % 0x8000_0000 < 0x7f80_0000 {
         Checked::Value(f32::from_bits(b))
@@ -115,7 +115,7 @@ pub fn value_of(b: u32) -> Checked
 
 // A time: sign bit clear, at most 16,384.
 pub fn time_of(b: u32) -> Checked
-    ensures { result ≡ checked (timeBits b) b }
+    ensures { result ≡ checked (time_bits b) b }
 {
     // past infinity's pattern: the sign bit is set, or it is not a number
     if 0x7f80_0000 < b {
@@ -131,7 +131,7 @@ pub fn time_of(b: u32) -> Checked
 
 // A duration: a time, or exactly -1.
 pub fn duration_of(b: u32) -> Checked
-    ensures { result ≡ checked (durationBits b) b }
+    ensures { result ≡ checked (duration_bits b) b }
 {
     if b == 0xbf80_0000 {
         return Checked::Value(-1.0);
@@ -141,7 +141,7 @@ pub fn duration_of(b: u32) -> Checked
 
 // A tempo: from 1 to 960.
 pub fn tempo_of(b: u32) -> Checked
-    ensures { result ≡ checked (tempoBits b) b }
+    ensures { result ≡ checked (tempo_bits b) b }
 {
     // not a number
     if 0x7f80_0000 < b % 0x8000_0000 {

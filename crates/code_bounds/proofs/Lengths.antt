@@ -8,22 +8,22 @@ use Rattle.orchestra_syntax.specs.inside.Program.{code, instrument, program}
 use Rattle.orchestra_syntax.specs.inside.Placed.{placed as put}
 use Rattle.code_translation.specs.Translation.{lowered}
 use Rattle.code_translation.proofs.Lengths.{lowered-short}
-use Rattle.code_bounds.specs.Sizes.{body_at, allLowered, LoweredFits}
+use Rattle.code_bounds.specs.Sizes.{body_at, all_lowered, LoweredFits}
 use Rattle.code_bounds.proofs.Exprs.{past-length}
 use Rattle.code_bounds.proofs.WholeOrchestra.{program-fits, body-length}
 
 pub lowered-length : (r n g : ℕ) (t : Statements) → length (lowered r n g t) ≤ length (code t)
 lowered-length r n g t = omega (arith, lowered-short r n g t, past-length n t)
 
-pub all-lowered-length : (r n : ℕ) (is : List Instrument) → length (allLowered r n is) ≤ length (program is)
-unfolding allLowered program
+pub all-lowered-length : (r n : ℕ) (is : List Instrument) → length (all_lowered r n is) ≤ length (program is)
+unfolding all_lowered program
 all-lowered-length r n [] = omega arith
 all-lowered-length r n (i ∷ is) =
     let m = body_at n i in
     let k = n + length (instrument i) in
     omega (
       arith,
-      length-append (lowered r m 0 i.body) (allLowered r k is),
+      length-append (lowered r m 0 i.body) (all_lowered r k is),
       length-append (instrument i) (program is),
       lowered-length r m 0 i.body,
       body-length n i,

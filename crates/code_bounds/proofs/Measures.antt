@@ -10,30 +10,30 @@ use lib.Ieee.{Float}
 use borrow.Author.Tests.{leb-true}
 use Rattle.base_laws.proofs.Choice.{both_true}
 use Rattle.orchestra_tokens.specs.declared.Token.{Token}
-use Rattle.orchestra_signs.specs.Operators.{Unary, Binary, unarySign, binarySign}
+use Rattle.orchestra_signs.specs.Operators.{Unary, Binary, unary_sign, binary_sign}
 use Rattle.orchestra_tokens.specs.declared.Token.TheVariants.{Number, Symbol, Whole, Sign}
-use Rattle.orchestra_tokens.specs.Measures.{mostBrackets, longestStretch, kind_of, opened, bracketsWithin, since, stretchesWithin}
+use Rattle.orchestra_tokens.specs.Measures.{most_brackets, longest_stretch, kind_of, opened, brackets_within, since, stretches_within}
 use Rattle.orchestra_syntax.specs.Tree.{Expr}
 use Rattle.orchestra_syntax.specs.Grammar.{Derives, real, whole, named, prefixed, bracketed, called, called2, sides, chosen, sign, Binds, or, and, equal, unequal, less, greater, at_most, at_least, plus, minus, times, over, Prefix, negative, not, Call, abs, sgn, int, frac, Call2, min, max}
 
 -- the measures of tokens that follow n open brackets, and k tokens since the last of ; { }
 pub record Kept (n k : ℕ) (ts : List Token) : Type 0 where
-  pub brackets : bracketsWithin n ts ≡ true
-  pub stretches : stretchesWithin k ts ≡ true
+  pub brackets : brackets_within n ts ≡ true
+  pub stretches : stretches_within k ts ≡ true
 
 -- one token further
 pub record Past (n k : ℕ) (ts : List Token) : Type 0 where
-  pub low : n ≤ mostBrackets
-  pub short : k ≤ longestStretch
+  pub low : n ≤ most_brackets
+  pub short : k ≤ longest_stretch
   pub kept : Kept n k ts
 
 pub pass : (n k m j : ℕ) (t : Token) (ts : List Token) → opened n (kind_of t) ≡ m → since k (kind_of t) ≡ j → Kept n k (t ∷ ts) → Past m j ts
-unfolding bracketsWithin stretchesWithin
+unfolding brackets_within stretches_within
 pass n k m j t ts p q h =
-    let (a, b) = both_true (leb (opened n (kind_of t)) mostBrackets) (bracketsWithin (opened n (kind_of t)) ts) h.brackets in
-    let (c, d) = both_true (leb (since k (kind_of t)) longestStretch) (stretchesWithin (since k (kind_of t)) ts) h.stretches in
-    let x = leb-true (opened n (kind_of t)) mostBrackets a in
-    let y = leb-true (since k (kind_of t)) longestStretch c in
+    let (a, b) = both_true (leb (opened n (kind_of t)) most_brackets) (brackets_within (opened n (kind_of t)) ts) h.brackets in
+    let (c, d) = both_true (leb (since k (kind_of t)) longest_stretch) (stretches_within (since k (kind_of t)) ts) h.stretches in
+    let x = leb-true (opened n (kind_of t)) most_brackets a in
+    let y = leb-true (since k (kind_of t)) longest_stretch c in
     record { low = omega arith; short = omega arith; kept = record { brackets = rw p at b; stretches = rw q at d } }
 
 -- ---- tokens of an expression
@@ -83,21 +83,21 @@ pub plain-sign : (s : ℕ) → (eqb s 15 || eqb s 17) ≡ false → (eqb s 16 ||
 unfolding opened since
 plain-sign s a b c = record { opens = λ n. rw (a, b); goes = λ k. rw c }
 
-plain-prefix : {o : Unary} → Prefix o → Plain (sign (unarySign o))
+plain-prefix : {o : Unary} → Prefix o → Plain (sign (unary_sign o))
 plain-prefix negative = plain-sign 33 refl refl refl
 plain-prefix not = plain-sign 36 refl refl refl
 
-plain-call : {o : Unary} → Call o → Plain (sign (unarySign o))
+plain-call : {o : Unary} → Call o → Plain (sign (unary_sign o))
 plain-call abs = plain-sign 9 refl refl refl
 plain-call sgn = plain-sign 10 refl refl refl
 plain-call int = plain-sign 11 refl refl refl
 plain-call frac = plain-sign 12 refl refl refl
 
-plain-call2 : {o : Binary} → Call2 o → Plain (sign (binarySign o))
+plain-call2 : {o : Binary} → Call2 o → Plain (sign (binary_sign o))
 plain-call2 min = plain-sign 13 refl refl refl
 plain-call2 max = plain-sign 14 refl refl refl
 
-plain-operator : {o : Binary} {l : ℕ} → Binds o l → Plain (sign (binarySign o))
+plain-operator : {o : Binary} {l : ℕ} → Binds o l → Plain (sign (binary_sign o))
 plain-operator or = plain-sign 24 refl refl refl
 plain-operator and = plain-sign 25 refl refl refl
 plain-operator equal = plain-sign 26 refl refl refl
@@ -113,11 +113,11 @@ plain-operator over = plain-sign 35 refl refl refl
 
 -- tokens with none of ; { } among them, that close the brackets they open
 pub record Inner (n k : ℕ) (r : List Token) : Type 0 where
-  pub short : k ≤ longestStretch
+  pub short : k ≤ longest_stretch
   pub kept : Kept n k r
 
 abbrev pub Within : List Token → Type 0
-Within ts = (n k : ℕ) (r : List Token) → k ≤ longestStretch → Kept n k (ts ++ r) → Inner n (k + length ts) r
+Within ts = (n k : ℕ) (r : List Token) → k ≤ longest_stretch → Kept n k (ts ++ r) → Inner n (k + length ts) r
 
 pub within-nil : Within []
 within-nil n k r l h = let e : k ≡ k + 0 = omega arith in record { short = omega arith; kept = rw e at h }
@@ -151,15 +151,15 @@ pub within : {m : ℕ} {e : Expr} {ts : List Token} → Derives m e ts → Withi
 within (real x) = within-one (Number x) (plain-number x)
 within (whole w) = within-one (Whole w) (plain-whole w)
 within (named n) = within-one (Symbol n) (plain-symbol n)
-within (prefixed {o = o} {ts = ts} p d) = within-cons (sign (unarySign o)) ts (plain-prefix p) (within d)
+within (prefixed {o = o} {ts = ts} p d) = within-cons (sign (unary_sign o)) ts (plain-prefix p) (within d)
 within (bracketed {ts = ts} d) = within-bracket ts (within d)
-within (called {o = o} {ts = ts} p d) = within-cons (sign (unarySign o)) (Sign 15 ∷ (ts ++ Sign 16 ∷ [])) (plain-call p) (within-bracket ts (within d))
+within (called {o = o} {ts = ts} p d) = within-cons (sign (unary_sign o)) (Sign 15 ∷ (ts ++ Sign 16 ∷ [])) (plain-call p) (within-bracket ts (within d))
 within (called2 {o = o} {ts = ts} {us = us} p d f) =
-    within-cons (sign (binarySign o)) (Sign 15 ∷ (ts ++ Sign 19 ∷ (us ++ Sign 16 ∷ []))) (plain-call2 p)
+    within-cons (sign (binary_sign o)) (Sign 15 ∷ (ts ++ Sign 19 ∷ (us ++ Sign 16 ∷ []))) (plain-call2 p)
     (subst (λ (l : List Token). Within (Sign 15 ∷ l)) (append_assoc ts (Sign 19 ∷ us) (Sign 16 ∷ []))
     (within-bracket (ts ++ Sign 19 ∷ us)
     (within-append ts (Sign 19 ∷ us) (within d) (within-cons (Sign 19) us (plain-sign 19 refl refl refl) (within f)))))
-within (sides {o = o} {ts = ts} {us = us} p l d f) = within-append ts (sign (binarySign o) ∷ us) (within d) (within-cons (sign (binarySign o)) us (plain-operator p) (within f))
+within (sides {o = o} {ts = ts} {us = us} p l d f) = within-append ts (sign (binary_sign o) ∷ us) (within d) (within-cons (sign (binary_sign o)) us (plain-operator p) (within f))
 within (chosen {ts = ts} {us = us} {vs = vs} c d f) =
     within-append ts (Sign 22 ∷ (us ++ Sign 23 ∷ vs)) (within c)
     (within-cons (Sign 22) (us ++ Sign 23 ∷ vs) (plain-sign 22 refl refl refl)

@@ -7,9 +7,9 @@ use lib.ListN.{length, length-append, length-map, drop, get_or}
 use lib.Seq.{drop-drop, drop-append_seam, get_or-drop}
 use lib.Ieee.{Float}
 use Rattle.orchestra_syntax.specs.Tree.{Expr, number, name, unary, binary, choose, Statements, done, assign, output, branch}
-use Rattle.orchestra_syntax.specs.inside.Program.{unaryOp, binaryOp, Ins, ins, insArg, chooseOp, storeOp, outputOp, ifOp, elseOp, endOp, zeroF, compile, code}
+use Rattle.orchestra_syntax.specs.inside.Program.{unary_op, binary_op, Ins, ins, ins_arg, choose_op, store_op, output_op, if_op, else_op, end_op, zero_f, compile, code}
 use Rattle.orchestra_expressions.specs.Areas.{val_of}
-use Rattle.code_operations.specs.Words.{programSize}
+use Rattle.code_operations.specs.Words.{program_size}
 use Rattle.code_translation.specs.Translation.{after, past}
 use Rattle.code_translation.specs.Statements.{Holds, Workable, Playable}
 use Rattle.code_bounds.specs.Sizes.{Shallow, Small, numbers}
@@ -48,23 +48,23 @@ module _ (vals : List Float) where
 
   -- ---- expressions
 
-  holds-number : (n : ℕ) (x : Float) → Stands vals n (compile (number x)) → get_or vals n zeroF ≡ x
+  holds-number : (n : ℕ) (x : Float) → Stands vals n (compile (number x)) → get_or vals n zero_f ≡ x
   unfolding compile
   holds-number n x s =
       let e : n + 0 ≡ n = omega arith in
-      sym (ap (λ (k : ℕ). get_or vals k zeroF) e) ∙ sym (get_or-drop n vals 0 zeroF) ∙ ap (λ (l : List Float). get_or l 0 zeroF) s.here
+      sym (ap (λ (k : ℕ). get_or vals k zero_f) e) ∙ sym (get_or-drop n vals 0 zero_f) ∙ ap (λ (l : List Float). get_or l 0 zero_f) s.here
 
   pub holds : (n : ℕ) (e : Expr) → Stands vals n (compile e) → Holds vals n e
   unfolding Holds compile
   holds n (number x) s = holds-number n x s
   holds n (name c) s = tt
-  holds n (unary o e) s = holds n e (first n (compile e) (ins (unaryOp o) ∷ []) s)
+  holds n (unary o e) s = holds n e (first n (compile e) (ins (unary_op o) ∷ []) s)
   holds n (binary o a b) s =
-      let ab = first n (compile a ++ compile b) (ins (binaryOp o) ∷ []) s in
+      let ab = first n (compile a ++ compile b) (ins (binary_op o) ∷ []) s in
       (holds n a (first n (compile a) (compile b) ab), holds (after n a) b (rw (after-length n a) (second n (compile a) (compile b) ab)))
   holds n (choose c a b) s =
       let k = after n c in
-      let cab = first n (compile c ++ compile a ++ compile b) (ins chooseOp ∷ []) s in
+      let cab = first n (compile c ++ compile a ++ compile b) (ins choose_op ∷ []) s in
       let ca = first n (compile c ++ compile a) (compile b) cab in
       let l : after k a ≡ n + length (compile c ++ compile a) =
       omega (arith, after-length n c, after-length k a, length-append (compile c) (compile a)) in (
@@ -77,23 +77,23 @@ module _ (vals : List Float) where
 
   -- ---- statements
 
-  workable : (n : ℕ) (e : Expr) → Shallow e → Stands vals n (compile e) → n + length (compile e) ≤ programSize → Workable vals n e
+  workable : (n : ℕ) (e : Expr) → Shallow e → Stands vals n (compile e) → n + length (compile e) ≤ program_size → Workable vals n e
   workable n e h s l = record { deep = h.deep; short = omega (arith, after-length n e); held = holds n e s }
 
-  pub playable : (n g : ℕ) (t : Statements) → Small g t → Stands vals n (code t) → n + length (code t) ≤ programSize → Playable vals n g t
+  pub playable : (n g : ℕ) (t : Statements) → Small g t → Stands vals n (code t) → n + length (code t) ≤ program_size → Playable vals n g t
   unfolding Playable Small code
   playable n g done h s l = tt
   playable n g (assign c e t) h s l =
       let m : suc (after n e) ≡ suc (n + length (compile e)) = omega (arith, after-length n e) in
       let q = length-assign c e t in (
-        workable n e h.0 (first n (compile e) (insArg storeOp c ∷ code t) s) (omega arith),
-        playable (suc (after n e)) g t h.1 (rw m (third n (compile e) (insArg storeOp c) (code t) s)) (omega arith),
+        workable n e h.0 (first n (compile e) (ins_arg store_op c ∷ code t) s) (omega arith),
+        playable (suc (after n e)) g t h.1 (rw m (third n (compile e) (ins_arg store_op c) (code t) s)) (omega arith),
       )
   playable n g (output e t) h s l =
       let m : suc (after n e) ≡ suc (n + length (compile e)) = omega (arith, after-length n e) in
       let q = length-output 0 e t in (
-        workable n e h.0 (first n (compile e) (ins outputOp ∷ code t) s) (omega arith),
-        playable (suc (after n e)) g t h.1 (rw m (third n (compile e) (ins outputOp) (code t) s)) (omega arith),
+        workable n e h.0 (first n (compile e) (ins output_op ∷ code t) s) (omega arith),
+        playable (suc (after n e)) g t h.1 (rw m (third n (compile e) (ins output_op) (code t) s)) (omega arith),
       )
   playable n g (branch e a b t) h s l =
       let m = suc (after n e) in
@@ -103,9 +103,9 @@ module _ (vals : List Float) where
       let kk : k ≡ suc (m + length (code a)) = omega (arith, past-length m a) in
       let pp : p ≡ suc (k + length (code b)) = omega (arith, past-length k b) in
       let q = length-branch e a b t in
-      let x : Stands vals m (code a ++ ins elseOp ∷ (code b ++ ins endOp ∷ code t)) = rw mm (third n (compile e) (ins ifOp) _ s) in
-      let y : Stands vals k (code b ++ ins endOp ∷ code t) = rw kk (third m (code a) (ins elseOp) _ x) in
-      let z : Stands vals p (code t) = rw pp (third k (code b) (ins endOp) (code t) y) in (
+      let x : Stands vals m (code a ++ ins else_op ∷ (code b ++ ins end_op ∷ code t)) = rw mm (third n (compile e) (ins if_op) _ s) in
+      let y : Stands vals k (code b ++ ins end_op ∷ code t) = rw kk (third m (code a) (ins else_op) _ x) in
+      let z : Stands vals p (code t) = rw pp (third k (code b) (ins end_op) (code t) y) in (
         workable n e h.0 (first n (compile e) _ s) (omega arith),
         (
           h.1.0,

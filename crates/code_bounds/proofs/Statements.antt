@@ -6,7 +6,7 @@ use mathlib.Core.List.{List, ◌∷◌, ◌++◌, append_assoc}
 use lib.ListN.{length, length-append}
 use Rattle.orchestra_tokens.specs.declared.Token.{Token}
 use Rattle.orchestra_tokens.specs.declared.Token.TheVariants.{Symbol, Sign}
-use Rattle.orchestra_tokens.specs.Measures.{longestStretch}
+use Rattle.orchestra_tokens.specs.Measures.{longest_stretch}
 use Rattle.orchestra_syntax.specs.Tree.{Expr, Statements}
 use Rattle.orchestra_syntax.specs.inside.Program.{code}
 use Rattle.orchestra_syntax.specs.Grammar.{IsExpr, Stmts, none, set, out, when, either}
@@ -17,11 +17,11 @@ use Rattle.code_bounds.proofs.Measures.{Kept, Plain, Inner, pass-plain, pass-rou
 -- the measures go on, with n brackets open and some tokens since the last of ; { }
 pub record Goes (n : ℕ) (r : List Token) : Type 0 where
   pub count : ℕ
-  pub short : count ≤ longestStretch
+  pub short : count ≤ longest_stretch
   pub kept : Kept n count r
 
 -- an expression among tokens that keep the measures
-module _ {e : Expr} {ts : List Token} (d : IsExpr e ts) (n k : ℕ) (r : List Token) (l : k ≤ longestStretch) (h : Kept n k (ts ++ r)) where
+module _ {e : Expr} {ts : List Token} (d : IsExpr e ts) (n k : ℕ) (r : List Token) (l : k ≤ longest_stretch) (h : Kept n k (ts ++ r)) where
   pub expr-past : Inner n (k + length ts) r
   expr-past = within d n k r l h
 

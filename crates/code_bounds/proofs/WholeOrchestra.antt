@@ -12,13 +12,13 @@ use Rattle.base_laws.proofs.Choice.{both_true}
 use Rattle.base_laws.proofs.Lists.{map-append}
 use Rattle.orchestra_tokens.specs.declared.Token.{Token}
 use Rattle.orchestra_tokens.specs.declared.Token.TheVariants.{Symbol, Sign}
-use Rattle.orchestra_tokens.specs.Measures.{mostTokens, bracketsWithin, stretchesWithin}
-use Rattle.orchestra_syntax.specs.Tree.{Declaration, Instrument, fieldKind}
-use Rattle.orchestra_syntax.specs.inside.Program.{Ins, insArg, instrOp, declare, declared, code, instrument, program}
+use Rattle.orchestra_tokens.specs.Measures.{most_tokens, brackets_within, stretches_within}
+use Rattle.orchestra_syntax.specs.Tree.{Declaration, Instrument, field_kind}
+use Rattle.orchestra_syntax.specs.inside.Program.{Ins, ins_arg, instr_op, declare, declared, code, instrument, program}
 use Rattle.orchestra_syntax.specs.Names.{names_of}
 use Rattle.orchestra_syntax.specs.inside.Placed.{placed}
 use Rattle.orchestra_syntax.specs.Grammar.{Names, one, more, Fields, none as no·fields, some as some·fields, Kinds, ivar, ksig, asig, imports, Decls, none as no·decls, some as some·decls, Instr, is as an·instr, Orchestra, last, next}
-use Rattle.code_operations.specs.Words.{programSize}
+use Rattle.code_operations.specs.Words.{program_size}
 use Rattle.code_translation.specs.Statements.{Playable}
 use Rattle.code_bounds.specs.Sizes.{Small, numbers, body_at, AllPlayable, ProgramFits, OrchestraPlayable, InstrumentPlayable}
 use Rattle.code_bounds.proofs.Placing.{small_put, program-put}
@@ -49,7 +49,7 @@ declared-tokens (some·decls {k = k} {ns = ns} q s d) =
 
 instrument-tokens : {i : Instrument} {ts : List Token} → Instr i ts → length (instrument i) ≤ length ts
 instrument-tokens (an·instr n {fs = fs} f d s) =
-    simp length-append (omega (arith, declare-length fieldKind fs, fields-tokens f, declared-tokens d, code-tokens s))
+    simp length-append (omega (arith, declare-length field_kind fs, fields-tokens f, declared-tokens d, code-tokens s))
 
 -- a program has no more instructions than tokens
 pub program-tokens : {is : List Instrument} {ts : List Token} → Orchestra is ts → length (program is) ≤ length ts
@@ -60,7 +60,7 @@ program-tokens (next {i = i} {ts = ts} {is = is} {us = us} d s) =
 
 pub program-fits : ProgramFits
 program-fits is ts d m =
-    omega (arith, program-put is, program-tokens d, leb-true (length ts) mostTokens (both_true (leb (length ts) mostTokens) _ m).0)
+    omega (arith, program-put is, program-tokens d, leb-true (length ts) most_tokens (both_true (leb (length ts) most_tokens) _ m).0)
 
 -- ---- the measures, up to an instrument's statements
 
@@ -126,14 +126,14 @@ module _ (vals : List Float) where
   -- the code of an instrument's statements stands after its names
   body-stands : (n : ℕ) (i : Instrument) → Stands vals n (instrument i) → Stands vals (body_at n i) (code i.body)
   body-stands n i s =
-      let ds = declare fieldKind i.fields ++ declared i.declarations in
-      let e : instrument i ≡ (insArg instrOp i.name ∷ ds) ++ code i.body =
-      ap (λ (l : List Ins). insArg instrOp i.name ∷ l) (sym (append_assoc (declare fieldKind i.fields) (declared i.declarations) (code i.body))) in
-      let z = second vals n (insArg instrOp i.name ∷ ds) (code i.body) (subst (Stands vals n) e s) in
+      let ds = declare field_kind i.fields ++ declared i.declarations in
+      let e : instrument i ≡ (ins_arg instr_op i.name ∷ ds) ++ code i.body =
+      ap (λ (l : List Ins). ins_arg instr_op i.name ∷ l) (sym (append_assoc (declare field_kind i.fields) (declared i.declarations) (code i.body))) in
+      let z = second vals n (ins_arg instr_op i.name ∷ ds) (code i.body) (subst (Stands vals n) e s) in
       let k : n + suc (length ds) ≡ suc n + length ds = omega arith in
       rw k at z
 
-  all-playable : (n : ℕ) (is : List Instrument) → AllSmall is → Stands vals n (program (map placed is)) → n + length (program (map placed is)) ≤ programSize
+  all-playable : (n : ℕ) (is : List Instrument) → AllSmall is → Stands vals n (program (map placed is)) → n + length (program (map placed is)) ≤ program_size
       → AllPlayable vals n (map placed is)
   unfolding AllSmall AllPlayable program
   all-playable n [] h s l = tt
@@ -158,7 +158,7 @@ module _ (vals : List Float) where
 pub orchestra-playable : OrchestraPlayable
 orchestra-playable is ts pad d m =
     let p = program (map placed is) in
-    let (b, c) = both_true (bracketsWithin 0 ts) (stretchesWithin 0 ts) (both_true (leb (length ts) mostTokens) (bracketsWithin 0 ts && stretchesWithin 0 ts) m).1 in
+    let (b, c) = both_true (brackets_within 0 ts) (stretches_within 0 ts) (both_true (leb (length ts) most_tokens) (brackets_within 0 ts && stretches_within 0 ts) m).1 in
     let f = program-fits is ts d m in
     all-playable (numbers p ++ pad) 0 is
     (orchestra-small d (record { count = 0; short = omega arith; kept = record { brackets = b; stretches = c } }))

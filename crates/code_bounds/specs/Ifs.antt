@@ -27,33 +27,33 @@ elses (output e t) = elses t
 elses (branch e a b t) = another b + (elses a + elses b + elses t)
 
 -- those of an orchestra
-unfoldable pub allIfs : List Instrument → ℕ
-allIfs [] = 0
-allIfs (i ∷ is) = ifs i.body + allIfs is
+unfoldable pub all_ifs : List Instrument → ℕ
+all_ifs [] = 0
+all_ifs (i ∷ is) = ifs i.body + all_ifs is
 
-unfoldable pub allElses : List Instrument → ℕ
-allElses [] = 0
-allElses (i ∷ is) = elses i.body + allElses is
+unfoldable pub all_elses : List Instrument → ℕ
+all_elses [] = 0
+all_elses (i ∷ is) = elses i.body + all_elses is
 
 -- "if ( x ) { }" and "instr x ( ) { }" have 6 tokens, "else { }" has 3
-abbrev pub ifTokens : ℕ
-ifTokens = 6
+abbrev pub if_tokens : ℕ
+if_tokens = 6
 
-abbrev pub instrTokens : ℕ
-instrTokens = 6
+abbrev pub instr_tokens : ℕ
+instr_tokens = 6
 
-abbrev pub elseTokens : ℕ
-elseTokens = 3
+abbrev pub else_tokens : ℕ
+else_tokens = 3
 
 abbrev pub IfsByTokens : Type 0
 IfsByTokens =
     (is : List Instrument) (ts : List Token) → Orchestra is ts
-    → instrTokens * length is + ifTokens * allIfs is + elseTokens * allElses is ≤ length ts
+    → instr_tokens * length is + if_tokens * all_ifs is + else_tokens * all_elses is ≤ length ts
 
 -- So within the token measures: at most 340 ifs, and at most 453 blocks of ifs and of elses.
 pub record FewIfs (is : List Instrument) : Type 0 where
-  pub ifs : allIfs is ≤ 340
-  pub blocks : allIfs is + allElses is ≤ 453
+  pub ifs : all_ifs is ≤ 340
+  pub blocks : all_ifs is + all_elses is ≤ 453
 
 abbrev pub IfsFit : Type 0
 IfsFit = (is : List Instrument) (ts : List Token) → Orchestra is ts → measured ts ≡ true → FewIfs is

@@ -9,15 +9,15 @@ use lib.Dec.{eqb}
 use borrow.Author.Tests.{ne_eqb}
 use Rattle.base_laws.proofs.Lists.{map-append}
 use Rattle.orchestra_tokens.specs.declared.Token.{Token}
-use Rattle.orchestra_syntax.specs.Tree.{Expr, number, name, unary, binary, choose, Statements, done, assign, output, branch, Declaration, Instrument, fieldKind}
+use Rattle.orchestra_syntax.specs.Tree.{Expr, number, name, unary, binary, choose, Statements, done, assign, output, branch, Declaration, Instrument, field_kind}
 use Rattle.orchestra_syntax.specs.Names.{named, named_by, names_of}
 use Rattle.orchestra_syntax.specs.inside.Program.{Ins, compile, code, declare, declared, program}
 use Rattle.orchestra_syntax.specs.Grammar as grammar
 use Rattle.orchestra_syntax.specs.Grammar.{Kinds, Decls, Instr, Orchestra}
 use Rattle.orchestra_rules.specs.Formed.{ops_of, args_of}
-use Rattle.voices_resolved.specs.Tree.{importOf, importsOf}
-use Rattle.code_operations.specs.Words.{notePlaces}
-use Rattle.code_loader.specs.Loading.{laidIn, declares, noImport, fieldCount, importsAt}
+use Rattle.voices_resolved.specs.Tree.{import_of, imports_of}
+use Rattle.code_operations.specs.Words.{note_places}
+use Rattle.code_loader.specs.Loading.{laid_in, declares, no_import, field_count, imports_at}
 
 -- ---- code that declares nothing at its start
 
@@ -58,9 +58,9 @@ program-ends (i ∷ is) = cons _ _ refl
 
 pub data Known : List Declaration → Type 0 where
   nil : Known []
-  cons : (d : Declaration) {ds : List Declaration} → declares d.kind ≡ true → eqb d.kind fieldKind ≡ false → Known ds → Known (d ∷ ds)
+  cons : (d : Declaration) {ds : List Declaration} → declares d.kind ≡ true → eqb d.kind field_kind ≡ false → Known ds → Known (d ∷ ds)
 
-kind-known : {k : ℕ} {ts : List Token} → Kinds k ts → (declares k ≡ true) × (eqb k fieldKind ≡ false)
+kind-known : {k : ℕ} {ts : List Token} → Kinds k ts → (declares k ≡ true) × (eqb k field_kind ≡ false)
 kind-known grammar.ivar = (refl, refl)
 kind-known grammar.ksig = (refl, refl)
 kind-known grammar.asig = (refl, refl)
@@ -83,42 +83,42 @@ all_known (grammar.next i o) = cons _ (instr-known i) (all_known o)
 
 -- ---- the fields
 
-ends-fields : {c : List Ins} → Ends c → fieldCount (ops_of c) ≡ 0
-unfolding fieldCount
+ends-fields : {c : List Ins} → Ends c → field_count (ops_of c) ≡ 0
+unfolding field_count
 ends-fields nil = refl
 ends-fields (cons i c e) = rw (ne_eqb i.op 0 (λ h. true≢false (sym (ap declares h) ∙ e)))
 
-names-fields : (k : ℕ) → eqb k fieldKind ≡ false → (ns : List ℕ) (c : List Ins) → fieldCount (ops_of c) ≡ 0 → fieldCount (ops_of (declare k ns ++ c)) ≡ 0
-unfolding fieldCount declare
+names-fields : (k : ℕ) → eqb k field_kind ≡ false → (ns : List ℕ) (c : List Ins) → field_count (ops_of c) ≡ 0 → field_count (ops_of (declare k ns ++ c)) ≡ 0
+unfolding field_count declare
 names-fields k e [] c h = h
 names-fields k e (n ∷ ns) c h = rw e refl
 
-declared-fields : {ds : List Declaration} → Known ds → (c : List Ins) → fieldCount (ops_of c) ≡ 0 → fieldCount (ops_of (declared ds ++ c)) ≡ 0
+declared-fields : {ds : List Declaration} → Known ds → (c : List Ins) → field_count (ops_of c) ≡ 0 → field_count (ops_of (declared ds ++ c)) ≡ 0
 unfolding declared
 declared-fields nil c h = h
 declared-fields (cons d {ds = ds} e f k) c h =
     rw append_assoc (names-fields d.kind f d.names (declared ds ++ c) (declared-fields k c h))
 
-own-fields : (fs : List ℕ) (c : List Ins) → fieldCount (ops_of c) ≡ 0 → fieldCount (ops_of (declare fieldKind fs ++ c)) ≡ length fs
-unfolding fieldCount declare
+own-fields : (fs : List ℕ) (c : List Ins) → field_count (ops_of c) ≡ 0 → field_count (ops_of (declare field_kind fs ++ c)) ≡ length fs
+unfolding field_count declare
 own-fields [] c h = h
 own-fields (f ∷ fs) c h = ap suc (own-fields fs c h)
 
 -- ---- the imports
 
-ends-imports : {c : List Ins} → Ends c → importsAt (ops_of c) (args_of c) ≡ []
-unfolding importsAt
+ends-imports : {c : List Ins} → Ends c → imports_at (ops_of c) (args_of c) ≡ []
+unfolding imports_at
 ends-imports nil = refl
 ends-imports (cons i c e) = rw e refl
 
 names-imports : (k : ℕ) → declares k ≡ true → (ns : List ℕ) (c : List Ins)
-    → importsAt (ops_of (declare k ns ++ c)) (args_of (declare k ns ++ c)) ≡ map importOf (named k ns) ++ importsAt (ops_of c) (args_of c)
-unfolding importsAt declare named
+    → imports_at (ops_of (declare k ns ++ c)) (args_of (declare k ns ++ c)) ≡ map import_of (named k ns) ++ imports_at (ops_of c) (args_of c)
+unfolding imports_at declare named
 names-imports k e [] c = refl
-names-imports k e (n ∷ ns) c = rw e (ap (λ l. importOf (record { name = n; kind = k }) ∷ l) (names-imports k e ns c))
+names-imports k e (n ∷ ns) c = rw e (ap (λ l. import_of (record { name = n; kind = k }) ∷ l) (names-imports k e ns c))
 
 declared-imports : {ds : List Declaration} → Known ds → (c : List Ins)
-    → importsAt (ops_of (declared ds ++ c)) (args_of (declared ds ++ c)) ≡ map importOf (named_by ds) ++ importsAt (ops_of c) (args_of c)
+    → imports_at (ops_of (declared ds ++ c)) (args_of (declared ds ++ c)) ≡ map import_of (named_by ds) ++ imports_at (ops_of c) (args_of c)
 unfolding declared named_by
 declared-imports nil c = refl
 declared-imports (cons d {ds = ds} e f k) c =
@@ -126,7 +126,7 @@ declared-imports (cons d {ds = ds} e f k) c =
       append_assoc,
       names-imports d.kind e d.names (declared ds ++ c),
       declared-imports k c,
-      map-append importOf (named d.kind d.names) (named_by ds),
+      map-append import_of (named d.kind d.names) (named_by ds),
       append_assoc,
     )
 
@@ -134,34 +134,34 @@ declared-imports (cons d {ds = ds} e f k) c =
 
 -- what follows its first instruction
 abbrev pub rest_of : Instrument → List Ins
-rest_of i = declare fieldKind i.fields ++ (declared i.declarations ++ code i.body)
+rest_of i = declare field_kind i.fields ++ (declared i.declarations ++ code i.body)
 
 module _ (i : Instrument) (k : Known i.declarations) (behind : List Instrument) where
   abbrev body : List Ins
   body = code i.body ++ program behind
 
-  parted : rest_of i ++ program behind ≡ declare fieldKind i.fields ++ (declared i.declarations ++ body)
+  parted : rest_of i ++ program behind ≡ declare field_kind i.fields ++ (declared i.declarations ++ body)
   parted = rw (append_assoc, append_assoc)
 
   ends : Ends body
   ends = code-ends i.body (program behind) (program-ends behind)
 
-  pub fields-are : fieldCount (ops_of (rest_of i ++ program behind)) ≡ length i.fields
+  pub fields-are : field_count (ops_of (rest_of i ++ program behind)) ≡ length i.fields
   fields-are = rw parted (own-fields i.fields (declared i.declarations ++ body) (declared-fields k body (ends-fields ends)))
 
-  pub imports-are : importsAt (ops_of (rest_of i ++ program behind)) (args_of (rest_of i ++ program behind)) ≡ map importOf (names_of i)
+  pub imports-are : imports_at (ops_of (rest_of i ++ program behind)) (args_of (rest_of i ++ program behind)) ≡ map import_of (names_of i)
   imports-are =
-      rw (parted, names-imports fieldKind refl i.fields (declared i.declarations ++ body), declared-imports k body, ends-imports ends, append-nil)
-      (sym (map-append importOf (named fieldKind i.fields) (named_by i.declarations)))
+      rw (parted, names-imports field_kind refl i.fields (declared i.declarations ++ body), declared-imports k body, ends-imports ends, append-nil)
+      (sym (map-append import_of (named field_kind i.fields) (named_by i.declarations)))
 
 -- cells with one value behind a list are the first of the list and enough of that value
-pub laid-take : {A : Type 0} (m k : ℕ) (d : A) (xs : List A) → m ≤ k → laidIn m d xs ≡ take m (xs ++ replicate k d)
-unfolding laidIn
+pub laid-take : {A : Type 0} (m k : ℕ) (d : A) (xs : List A) → m ≤ k → laid_in m d xs ≡ take m (xs ++ replicate k d)
+unfolding laid_in
 laid-take zero k d xs le = refl
 laid-take (suc m) zero d [] le = absurd (omega arith)
 laid-take (suc m) (suc k) d [] le = ap (λ l. d ∷ l) (laid-take m k d [] (omega arith))
 laid-take (suc m) k d (x ∷ xs) le = ap (λ l. x ∷ l) (laid-take m k d xs (omega arith))
 
-pub imports-laid : (i : Instrument) → laidIn notePlaces noImport (map importOf (names_of i)) ≡ importsOf i
-unfolding importsOf
-imports-laid i = laid-take notePlaces notePlaces noImport (map importOf (names_of i)) (omega arith)
+pub imports-laid : (i : Instrument) → laid_in note_places no_import (map import_of (names_of i)) ≡ imports_of i
+unfolding imports_of
+imports-laid i = laid-take note_places note_places no_import (map import_of (names_of i)) (omega arith)

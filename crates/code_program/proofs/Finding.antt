@@ -10,7 +10,7 @@ use lib.Dec.{eqb}
 use lib.ListN.{length, take, drop, get_or, length-take}
 use lib.Seq.{drop-cons, get_or-take}
 use Rattle.base_laws.proofs.Choice.{cond-true, cond-false}
-use Rattle.code_program.specs.InstrumentTable.{blank, lookupIn}
+use Rattle.code_program.specs.InstrumentTable.{blank, lookup_in}
 use Rattle.code_program.specs.declared.Instrument.{Instrument}
 use Rattle.code_program.specs.declared.Lookup.{Lookup}
 
@@ -18,19 +18,19 @@ use Rattle.code_program.specs.declared.Lookup.{Lookup}
 
 module _ (name : ℕ) (l : List Instrument) (r : Lookup) where
   pub found-no : (i : ℕ) (d : Instrument) → i < length l → eqb (get_or l i d).name name ≡ false
-      → lookupIn name (drop i l) ≡ r → lookupIn name (drop (i + 1) l) ≡ r
-  unfolding lookupIn
+      → lookup_in name (drop i l) ≡ r → lookup_in name (drop (i + 1) l) ≡ r
+  unfolding lookup_in
   found-no i d h e q =
-      rw add-one (sym (cond-false _ _ e) ∙ ap (lookupIn name) (sym (drop-cons l i d h)) ∙ q)
+      rw add-one (sym (cond-false _ _ e) ∙ ap (lookup_in name) (sym (drop-cons l i d h)) ∙ q)
 
   pub found-yes : (i : ℕ) (d : Instrument) → i < length l → eqb (get_or l i d).name name ≡ true
-      → lookupIn name (drop i l) ≡ r → record { there = true; instrument = get_or l i d } ≡ r
-  unfolding lookupIn
-  found-yes i d h e q = sym (cond-true _ _ e) ∙ ap (lookupIn name) (sym (drop-cons l i d h)) ∙ q
+      → lookup_in name (drop i l) ≡ r → record { there = true; instrument = get_or l i d } ≡ r
+  unfolding lookup_in
+  found-yes i d h e q = sym (cond-true _ _ e) ∙ ap (lookup_in name) (sym (drop-cons l i d h)) ∙ q
 
-  pub found-end : (i : ℕ) → length l ≤ i → lookupIn name (drop i l) ≡ r → record { there = false; instrument = blank } ≡ r
-  unfolding lookupIn
-  found-end i h q = ap (lookupIn name) (sym (none i l h)) ∙ q
+  pub found-end : (i : ℕ) → length l ≤ i → lookup_in name (drop i l) ≡ r → record { there = false; instrument = blank } ≡ r
+  unfolding lookup_in
+  found-end i h q = ap (lookup_in name) (sym (none i l h)) ∙ q
     where
       none : (i : ℕ) (l : List Instrument) → length l ≤ i → drop i l ≡ []
       none zero [] h = refl

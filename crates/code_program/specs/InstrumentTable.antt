@@ -9,8 +9,8 @@ use Rattle.code_program.specs.declared.FieldCount.{FieldCount}
 use Rattle.code_program.specs.declared.FieldCount.TheVariants.{Count, NoSuch}
 
 -- the instruments that are there
-abbrev pub instrumentsOf : Instruments → List Instrument
-instrumentsOf x = take x.count x.table
+abbrev pub instruments_of : Instruments → List Instrument
+instruments_of x = take x.count x.table
 
 -- no instrument: no fields, no code, no imports
 unfoldable pub blank : Instrument
@@ -28,21 +28,21 @@ blank =
     }
 
 -- the first instrument with a name
-unfoldable pub lookupIn : ℕ → List Instrument → Lookup
-lookupIn name [] = record { there = false; instrument = blank }
-lookupIn name (x ∷ xs) = cond (eqb x.name name) (record { there = true; instrument = x }) (lookupIn name xs)
+unfoldable pub lookup_in : ℕ → List Instrument → Lookup
+lookup_in name [] = record { there = false; instrument = blank }
+lookup_in name (x ∷ xs) = cond (eqb x.name name) (record { there = true; instrument = x }) (lookup_in name xs)
 
 -- the instrument with a name, or the blank one
-abbrev pub instrumentIn : List Instrument → ℕ → Instrument
-instrumentIn table name = (lookupIn name table).instrument
+abbrev pub instrument_in : List Instrument → ℕ → Instrument
+instrument_in table name = (lookup_in name table).instrument
 
 -- how many fields a found instrument has
-abbrev pub fieldCountFound : Lookup → FieldCount
-fieldCountFound f = cond f.there (Count f.instrument.fields) NoSuch
+abbrev pub field_count_found : Lookup → FieldCount
+field_count_found f = cond f.there (Count f.instrument.fields) NoSuch
 
 -- how many fields a line's instrument has
-abbrev pub fieldCountIn : List Instrument → Event → FieldCount
-fieldCountIn table (Instr label name duration) = fieldCountFound (lookupIn name table)
-fieldCountIn table (Control label x value) = NoSuch
-fieldCountIn table End = NoSuch
-fieldCountIn table (Tempo t) = NoSuch
+abbrev pub field_count_in : List Instrument → Event → FieldCount
+field_count_in table (Instr label name duration) = field_count_found (lookup_in name table)
+field_count_in table (Control label x value) = NoSuch
+field_count_in table End = NoSuch
+field_count_in table (Tempo t) = NoSuch

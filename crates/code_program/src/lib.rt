@@ -1,6 +1,6 @@
 // What the player keeps of an orchestra: a table of its instruments, their code and its numbers; and what is looked up in it.
 ghost use Rattle.std.specs.Prelude.{◌≡◌};
-ghost use Rattle.code_program.specs.InstrumentTable.{instrumentsOf, lookupIn, fieldCountIn};
+ghost use Rattle.code_program.specs.InstrumentTable.{instruments_of, lookup_in, field_count_in};
 
 use score_line::{Event, Line};
 
@@ -54,7 +54,7 @@ pub enum FieldCount {
 
 // The instrument with a name; else a blank one.
 pub fn find(instruments: Instruments, name: u16) -> Lookup
-    ensures { result ≡ lookupIn name (instrumentsOf instruments) }
+    ensures { result ≡ lookup_in name (instruments_of instruments) }
 {
     let table = instruments.table;
     let m = base_numbers::at_most(instruments.count, MOST_INSTRUMENTS);
@@ -89,7 +89,7 @@ pub fn find(instruments: Instruments, name: u16) -> Lookup
 
 // How many fields a line's instrument has; for a line of another kind no such instrument.
 pub fn field_count_for(instruments: Instruments, l: Line) -> FieldCount
-    ensures { result ≡ fieldCountIn (instrumentsOf instruments) l.event }
+    ensures { result ≡ field_count_in (instruments_of instruments) l.event }
 {
     let e = l.event;
     match e {

@@ -14,7 +14,7 @@ use lib.Ieee.Exact.{HasValue, round_exact}
 use lib.Ieee.Bits.{of_bits-to_bits}
 use lib.Ieee.Nearest.{div_same}
 use borrow.Author.Tests.{le-ltb}
-use Rattle.code_interpreter.specs.Run.{minusZero}
+use Rattle.code_interpreter.specs.Run.{minus_zero}
 
 no_power : (x y : ℕ) → x ≡ 2 * y → 0 < y → x ≡ 1 → ⊥
 no_power x y e p h = omega arith
@@ -92,7 +92,7 @@ module _ (f : Format) where
       (ltb→lt (suc m * up e) (2 ^ suc (emax f) * down e) (and_r (A && B && C) D h)))
 
 -- x + -0 is x, for every x of the format: infinities, not-a-number and both zeros too
-pub add-minus-zero : (x : Float) → T (fits binary32 x) → add binary32 x minusZero ≡ x
+pub add-minus-zero : (x : Float) → T (fits binary32 x) → add binary32 x minus_zero ≡ x
 unfolding add neg of_bits sum
 add-minus-zero nan h = refl
 add-minus-zero (inf s) h = refl

@@ -10,12 +10,12 @@ use lib.Dec.{T, eqb}
 use lib.Ieee.{Float, binary32, add, fits}
 use borrow.Author.Tests.{eqb-true, ne_eqb}
 use Rattle.orchestra_syntax.specs.Tree.{Expr, Statements, done, assign, output, branch}
-use Rattle.orchestra_syntax.specs.inside.Program.{zeroF}
-use Rattle.orchestra_syntax.specs.inside.Placed.{rateOf, place_of}
+use Rattle.orchestra_syntax.specs.inside.Program.{zero_f}
+use Rattle.orchestra_syntax.specs.inside.Placed.{rate_of, place_of}
 use Rattle.base_float32.specs.Builtins.{truth}
 use Rattle.orchestra_semantics.specs.inside.Placed.{value, Sounding, sounding, assigned, outputs, pass}
-use Rattle.code_operations.specs.Words.{notePlaces, mostIfs, framePlaces}
-use Rattle.code_interpreter.specs.Run.{minusZero, outcome, step, run}
+use Rattle.code_operations.specs.Words.{note_places, most_ifs, frame_places}
+use Rattle.code_interpreter.specs.Run.{minus_zero, outcome, step, run}
 use Rattle.code_interpreter.specs.Passes.{added}
 use Rattle.code_translation.specs.Translation.{after, placed, parts, selected, stored, sent, guarded, turned, behind, past, lowered}
 use Rattle.code_translation.specs.Statements.{Workable, Playable}
@@ -35,29 +35,29 @@ module _ (vals : List Float) where
   -- ---- after an expression
 
   -- an expression's parts, ready for the word after them
-  ready : (n : ℕ) (e : Expr) (s : List Float) → Workable vals n e → length s ≡ framePlaces → Leaves vals n 0 e s (run vals (parts n 0 e) s).frame
+  ready : (n : ℕ) (e : Expr) (s : List Float) → Workable vals n e → length s ≡ frame_places → Leaves vals n 0 e s (run vals (parts n 0 e) s).frame
   ready n e s w l = leaves vals e n 0 s w.held (omega (arith, w.deep)) w.short l
 
   -- ---- an assignment of this pass
 
-  module _ (r g c : ℕ) (e : Expr) (s s₁ : List Float) (rate : eqb (rateOf c) r ≡ true) (lg : g ≤ mostIfs) (i : Kept 0 s s₁) where
+  module _ (r g c : ℕ) (e : Expr) (s s₁ : List Float) (rate : eqb (rate_of c) r ≡ true) (lg : g ≤ most_ifs) (i : Kept 0 s s₁) where
     abbrev v : Float
-    v = value (take notePlaces s) e
+    v = value (take note_places s) e
 
     abbrev to : ℕ
     to = place_of c
 
     abbrev set_to : Bool → List Float
-    set_to b = set s₁ to (cond b v (get_or s₁ to zeroF))
+    set_to b = set s₁ to (cond b v (get_or s₁ to zero_f))
 
     assign-is : (b : Bool) (y : Float) → sound (set_to b) y ≡ cond b (Assign r c e (sound s y)) (sound s y)
     unfolding assigned
-    assign-is true y = rw rate (ap (λ (l : List Float). sounding l y) (take-set-lt notePlaces s₁ to v (omega arith) ∙ ap (λ l. set l to v) (still g s s₁ lg i)))
+    assign-is true y = rw rate (ap (λ (l : List Float). sounding l y) (take-set-lt note_places s₁ to v (omega arith) ∙ ap (λ l. set l to v) (still g s s₁ lg i)))
     assign-is false y =
-        let u = get_or s₁ to zeroF in
-        let q : set (take notePlaces s₁) to u ≡ take notePlaces s₁ =
-        ap (set (take notePlaces s₁) to) (sym (get_or-take notePlaces s₁ to zeroF (omega arith))) ∙ set-get_or (take notePlaces s₁) to zeroF in
-        ap (λ (l : List Float). sounding l y) (take-set-lt notePlaces s₁ to u (omega arith) ∙ q ∙ still g s s₁ lg i)
+        let u = get_or s₁ to zero_f in
+        let q : set (take note_places s₁) to u ≡ take note_places s₁ =
+        ap (set (take note_places s₁) to) (sym (get_or-take note_places s₁ to zero_f (omega arith))) ∙ set-get_or (take note_places s₁) to zero_f in
+        ap (λ (l : List Float). sounding l y) (take-set-lt note_places s₁ to u (omega arith) ∙ q ∙ still g s s₁ lg i)
 
     assigns-at : Did g (Assign r c e) s (outcome (set_to (holds g s₁)) [])
     unfolding added
@@ -69,7 +69,7 @@ module _ (vals : List Float) where
         }
 
   -- with no if open the name's place is set at once, with ifs open where the guard holds
-  assigns : (r n g c : ℕ) (e : Expr) (s : List Float) → eqb (rateOf c) r ≡ true → g ≤ mostIfs → Workable vals n e → length s ≡ framePlaces
+  assigns : (r n g c : ℕ) (e : Expr) (s : List Float) → eqb (rate_of c) r ≡ true → g ≤ most_ifs → Workable vals n e → length s ≡ frame_places
       → Did g (Assign r c e) s (run vals (stored g n (place_of c) e) s)
   unfolding stored holds
   assigns r n zero c e s q lg w l =
@@ -85,11 +85,11 @@ module _ (vals : List Float) where
 
   -- ---- an output of the a pass
 
-  module _ (n g : ℕ) (e : Expr) (s s₁ : List Float) (lg : g ≤ mostIfs) (i : Leaves vals n 0 e s s₁) where
+  module _ (n g : ℕ) (e : Expr) (s s₁ : List Float) (lg : g ≤ most_ifs) (i : Leaves vals n 0 e s s₁) where
     abbrev x₀ : Float
-    x₀ = value (take notePlaces s) e
+    x₀ = value (take note_places s) e
 
-    send-is : (b : Bool) (y : Float) → T (fits binary32 y) → sound s₁ (add binary32 y (cond b x₀ minusZero)) ≡ cond b (Output 2 e (sound s y)) (sound s y)
+    send-is : (b : Bool) (y : Float) → T (fits binary32 y) → sound s₁ (add binary32 y (cond b x₀ minus_zero)) ≡ cond b (Output 2 e (sound s y)) (sound s y)
     unfolding outputs
     send-is true y t = ap (λ (l : List Float). sounding l (add binary32 y x₀)) (still g s s₁ lg i.still)
     send-is false y t = λ k. sounding (still g s s₁ lg i.still k) (add-minus-zero y t k)
@@ -115,7 +115,7 @@ module _ (vals : List Float) where
   blocks false false A B x = refl
 
   -- code behind the words of a guard, where there is some
-  went-behind : (gs c : List ℕ) {g : ℕ} {b : Bool} {E : Sounding → Sounding} (s : List Float) → length s ≡ framePlaces → Guards vals g b s (run vals gs s)
+  went-behind : (gs c : List ℕ) {g : ℕ} {b : Bool} {E : Sounding → Sounding} (s : List Float) → length s ≡ frame_places → Guards vals g b s (run vals gs s)
       → Went g E (run vals gs s).frame (run vals c (run vals gs s).frame) → Went g E s (run vals (behind gs c) s)
   unfolding behind run added
   went-behind gs [] {E = E} s l o d = record {
@@ -130,11 +130,11 @@ module _ (vals : List Float) where
   })
 
   -- from s by a guard gs to s₂, by a block la to s₃, by the other guard tu to s₄, by the other block lb
-  branches : (g : ℕ) (e : Expr) (A B : Sounding → Sounding) (s : List Float) → length s ≡ framePlaces → (gs la tu lb : List ℕ)
+  branches : (g : ℕ) (e : Expr) (A B : Sounding → Sounding) (s : List Float) → length s ≡ frame_places → (gs la tu lb : List ℕ)
       → let s₂ = (run vals gs s).frame in
       let s₃ = (run vals la s₂).frame in
       let s₄ = (run vals tu s₃).frame in
-      Guards vals g (holds g s && truth (value (take notePlaces s) e)) s (run vals gs s) → Did (suc g) A s₂ (run vals la s₂)
+      Guards vals g (holds g s && truth (value (take note_places s) e)) s (run vals gs s) → Did (suc g) A s₂ (run vals la s₂)
       → Guards vals g (holds g s₃ && not (holds (suc g) s₃)) s₃ (run vals tu s₃) → Did (suc g) B s₄ (run vals lb s₄)
       → Did g (λ (x : Sounding). cond (truth (value x.values e)) (A x) (B x)) s (run vals (behind gs (la ++ behind tu lb)) s)
   branches g e A B s l gs la tu lb o a u b =
@@ -142,32 +142,32 @@ module _ (vals : List Float) where
       let s₃ = (run vals la s₂).frame in
       let around = holds_kept g s s₃ (λ j p q. a.kept j p (omega arith) ∙ o.kept j p q) in
       let own = holds_kept (suc g) s₂ s₃ a.kept ∙ o.guard in
-      went-by _ (λ y. rw (u.guard, around, own, o.guard) (blocks (holds g s) (truth (value (take notePlaces s) e)) A B (sound s y)))
+      went-by _ (λ y. rw (u.guard, around, own, o.guard) (blocks (holds g s) (truth (value (take note_places s) e)) A B (sound s y)))
       (went-behind gs (la ++ behind tu lb) s l o
       (went-as (run-append vals la (behind tu lb) s₂) (went_then (went-less a) (went-behind tu lb s₃ a.size u (went-less b)))))
 
   -- ---- statements
 
-  assign-first : (r n g c : ℕ) (e : Expr) (s : List Float) → Workable vals n e → g ≤ mostIfs → length s ≡ framePlaces → (b : Bool) → eqb (rateOf c) r ≡ b
+  assign-first : (r n g c : ℕ) (e : Expr) (s : List Float) → Workable vals n e → g ≤ most_ifs → length s ≡ frame_places → (b : Bool) → eqb (rate_of c) r ≡ b
       → Did g (Assign r c e) s (run vals (cond b (stored g n (place_of c) e) []) s)
   unfolding run assigned
   assign-first r n g c e s w lg l true q = assigns r n g c e s q lg w l
   assign-first r n g c e s w lg l false q = idle g (Assign r c e) s l (λ y. rw q)
 
-  output-first : (r n g : ℕ) (e : Expr) (s : List Float) → Workable vals n e → g ≤ mostIfs → length s ≡ framePlaces → (b : Bool) → eqb r 2 ≡ b
+  output-first : (r n g : ℕ) (e : Expr) (s : List Float) → Workable vals n e → g ≤ most_ifs → length s ≡ frame_places → (b : Bool) → eqb r 2 ≡ b
       → Did g (Output r e) s (run vals (cond b (parts n 0 e ++ sent g (placed n 0 e) ∷ []) []) s)
   unfolding run outputs
   output-first r n g e s w lg l true q =
       went-as (run-last vals (parts n 0 e) (sent g (placed n 0 e)) s (parts-silent vals e n 0 s)) (rw (eqb-true r 2 q) (sends n g e s _ lg (ready n e s w l) w))
   output-first r n g e s w lg l false q = idle g (Output r e) s l (λ y. rw q)
 
-  pub passes : (t : Statements) (r n g : ℕ) (s : List Float) → Playable vals n g t → g ≤ mostIfs → length s ≡ framePlaces
+  pub passes : (t : Statements) (r n g : ℕ) (s : List Float) → Playable vals n g t → g ≤ most_ifs → length s ≡ frame_places
       → Did g (λ (x : Sounding). pass r t x) s (run vals (lowered r n g t) s)
   unfolding lowered pass Playable run
   passes done r n g s p lg l = idle g (λ (x : Sounding). x) s l (λ y. refl)
   passes (assign c e t) r n g s p lg l =
-      let d = assign-first r n g c e s p.0 lg l (eqb (rateOf c) r) refl in
-      went-as (run-append vals (cond (eqb (rateOf c) r) (stored g n (place_of c) e) []) _ s)
+      let d = assign-first r n g c e s p.0 lg l (eqb (rate_of c) r) refl in
+      went-as (run-append vals (cond (eqb (rate_of c) r) (stored g n (place_of c) e) []) _ s)
       (then (Assign r c e) (pass r t) d (passes t r (suc (after n e)) g _ p.1 lg d.size))
   passes (output e t) r n g s p lg l =
       let d = output-first r n g e s p.0 lg l (eqb r 2) refl in

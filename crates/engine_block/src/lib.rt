@@ -2,11 +2,11 @@
 ghost use Rattle.std.specs.Prelude.{◌≡◌};
 ghost use Rattle.engine_limiter.specs.Block.{limited};
 ghost use Rattle.player_model.specs.Lists.{each, over};
-ghost use Rattle.player_model.specs.Cycle.{runAll};
-ghost use Rattle.code_program.specs.InstrumentTable.{instrumentsOf};
+ghost use Rattle.player_model.specs.Cycle.{run_all};
+ghost use Rattle.code_program.specs.InstrumentTable.{instruments_of};
 ghost use Rattle.voices_compiled.specs.Voices.{voices};
 ghost use Rattle.note_lifecycle.specs.OneNote.{struct_of};
-ghost use Rattle.note_pool.specs.Notes.{notesIn};
+ghost use Rattle.note_pool.specs.Notes.{notes_in};
 
 use code_program::Instruments;
 use note_pool::Notes;
@@ -20,8 +20,8 @@ pub fn sound<'a>(
     ceiling: u16,
     block: &mut [i16],
 ) -> Notes
-    ensures notes { (result.count ≡ v.count) × (result.notes ≡ over (each struct_of (runAll (voices (instrumentsOf instruments) code.now vals.now) (notesIn v.notes v.count)).notes) v.notes) }
-    ensures block { block.new ≡ limited ceiling (runAll (voices (instrumentsOf instruments) code.now vals.now) (notesIn v.notes v.count)).mix block.old }
+    ensures notes { (result.count ≡ v.count) × (result.notes ≡ over (each struct_of (run_all (voices (instruments_of instruments) code.now vals.now) (notes_in v.notes v.count)).notes) v.notes) }
+    ensures block { block.new ≡ limited ceiling (run_all (voices (instruments_of instruments) code.now vals.now) (notes_in v.notes v.count)).mix block.old }
 {
     let mut mix = [0.0f32; 320];
     let notes = v.notes;

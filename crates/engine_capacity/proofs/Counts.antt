@@ -7,20 +7,20 @@ use mathlib.Core.List.{List, [], ◌∷◌, ◌++◌}
 use lib.Dec.{eqb}
 use lib.Ieee.{Float}
 use Rattle.orchestra_syntax.specs.Tree.{Expr, number, name, unary, binary, choose, Statements, done, assign, output, branch}
-use Rattle.orchestra_syntax.specs.inside.Placed.{rateOf, place_of}
+use Rattle.orchestra_syntax.specs.inside.Placed.{rate_of, place_of}
 use Rattle.orchestra_signs.specs.Operators.{Unary, Binary}
 use Rattle.code_operations.specs.Operations as O
 use Rattle.code_operations.specs.Operations.{Operation, named, outputs}
-use Rattle.code_operations.specs.Words.{framePlaces, roomPlaces, mostIfs, mostParts, programSize, op_of, first_of, second_of, thirdOf, word}
+use Rattle.code_operations.specs.Words.{frame_places, room_places, most_ifs, most_parts, program_size, op_of, first_of, second_of, third_of, word}
 use Rattle.code_operations.proofs.Numbering.{named-number, number_small}
-use Rattle.code_translation.specs.Translation.{instruction, guardAt, part_at, number_at, after, placed, partsTo, parts, bare, into, selected, stored, sent, joined, guarded, turned, behind, past, lowered}
+use Rattle.code_translation.specs.Translation.{instruction, guard_at, part_at, number_at, after, placed, parts_to, parts, bare, into, selected, stored, sent, joined, guarded, turned, behind, past, lowered}
 use Rattle.code_translation.specs.Statements.{depth, Workable, Playable}
 use Rattle.code_translation.proofs.Exprs.{after_more, depth_pos, placed-small}
-use Rattle.code_decoder.specs.Decoded.{countAt, countIn, count_of}
+use Rattle.code_decoder.specs.Decoded.{count_at, count_in, count_of}
 use Rattle.code_decoder.proofs.SameRun.{count-few}
 use Rattle.code_decoder.proofs.WordParts.{count_none}
-use Rattle.engine_rows.specs.Instruction.{out_of, outsOf}
-use Rattle.engine_capacity.specs.Capacity.{numbersIn, numbersOf, outputsOf}
+use Rattle.engine_rows.specs.Instruction.{out_of, outs_of}
+use Rattle.engine_capacity.specs.Capacity.{numbers_in, numbers_of, outputs_of}
 
 -- ---- code behind code
 
@@ -29,8 +29,8 @@ unfolding count_of
 count-append [] ys = omega arith
 count-append (x ∷ xs) ys = omega (arith, count-append xs ys)
 
-pub outs-append : (xs ys : List ℕ) → outsOf (xs ++ ys) ≡ outsOf xs + outsOf ys
-unfolding outsOf
+pub outs-append : (xs ys : List ℕ) → outs_of (xs ++ ys) ≡ outs_of xs + outs_of ys
+unfolding outs_of
 outs-append [] ys = omega arith
 outs-append (x ∷ xs) ys = omega (arith, outs-append xs ys)
 
@@ -38,8 +38,8 @@ count-nothing : count_of [] ≤ 0
 unfolding count_of
 count-nothing = omega arith
 
-outs-nothing : outsOf [] ≤ 0
-unfolding outsOf
+outs-nothing : outs_of [] ≤ 0
+unfolding outs_of
 outs-nothing = omega arith
 
 count-behind : (xs ys : List ℕ) → count_of (behind xs ys) ≤ count_of xs + count_of ys
@@ -47,8 +47,8 @@ unfolding behind count_of
 count-behind xs [] = omega arith
 count-behind xs (y ∷ ys) = omega (arith, count-append xs (y ∷ ys))
 
-outs-behind : (xs ys : List ℕ) → outsOf (behind xs ys) ≤ outsOf xs + outsOf ys
-unfolding behind outsOf
+outs-behind : (xs ys : List ℕ) → outs_of (behind xs ys) ≤ outs_of xs + outs_of ys
+unfolding behind outs_of
 outs-behind xs [] = omega arith
 outs-behind xs (y ∷ ys) = omega (arith, outs-append xs (y ∷ ys))
 
@@ -56,7 +56,7 @@ count-either : (k : ℕ) (b : Bool) (x y : List ℕ) → count_of x ≤ k → co
 count-either k true x y h l = h
 count-either k false x y h l = l
 
-outs-either : (k : ℕ) (b : Bool) (x y : List ℕ) → outsOf x ≤ k → outsOf y ≤ k → outsOf (cond b x y) ≤ k
+outs-either : (k : ℕ) (b : Bool) (x y : List ℕ) → outs_of x ≤ k → outs_of y ≤ k → outs_of (cond b x y) ≤ k
 outs-either k true x y h l = h
 outs-either k false x y h l = l
 
@@ -66,13 +66,13 @@ op-of : (o : Operation) (t a b c : ℕ) → op_of (instruction o t a b c) ≡ O.
 unfolding word
 op-of o t a b c = let h = number_small o in omega arith
 
-outs-one : (o : Operation) (t a b c : ℕ) → outsOf (instruction o t a b c ∷ []) ≡ outputs o
-unfolding outsOf out_of
+outs-one : (o : Operation) (t a b c : ℕ) → outs_of (instruction o t a b c ∷ []) ≡ outputs o
+unfolding outs_of out_of
 outs-one o t a b c =
     let e : outputs (named (op_of (instruction o t a b c))) ≡ outputs o = ap (λ (n : ℕ). outputs (named n)) (op-of o t a b c) ∙ ap outputs (named-number o) in
     omega (arith, e)
 
-module _ (o : Operation) (t a b c : ℕ) (ht : t < roomPlaces) (ha : a < roomPlaces) (hb : b < roomPlaces) (hc : c < roomPlaces) where
+module _ (o : Operation) (t a b c : ℕ) (ht : t < room_places) (ha : a < room_places) (hb : b < room_places) (hc : c < room_places) where
   first-of : first_of (instruction o t a b c) ≡ a
   unfolding word
   first-of = let h = number_small o in omega arith
@@ -81,26 +81,26 @@ module _ (o : Operation) (t a b c : ℕ) (ht : t < roomPlaces) (ha : a < roomPla
   unfolding word
   second-of = let h = number_small o in omega arith
 
-  third_of : thirdOf (instruction o t a b c) ≡ c
+  third-of : third_of (instruction o t a b c) ≡ c
   unfolding word
-  third_of = let h = number_small o in omega arith
+  third-of = let h = number_small o in omega arith
 
-  count-one : count_of (instruction o t a b c ∷ []) ≡ countAt a + (countAt b + countAt c)
-  unfolding count_of countIn
-  count-one = let e : countIn (instruction o t a b c) ≡ countAt a + (countAt b + countAt c) = rw (first-of, second-of, third_of) in omega (arith, e)
+  count-one : count_of (instruction o t a b c ∷ []) ≡ count_at a + (count_at b + count_at c)
+  unfolding count_of count_in
+  count-one = let e : count_in (instruction o t a b c) ≡ count_at a + (count_at b + count_at c) = rw (first-of, second-of, third-of) in omega (arith, e)
 
-low : (p : ℕ) → p < framePlaces → countAt p ≡ 0
+low : (p : ℕ) → p < frame_places → count_at p ≡ 0
 low p h = sym (count_none p h).0
 
 -- ---- expressions
 
-parts-count : (n d to : ℕ) (e : Expr) → d + depth e ≤ mostParts → after n e ≤ programSize → to < roomPlaces → count_of (partsTo n d to e) + countAt (placed n d e) ≤ numbersIn e
-unfolding partsTo placed numbersIn count_of depth after
+parts-count : (n d to : ℕ) (e : Expr) → d + depth e ≤ most_parts → after n e ≤ program_size → to < room_places → count_of (parts_to n d to e) + count_at (placed n d e) ≤ numbers_in e
+unfolding parts_to placed numbers_in count_of depth after
 parts-count n d to (number x) h s l = omega (arith, count-few (number_at n))
 parts-count n d to (name c) h s l = omega (arith, low (place_of c) (omega arith))
 parts-count n d to (unary o e) h s l =
     let w = instruction (O.unary o) to (placed n d e) 0 0 in
-    let p = partsTo n d (part_at d) e in
+    let p = parts_to n d (part_at d) e in
     omega (
       arith,
       count-append p (w ∷ []),
@@ -111,8 +111,8 @@ parts-count n d to (unary o e) h s l =
     )
 parts-count n d to (binary o a b) h s l =
     let m = after n a in
-    let p = partsTo n d (part_at d) a in
-    let q = partsTo m (suc d) (part_at (suc d)) b in
+    let p = parts_to n d (part_at d) a in
+    let q = parts_to m (suc d) (part_at (suc d)) b in
     let w = instruction (O.binary o) to (placed n d a) (placed m (suc d) b) 0 in
     omega (
       arith,
@@ -128,9 +128,9 @@ parts-count n d to (binary o a b) h s l =
 parts-count n d to (choose c a b) h s l =
     let m = after n c in
     let k = after m a in
-    let p = partsTo n d (part_at d) c in
-    let q = partsTo m (suc d) (part_at (suc d)) a in
-    let r = partsTo k (suc (suc d)) (part_at (suc (suc d))) b in
+    let p = parts_to n d (part_at d) c in
+    let q = parts_to m (suc d) (part_at (suc d)) a in
+    let r = parts_to k (suc (suc d)) (part_at (suc (suc d))) b in
     let w = instruction O.select to (placed n d c) (placed m (suc d) a) (placed k (suc (suc d)) b) in
     omega (
       arith,
@@ -146,17 +146,17 @@ parts-count n d to (choose c a b) h s l =
       parts-count k (suc (suc d)) (part_at (suc (suc d))) b (omega arith) (omega arith) (omega (arith, depth_pos b)),
     )
 
-parts-outs : (n d to : ℕ) (e : Expr) → outsOf (partsTo n d to e) ≤ 0
-unfolding partsTo outsOf
+parts-outs : (n d to : ℕ) (e : Expr) → outs_of (parts_to n d to e) ≤ 0
+unfolding parts_to outs_of
 parts-outs n d to (number x) = omega arith
 parts-outs n d to (name c) = omega arith
 parts-outs n d to (unary o e) =
     let w = instruction (O.unary o) to (placed n d e) 0 0 in
-    omega (arith, outs-append (partsTo n d (part_at d) e) (w ∷ []), outs-one (O.unary o) to (placed n d e) 0 0, parts-outs n d (part_at d) e)
+    omega (arith, outs-append (parts_to n d (part_at d) e) (w ∷ []), outs-one (O.unary o) to (placed n d e) 0 0, parts-outs n d (part_at d) e)
 parts-outs n d to (binary o a b) =
     let m = after n a in
-    let p = partsTo n d (part_at d) a in
-    let q = partsTo m (suc d) (part_at (suc d)) b in
+    let p = parts_to n d (part_at d) a in
+    let q = parts_to m (suc d) (part_at (suc d)) b in
     let w = instruction (O.binary o) to (placed n d a) (placed m (suc d) b) 0 in
     omega (
       arith,
@@ -169,9 +169,9 @@ parts-outs n d to (binary o a b) =
 parts-outs n d to (choose c a b) =
     let m = after n c in
     let k = after m a in
-    let p = partsTo n d (part_at d) c in
-    let q = partsTo m (suc d) (part_at (suc d)) a in
-    let r = partsTo k (suc (suc d)) (part_at (suc (suc d))) b in
+    let p = parts_to n d (part_at d) c in
+    let q = parts_to m (suc d) (part_at (suc d)) a in
+    let r = parts_to k (suc (suc d)) (part_at (suc (suc d))) b in
     let w = instruction O.select to (placed n d c) (placed m (suc d) a) (placed k (suc (suc d)) b) in
     omega (
       arith,
@@ -190,103 +190,103 @@ module _ {vals : List Float} (n : ℕ) (e : Expr) (w : Workable vals n e) where
   abbrev p : ℕ
   p = placed n 0 e
 
-  p-small : p < roomPlaces
+  p-small : p < room_places
   p-small = placed-small n 0 e (omega arith) w.short
 
-  alone : (to : ℕ) → to < roomPlaces → count_of (partsTo n 0 to e) + countAt p ≤ numbersIn e
+  alone : (to : ℕ) → to < room_places → count_of (parts_to n 0 to e) + count_at p ≤ numbers_in e
   alone to l = parts-count n 0 to e (omega (arith, w.deep)) w.short l
 
-  count-into : (to : ℕ) → to < roomPlaces → count_of (into n to e) ≤ numbersIn e
+  count-into : (to : ℕ) → to < room_places → count_of (into n to e) ≤ numbers_in e
   unfolding into
   count-into to l =
-      count-either (numbersIn e) (bare e) (instruction O.copy to p 0 0 ∷ []) (partsTo n 0 to e)
+      count-either (numbers_in e) (bare e) (instruction O.copy to p 0 0 ∷ []) (parts_to n 0 to e)
       (omega (arith, count-one O.copy to p 0 0 l p-small (omega arith) (omega arith), low 0 (omega arith), alone to l)) (omega (arith, alone to l))
 
   -- the expression's code and one word more, which reads it and nothing else that is a number
-  count-last : (v : ℕ) → count_of (v ∷ []) ≤ countAt p → count_of (parts n 0 e ++ v ∷ []) ≤ numbersIn e
+  count-last : (v : ℕ) → count_of (v ∷ []) ≤ count_at p → count_of (parts n 0 e ++ v ∷ []) ≤ numbers_in e
   count-last v h = omega (arith, count-append (parts n 0 e) (v ∷ []), alone (part_at 0) (omega arith))
 
-  pub count-stored : (g to : ℕ) → g ≤ mostIfs → to < framePlaces → count_of (stored g n to e) ≤ numbersIn e
+  pub count-stored : (g to : ℕ) → g ≤ most_ifs → to < frame_places → count_of (stored g n to e) ≤ numbers_in e
   unfolding stored
   count-stored g to i l =
-      count-either (numbersIn e) (eqb g 0) (into n to e) (parts n 0 e ++ selected g to p ∷ []) (count-into to (omega arith))
-      (count-last (selected g to p) (omega (arith, count-one O.select to (guardAt g) p to (omega arith) (omega arith) p-small (omega arith), low (guardAt g) (omega arith), low to l)))
+      count-either (numbers_in e) (eqb g 0) (into n to e) (parts n 0 e ++ selected g to p ∷ []) (count-into to (omega arith))
+      (count-last (selected g to p) (omega (arith, count-one O.select to (guard_at g) p to (omega arith) (omega arith) p-small (omega arith), low (guard_at g) (omega arith), low to l)))
 
-  pub count-sent : (g : ℕ) → g ≤ mostIfs → count_of (parts n 0 e ++ sent g p ∷ []) ≤ numbersIn e
+  pub count-sent : (g : ℕ) → g ≤ most_ifs → count_of (parts n 0 e ++ sent g p ∷ []) ≤ numbers_in e
   unfolding sent
   count-sent g i = go (eqb g 0)
     where
-      go : (b : Bool) → count_of (parts n 0 e ++ cond b (instruction O.output 0 p 0 0) (instruction O.guardedOutput 0 (guardAt g) p 0) ∷ []) ≤ numbersIn e
+      go : (b : Bool) → count_of (parts n 0 e ++ cond b (instruction O.output 0 p 0 0) (instruction O.guarded_output 0 (guard_at g) p 0) ∷ []) ≤ numbers_in e
       go true = count-last (instruction O.output 0 p 0 0) (omega (arith, count-one O.output 0 p 0 0 (omega arith) p-small (omega arith) (omega arith), low 0 (omega arith)))
       go false =
-          count-last (instruction O.guardedOutput 0 (guardAt g) p 0)
-          (omega (arith, count-one O.guardedOutput 0 (guardAt g) p 0 (omega arith) (omega arith) p-small (omega arith), low (guardAt g) (omega arith), low 0 (omega arith)))
+          count-last (instruction O.guarded_output 0 (guard_at g) p 0)
+          (omega (arith, count-one O.guarded_output 0 (guard_at g) p 0 (omega arith) (omega arith) p-small (omega arith), low (guard_at g) (omega arith), low 0 (omega arith)))
 
-  pub count-guarded : (g : ℕ) → g < mostIfs → count_of (guarded g n e) ≤ numbersIn e
+  pub count-guarded : (g : ℕ) → g < most_ifs → count_of (guarded g n e) ≤ numbers_in e
   unfolding guarded
   count-guarded g i =
-      count-either (numbersIn e) (eqb g 0) (into n (guardAt 1) e) (parts n 0 e ++ joined g p ∷ []) (count-into (guardAt 1) (omega arith))
+      count-either (numbers_in e) (eqb g 0) (into n (guard_at 1) e) (parts n 0 e ++ joined g p ∷ []) (count-into (guard_at 1) (omega arith))
       (count-last (joined g p)
-      (omega (arith, count-one (O.binary Binary.and) (guardAt (suc g)) (guardAt g) p 0 (omega arith) (omega arith) p-small (omega arith), low (guardAt g) (omega arith), low 0 (omega arith))))
+      (omega (arith, count-one (O.binary Binary.and) (guard_at (suc g)) (guard_at g) p 0 (omega arith) (omega arith) p-small (omega arith), low (guard_at g) (omega arith), low 0 (omega arith))))
 
-count-turned : (g : ℕ) → g < mostIfs → count_of (turned g) ≤ 0
+count-turned : (g : ℕ) → g < most_ifs → count_of (turned g) ≤ 0
 unfolding turned
 count-turned g i =
-    let m = guardAt (suc g) in
+    let m = guard_at (suc g) in
     let v = instruction (O.unary Unary.not) m m 0 0 in
     let more = cond (eqb g 0) [] (joined g m ∷ []) in
     let z : count_of (v ∷ []) ≡ 0 = omega (arith, count-one (O.unary Unary.not) m m 0 0 (omega arith) (omega arith) (omega arith) (omega arith), low m (omega arith), low 0 (omega arith)) in
     let y : count_of more ≤ 0 =
     count-either 0 (eqb g 0) [] (joined g m ∷ []) count-nothing
-    (omega (arith, count-one (O.binary Binary.and) m (guardAt g) m 0 (omega arith) (omega arith) (omega arith) (omega arith), low m (omega arith), low (guardAt g) (omega arith), low 0 (omega arith))) in
+    (omega (arith, count-one (O.binary Binary.and) m (guard_at g) m 0 (omega arith) (omega arith) (omega arith) (omega arith), low m (omega arith), low (guard_at g) (omega arith), low 0 (omega arith))) in
     omega (arith, count-append (v ∷ []) more)
 
-outs-last : (n : ℕ) (e : Expr) (o : Operation) (t a b c : ℕ) → outsOf (parts n 0 e ++ instruction o t a b c ∷ []) ≤ outputs o
+outs-last : (n : ℕ) (e : Expr) (o : Operation) (t a b c : ℕ) → outs_of (parts n 0 e ++ instruction o t a b c ∷ []) ≤ outputs o
 outs-last n e o t a b c = omega (arith, outs-append (parts n 0 e) (instruction o t a b c ∷ []), outs-one o t a b c, parts-outs n 0 (part_at 0) e)
 
-outs-into : (n to : ℕ) (e : Expr) → outsOf (into n to e) ≤ 0
+outs-into : (n to : ℕ) (e : Expr) → outs_of (into n to e) ≤ 0
 unfolding into
 outs-into n to e = outs-either 0 (bare e) _ _ (omega (arith, outs-one O.copy to (placed n 0 e) 0 0)) (parts-outs n 0 to e)
 
-outs-stored : (g n to : ℕ) (e : Expr) → outsOf (stored g n to e) ≤ 0
+outs-stored : (g n to : ℕ) (e : Expr) → outs_of (stored g n to e) ≤ 0
 unfolding stored
-outs-stored g n to e = outs-either 0 (eqb g 0) _ _ (outs-into n to e) (outs-last n e O.select to (guardAt g) (placed n 0 e) to)
+outs-stored g n to e = outs-either 0 (eqb g 0) _ _ (outs-into n to e) (outs-last n e O.select to (guard_at g) (placed n 0 e) to)
 
-outs-guarded : (g n : ℕ) (e : Expr) → outsOf (guarded g n e) ≤ 0
+outs-guarded : (g n : ℕ) (e : Expr) → outs_of (guarded g n e) ≤ 0
 unfolding guarded
-outs-guarded g n e = outs-either 0 (eqb g 0) _ _ (outs-into n (guardAt 1) e) (outs-last n e (O.binary Binary.and) (guardAt (suc g)) (guardAt g) (placed n 0 e) 0)
+outs-guarded g n e = outs-either 0 (eqb g 0) _ _ (outs-into n (guard_at 1) e) (outs-last n e (O.binary Binary.and) (guard_at (suc g)) (guard_at g) (placed n 0 e) 0)
 
-outs-sent : (g n : ℕ) (e : Expr) → outsOf (parts n 0 e ++ sent g (placed n 0 e) ∷ []) ≤ 1
+outs-sent : (g n : ℕ) (e : Expr) → outs_of (parts n 0 e ++ sent g (placed n 0 e) ∷ []) ≤ 1
 unfolding sent
 outs-sent g n e = go (eqb g 0)
   where
     p : ℕ
     p = placed n 0 e
 
-    go : (b : Bool) → outsOf (parts n 0 e ++ cond b (instruction O.output 0 p 0 0) (instruction O.guardedOutput 0 (guardAt g) p 0) ∷ []) ≤ 1
+    go : (b : Bool) → outs_of (parts n 0 e ++ cond b (instruction O.output 0 p 0 0) (instruction O.guarded_output 0 (guard_at g) p 0) ∷ []) ≤ 1
     go true = outs-last n e O.output 0 p 0 0
-    go false = outs-last n e O.guardedOutput 0 (guardAt g) p 0
+    go false = outs-last n e O.guarded_output 0 (guard_at g) p 0
 
-outs-turned : (g : ℕ) → outsOf (turned g) ≤ 0
+outs-turned : (g : ℕ) → outs_of (turned g) ≤ 0
 unfolding turned
 outs-turned g =
-    let m = guardAt (suc g) in
+    let m = guard_at (suc g) in
     let more = cond (eqb g 0) [] (joined g m ∷ []) in
-    let y : outsOf more ≤ 0 = outs-either 0 (eqb g 0) [] (joined g m ∷ []) outs-nothing (omega (arith, outs-one (O.binary Binary.and) m (guardAt g) m 0)) in
+    let y : outs_of more ≤ 0 = outs-either 0 (eqb g 0) [] (joined g m ∷ []) outs-nothing (omega (arith, outs-one (O.binary Binary.and) m (guard_at g) m 0)) in
     omega (arith, outs-one (O.unary Unary.not) m m 0 0, outs-append (instruction (O.unary Unary.not) m m 0 0 ∷ []) more)
 
 -- ---- statements
 
-pub count-lowered : (vals : List Float) (r n g : ℕ) (t : Statements) → Playable vals n g t → g ≤ mostIfs → count_of (lowered r n g t) ≤ numbersOf t
-unfolding lowered numbersOf count_of Playable
+pub count-lowered : (vals : List Float) (r n g : ℕ) (t : Statements) → Playable vals n g t → g ≤ most_ifs → count_of (lowered r n g t) ≤ numbers_of t
+unfolding lowered numbers_of count_of Playable
 count-lowered vals r n g done w i = omega arith
 count-lowered vals r n g (assign c e t) w i =
     let k = suc (after n e) in
-    let x = cond (eqb (rateOf c) r) (stored g n (place_of c) e) [] in
+    let x = cond (eqb (rate_of c) r) (stored g n (place_of c) e) [] in
     omega (
       arith,
       count-append x (lowered r k g t),
-      count-either (numbersIn e) (eqb (rateOf c) r) (stored g n (place_of c) e) [] (count-stored n e w.0 g (place_of c) i (omega arith)) (omega arith),
+      count-either (numbers_in e) (eqb (rate_of c) r) (stored g n (place_of c) e) [] (count-stored n e w.0 g (place_of c) i (omega arith)) (omega arith),
       count-lowered vals r k g t w.1 i,
     )
 count-lowered vals r n g (output e t) w i =
@@ -295,7 +295,7 @@ count-lowered vals r n g (output e t) w i =
     omega (
       arith,
       count-append (cond (eqb r 2) y []) (lowered r k g t),
-      count-either (numbersIn e) (eqb r 2) y [] (count-sent n e w.0 g i) (omega arith),
+      count-either (numbers_in e) (eqb r 2) y [] (count-sent n e w.0 g i) (omega arith),
       count-lowered vals r k g t w.1 i,
     )
 count-lowered vals r n g (branch e a b t) w i =
@@ -318,16 +318,16 @@ count-lowered vals r n g (branch e a b t) w i =
       count-lowered vals r l g t w.1.1.1.1 i,
     )
 
-pub outs-lowered : (r n g : ℕ) (t : Statements) → outsOf (lowered r n g t) ≤ outputsOf t
-unfolding lowered outputsOf outsOf
+pub outs-lowered : (r n g : ℕ) (t : Statements) → outs_of (lowered r n g t) ≤ outputs_of t
+unfolding lowered outputs_of outs_of
 outs-lowered r n g done = omega arith
 outs-lowered r n g (assign c e t) =
     let k = suc (after n e) in
-    let x = cond (eqb (rateOf c) r) (stored g n (place_of c) e) [] in
+    let x = cond (eqb (rate_of c) r) (stored g n (place_of c) e) [] in
     omega (
       arith,
       outs-append x (lowered r k g t),
-      outs-either 0 (eqb (rateOf c) r) (stored g n (place_of c) e) [] (outs-stored g n (place_of c) e) (omega arith),
+      outs-either 0 (eqb (rate_of c) r) (stored g n (place_of c) e) [] (outs-stored g n (place_of c) e) (omega arith),
       outs-lowered r k g t,
     )
 outs-lowered r n g (output e t) =

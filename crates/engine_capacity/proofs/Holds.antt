@@ -9,48 +9,48 @@ use lib.Ieee.{Float}
 use borrow.Author.Tests.{leb-true}
 use Rattle.base_laws.proofs.Choice.{both_true}
 use Rattle.orchestra_tokens.specs.declared.Token.{Token}
-use Rattle.orchestra_tokens.specs.Measures.{mostTokens}
+use Rattle.orchestra_tokens.specs.Measures.{most_tokens}
 use Rattle.orchestra_syntax.specs.Tree.{Expr, number, name, unary, binary, choose, Statements, done, assign, output, branch, Instrument}
-use Rattle.orchestra_syntax.specs.Names.{Named, mostInstruments, names_of}
+use Rattle.orchestra_syntax.specs.Names.{Named, most_instruments, names_of}
 use Rattle.orchestra_syntax.specs.Grammar.{Orchestra, last, next}
 use Rattle.orchestra_syntax.specs.inside.Program.{instrument, program}
 use Rattle.orchestra_syntax.specs.inside.Placed.{put_in, put, placed}
 use Rattle.orchestra_reader.specs.Verdict.{Accepted}
 use Rattle.code_translation.specs.Translation.{lowered}
-use Rattle.code_bounds.specs.Sizes.{numbers, body_at, AllPlayable, allLowered}
+use Rattle.code_bounds.specs.Sizes.{numbers, body_at, AllPlayable, all_lowered}
 use Rattle.code_bounds.proofs.WholeOrchestra.{orchestra-playable}
 use Rattle.code_bounds.proofs.Lengths.{lowered-fits}
 use Rattle.code_decoder.specs.Decoded.{count_of}
-use Rattle.engine_rows.specs.Instruction.{outsOf}
-use Rattle.engine_capacity.specs.Capacity.{numbersIn, numbersOf, outputsOf, allNumbers, allOutputs, Held, EngineHolds}
+use Rattle.engine_rows.specs.Instruction.{outs_of}
+use Rattle.engine_capacity.specs.Capacity.{numbers_in, numbers_of, outputs_of, all_numbers, all_outputs, Held, EngineHolds}
 use Rattle.engine_capacity.proofs.Tokens.{numbers-by-tokens, outputs-by-tokens}
 use Rattle.engine_capacity.proofs.Counts.{count-append, outs-append, count-lowered, outs-lowered}
 
 module _ (ms : List Named) where
-  numbers-in : (e : Expr) → numbersIn (put_in ms e) ≡ numbersIn e
-  unfolding numbersIn put_in
+  numbers-in : (e : Expr) → numbers_in (put_in ms e) ≡ numbers_in e
+  unfolding numbers_in put_in
   numbers-in (number x) = refl
   numbers-in (name c) = refl
   numbers-in (unary o e) = numbers-in e
   numbers-in (binary o a b) = omega (arith, numbers-in a, numbers-in b)
   numbers-in (choose c a b) = omega (arith, numbers-in c, numbers-in a, numbers-in b)
 
-  numbers-put : (t : Statements) → numbersOf (put ms t) ≡ numbersOf t
-  unfolding numbersOf put
+  numbers-put : (t : Statements) → numbers_of (put ms t) ≡ numbers_of t
+  unfolding numbers_of put
   numbers-put done = refl
   numbers-put (assign c e t) = omega (arith, numbers-in e, numbers-put t)
   numbers-put (output e t) = omega (arith, numbers-in e, numbers-put t)
   numbers-put (branch e a b t) = omega (arith, numbers-in e, numbers-put a, numbers-put b, numbers-put t)
 
-  outputs-put : (t : Statements) → outputsOf (put ms t) ≡ outputsOf t
-  unfolding outputsOf put
+  outputs-put : (t : Statements) → outputs_of (put ms t) ≡ outputs_of t
+  unfolding outputs_of put
   outputs-put done = refl
   outputs-put (assign c e t) = outputs-put t
   outputs-put (output e t) = omega (arith, outputs-put t)
   outputs-put (branch e a b t) = omega (arith, outputs-put a, outputs-put b, outputs-put t)
 
-all-counted : (vals : List Float) (r n : ℕ) (is : List Instrument) → AllPlayable vals n (map placed is) → count_of (allLowered r n (map placed is)) ≤ allNumbers is
-unfolding allLowered allNumbers count_of AllPlayable
+all-counted : (vals : List Float) (r n : ℕ) (is : List Instrument) → AllPlayable vals n (map placed is) → count_of (all_lowered r n (map placed is)) ≤ all_numbers is
+unfolding all_lowered all_numbers count_of AllPlayable
 all-counted vals r n [] h = omega arith
 all-counted vals r n (i ∷ is) h =
     let p = placed i in
@@ -58,14 +58,14 @@ all-counted vals r n (i ∷ is) h =
     let k = n + length (instrument p) in
     omega (
       arith,
-      count-append (lowered r m 0 p.body) (allLowered r k (map placed is)),
+      count-append (lowered r m 0 p.body) (all_lowered r k (map placed is)),
       count-lowered vals r m 0 p.body h.0 (omega arith),
       numbers-put (names_of i) i.body,
       all-counted vals r k is h.1,
     )
 
-all-put-out : (r n : ℕ) (is : List Instrument) → outsOf (allLowered r n (map placed is)) ≤ allOutputs is
-unfolding allLowered allOutputs outsOf
+all-put-out : (r n : ℕ) (is : List Instrument) → outs_of (all_lowered r n (map placed is)) ≤ all_outputs is
+unfolding all_lowered all_outputs outs_of
 all-put-out r n [] = omega arith
 all-put-out r n (i ∷ is) =
     let p = placed i in
@@ -73,7 +73,7 @@ all-put-out r n (i ∷ is) =
     let k = n + length (instrument p) in
     omega (
       arith,
-      outs-append (lowered r m 0 p.body) (allLowered r k (map placed is)),
+      outs-append (lowered r m 0 p.body) (all_lowered r k (map placed is)),
       outs-lowered r m 0 p.body,
       outputs-put (names_of i) i.body,
       all-put-out r k is,
@@ -88,8 +88,8 @@ engine-holds bs is a =
     let ts = a.tokens in
     let o = a.derived in
     let m = a.sized.within in
-    let l = leb-true (length ts) mostTokens (both_true (leb (length ts) mostTokens) _ m).0 in
-    let f = leb-true (length is) mostInstruments (both_true (leb (length is) mostInstruments) _ a.named).0 in
+    let l = leb-true (length ts) most_tokens (both_true (leb (length ts) most_tokens) _ m).0 in
+    let f = leb-true (length is) most_instruments (both_true (leb (length is) most_instruments) _ a.named).0 in
     record {
       groups = f;
       words = lowered-fits is ts 2 o m;

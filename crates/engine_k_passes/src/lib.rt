@@ -1,9 +1,9 @@
 // The k passes of a cycle's notes.
 ghost use Rattle.std.specs.Prelude.{◌≡◌, false, ◌≤◌, take, drop};
 ghost use Rattle.player_model.specs.Lists.{each};
-ghost use Rattle.code_program.specs.InstrumentTable.{instrumentsOf};
-ghost use Rattle.engine_rows.specs.Rows.{laneCount};
-ghost use Rattle.engine_k_passes.specs.Still.{kNoteIn, Still, AllStill};
+ghost use Rattle.code_program.specs.InstrumentTable.{instruments_of};
+ghost use Rattle.engine_rows.specs.Rows.{lane_count};
+ghost use Rattle.engine_k_passes.specs.Still.{k_note_in, Still, AllStill};
 
 use code_program::{Instrument, Instruments};
 use engine_rows::LANES;
@@ -17,8 +17,8 @@ fn run_serially<'a>(
     notes: [Note; LANES],
     m: usize,
 ) -> [Note; LANES]
-    requires { m ≤ laneCount }
-    ensures notes { take m result ≡ each (kNoteIn (instrumentsOf instruments) code.now vals.now) (take m notes) }
+    requires { m ≤ lane_count }
+    ensures notes { take m result ≡ each (k_note_in (instruments_of instruments) code.now vals.now) (take m notes) }
     ensures behind { drop m result ≡ drop m notes }
 {
     let mut room = code_interpreter::working_area(vals);
@@ -47,8 +47,8 @@ fn has_k_code(i: Instrument, x: Note) -> bool
 
 // Whether the instrument of one of the first m notes has k code.
 fn have_k_code(instruments: Instruments, notes: [Note; LANES], m: usize) -> bool
-    requires { m ≤ laneCount }
-    ensures { result ≡ false → AllStill (instrumentsOf instruments) (take m notes) }
+    requires { m ≤ lane_count }
+    ensures { result ≡ false → AllStill (instruments_of instruments) (take m notes) }
 {
     let mut j: usize = 0;
     while j < m {
@@ -71,8 +71,8 @@ pub fn run_k_passes<'a>(
     notes: [Note; LANES],
     m: usize,
 ) -> [Note; LANES]
-    requires { m ≤ laneCount }
-    ensures notes { take m result ≡ each (kNoteIn (instrumentsOf instruments) code.now vals.now) (take m notes) }
+    requires { m ≤ lane_count }
+    ensures notes { take m result ≡ each (k_note_in (instruments_of instruments) code.now vals.now) (take m notes) }
     ensures behind { drop m result ≡ drop m notes }
 {
     if have_k_code(instruments, notes, m) {

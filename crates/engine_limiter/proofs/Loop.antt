@@ -8,7 +8,7 @@ use lib.IntN.{ℤ}
 use lib.ListN.{length, get_or, take, drop, set, length-set, drop_of_length-le, take-append-drop}
 use lib.Seq.{drop-cons, take-suc-set, drop-set-lt, take_all}
 use lib.Ieee.{Float, nan}
-use Rattle.base_float32.specs.Limit.{sampleOf}
+use Rattle.base_float32.specs.Limit.{sample_of}
 use Rattle.engine_limiter.specs.Block.{limited}
 
 no_room : (ceiling : ℕ) (mix : List Float) → limited ceiling mix [] ≡ []
@@ -22,7 +22,7 @@ module _ (ceiling : ℕ) (mix : List Float) (whole : List ℤ) (n : ℕ) where
     pub is : take i block ++ limited ceiling (drop i mix) (drop i block) ≡ whole
 
   module _ (block : List ℤ) (i : ℕ) (g : Limiting block i) where
-    pub again : (v : ℤ) → i < length block → i < length mix → v ≡ sampleOf (get_or mix i nan) ceiling → Limiting (set block i v) (i + 1)
+    pub again : (v : ℤ) → i < length block → i < length mix → v ≡ sample_of (get_or mix i nan) ceiling → Limiting (set block i v) (i + 1)
     unfolding limited
     again v h k e =
         let b = drop-cons block i v h in

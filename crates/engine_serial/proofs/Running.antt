@@ -8,46 +8,46 @@ use lib.Ieee.{Float}
 use lib.ListN.{length, take, drop, get_or, set, length-set}
 use lib.Seq.{take-suc, take-suc-set, drop-set-lt}
 use Rattle.player_model.specs.Lists.{each, over}
-use Rattle.player_model.specs.Cycle.{Rendered, withState, run_from}
+use Rattle.player_model.specs.Cycle.{Rendered, with_state, run_from}
 use Rattle.player_model.specs.Cycle as cycle
 use Rattle.code_interpreter.specs.Passes.{sums, played}
 use Rattle.note_state.specs.declared.Note.{Note}
-use Rattle.code_program.specs.InstrumentTable.{instrumentIn, lookupIn}
+use Rattle.code_program.specs.InstrumentTable.{instrument_in, lookup_in}
 use Rattle.code_program.specs.declared.Instrument.{Instrument}
 use Rattle.code_program.specs.declared.Lookup.{Lookup}
-use Rattle.voices_compiled.specs.Voices.{VoiceState, voices, ranValues, ranMixOf}
-use Rattle.note_lifecycle.specs.OneNote.{note_of, struct_of, kNote, ranNote, ranMix}
-use Rattle.note_pool.specs.Notes.{notesIn}
+use Rattle.voices_compiled.specs.Voices.{VoiceState, voices, ran_values, ran_mix_of}
+use Rattle.note_lifecycle.specs.OneNote.{note_of, struct_of, k_note, ran_note, ran_mix}
+use Rattle.note_pool.specs.Notes.{notes_in}
 use Rattle.note_pool.proofs.Steps.{each_append, each-one, length-each, drop_more, notes-laid}
 
 -- the first notes of an array, with the mix that they add to
-abbrev renderedIn : List Note → ℕ → List Float → Rendered VoiceState
-renderedIn ns n mix = record { notes = notesIn ns n; mix = mix }
+abbrev rendered_in : List Note → ℕ → List Float → Rendered VoiceState
+rendered_in ns n mix = record { notes = notes_in ns n; mix = mix }
 
-one_more : (l : List Note) (j : ℕ) (d : Note) → j < length l → notesIn l (j + 1) ≡ notesIn l j ++ (note_of (get_or l j d) ∷ [])
+one_more : (l : List Note) (j : ℕ) (d : Note) → j < length l → notes_in l (j + 1) ≡ notes_in l j ++ (note_of (get_or l j d) ∷ [])
 one_more l j d h =
-    rw (add-one, take-suc l j d h) (each_append note_of (take j l) (get_or l j d ∷ []) ∙ ap (λ (t : List (cycle.Note VoiceState)). notesIn l j ++ t) (each-one note_of (get_or l j d)))
+    rw (add-one, take-suc l j d h) (each_append note_of (take j l) (get_or l j d ∷ []) ∙ ap (λ (t : List (cycle.Note VoiceState)). notes_in l j ++ t) (each-one note_of (get_or l j d)))
 
-one_set : (a : List Note) (j : ℕ) (y : Note) → j < length a → notesIn (set a j y) (j + 1) ≡ notesIn a j ++ (note_of y ∷ [])
+one_set : (a : List Note) (j : ℕ) (y : Note) → j < length a → notes_in (set a j y) (j + 1) ≡ notes_in a j ++ (note_of y ∷ [])
 one_set a j y h =
-    rw (add-one, take-suc-set a j y h) (each_append note_of (take j a) (y ∷ []) ∙ ap (λ (t : List (cycle.Note VoiceState)). notesIn a j ++ t) (each-one note_of y))
+    rw (add-one, take-suc-set a j y h) (each_append note_of (take j a) (y ∷ []) ∙ ap (λ (t : List (cycle.Note VoiceState)). notes_in a j ++ t) (each-one note_of y))
 
 module _ (table : List Instrument) (code : List ℕ) (vals : List Float) where
   -- one note's run after others
-  ranOn : Rendered VoiceState → cycle.Note VoiceState → Rendered VoiceState
-  ranOn b n =
+  ran_on : Rendered VoiceState → cycle.Note VoiceState → Rendered VoiceState
+  ran_on b n =
       record {
-        notes = b.notes ++ (withState n ((voices table code vals).run n.state b.mix).state ∷ []);
+        notes = b.notes ++ (with_state n ((voices table code vals).run n.state b.mix).state ∷ []);
         mix = ((voices table code vals).run n.state b.mix).mix;
       }
 
   run_more : (ns : List (cycle.Note VoiceState)) (n : cycle.Note VoiceState) (mix : List Float)
-      → run_from (voices table code vals) (ns ++ (n ∷ [])) mix ≡ ranOn (run_from (voices table code vals) ns mix) n
-  unfolding run_from ranOn
+      → run_from (voices table code vals) (ns ++ (n ∷ [])) mix ≡ ran_on (run_from (voices table code vals) ns mix) n
+  unfolding run_from ran_on
   run_more [] n mix = refl
   run_more (m ∷ ns) n mix =
       let v = voices table code vals in
-      ap (λ (b : Rendered VoiceState). record { notes = withState m (v.run m.state mix).state ∷ b.notes; mix = b.mix })
+      ap (λ (b : Rendered VoiceState). record { notes = with_state m (v.run m.state mix).state ∷ b.notes; mix = b.mix })
       (run_more ns n (v.run m.state mix).mix)
 
   length_run : (ns : List (cycle.Note VoiceState)) (mix : List Float) → length (run_from (voices table code vals) ns mix).notes ≡ length ns
@@ -56,17 +56,17 @@ module _ (table : List Instrument) (code : List ℕ) (vals : List Float) where
   length_run (n ∷ ns) mix = ap suc (length_run ns ((voices table code vals).run n.state mix).mix)
 
   pub run-notes-are : (ns : List Note) (k : ℕ) (mix : List Float) (r : List Note)
-      → r ≡ over (each struct_of (run_from (voices table code vals) (notesIn ns k) mix).notes) ns
-      → notesIn r k ≡ (run_from (voices table code vals) (notesIn ns k) mix).notes
+      → r ≡ over (each struct_of (run_from (voices table code vals) (notes_in ns k) mix).notes) ns
+      → notes_in r k ≡ (run_from (voices table code vals) (notes_in ns k) mix).notes
   run-notes-are ns k mix r e =
-      ap (λ (l : List Note). notesIn l k) e
-      ∙ notes-laid (run_from (voices table code vals) (notesIn ns k) mix).notes ns k (length_run (notesIn ns k) mix ∙ length-each note_of (take k ns))
+      ap (λ (l : List Note). notes_in l k) e
+      ∙ notes-laid (run_from (voices table code vals) (notes_in ns k) mix).notes ns k (length_run (notes_in ns k) mix ∙ length-each note_of (take k ns))
 
   -- what a note's run gives
   ran-same : (n : Note) (mix : List Float)
-      → (note_of (ranNote code vals (instrumentIn table n.instrument) n mix) ≡ withState (note_of n) ((voices table code vals).run (note_of n).state mix).state)
-      × (ranMix code vals (instrumentIn table n.instrument) n mix ≡ ((voices table code vals).run (note_of n).state mix).mix)
-  unfolding ranNote ranMix kNote voices ranValues ranMixOf
+      → (note_of (ran_note code vals (instrument_in table n.instrument) n mix) ≡ with_state (note_of n) ((voices table code vals).run (note_of n).state mix).state)
+      × (ran_mix code vals (instrument_in table n.instrument) n mix ≡ ((voices table code vals).run (note_of n).state mix).mix)
+  unfolding ran_note ran_mix k_note voices ran_values ran_mix_of
   ran-same n mix = (refl, refl)
 
   length-sums : (ws : List ℕ) (f mix : List Float) → length (sums vals ws f mix).mix ≡ length mix
@@ -74,15 +74,15 @@ module _ (table : List Instrument) (code : List ℕ) (vals : List Float) where
   length-sums ws f [] = refl
   length-sums ws f (x ∷ xs) = ap suc (length-sums ws _ xs)
 
-  length-ran : (x : Instrument) (n : Note) (mix : List Float) → length (ranMix code vals x n mix) ≡ length mix
-  unfolding ranMix kNote played
+  length-ran : (x : Instrument) (n : Note) (mix : List Float) → length (ran_mix code vals x n mix) ≡ length mix
+  unfolding ran_mix k_note played
   length-ran x n mix = length-sums _ _ mix
 
   -- the first j notes have run
   pub record Running (notes a : List Note) (start mix : List Float) (j : ℕ) : Type 0 where
     pub long : length a ≡ 16
     pub samples : length mix ≡ length start
-    pub are : renderedIn a j mix ≡ run_from (voices table code vals) (notesIn notes j) start
+    pub are : rendered_in a j mix ≡ run_from (voices table code vals) (notes_in notes j) start
     pub behind : drop j a ≡ drop j notes
 
   pub running_none : (notes : List Note) (mix : List Float) → length notes ≡ 16 → Running notes notes mix mix 0
@@ -90,26 +90,26 @@ module _ (table : List Instrument) (code : List ℕ) (vals : List Float) where
   running_none notes mix h = record { long = h; samples = refl; are = refl; behind = refl }
 
   pub running-step : (notes a : List Note) (start mix : List Float) (j : ℕ) (d : Note) → length notes ≡ 16 → j < 16
-      → (f : Lookup) → f ≡ lookupIn (get_or notes j d).instrument table
-      → (y : Note) → y ≡ ranNote code vals f.instrument (get_or notes j d) mix
-      → (mix' : List Float) → mix' ≡ ranMix code vals f.instrument (get_or notes j d) mix
+      → (f : Lookup) → f ≡ lookup_in (get_or notes j d).instrument table
+      → (y : Note) → y ≡ ran_note code vals f.instrument (get_or notes j d) mix
+      → (mix' : List Float) → mix' ≡ ran_mix code vals f.instrument (get_or notes j d) mix
       → Running notes a start mix j → Running notes (set a j y) start mix' (j + 1)
-  unfolding ranOn
+  unfolding ran_on
   running-step notes a start mix j d ln h f ef y ey mix' em r =
       let n = get_or notes j d in
       let v = voices table code vals in
-      let y-is : note_of y ≡ withState (note_of n) (v.run (note_of n).state mix).state =
-      ap note_of (ey ∙ ap (λ (g : Lookup). ranNote code vals g.instrument n mix) ef) ∙ (ran-same n mix).0 in
+      let y-is : note_of y ≡ with_state (note_of n) (v.run (note_of n).state mix).state =
+      ap note_of (ey ∙ ap (λ (g : Lookup). ran_note code vals g.instrument n mix) ef) ∙ (ran-same n mix).0 in
       let m-is : mix' ≡ (v.run (note_of n).state mix).mix =
-      em ∙ ap (λ (g : Lookup). ranMix code vals g.instrument n mix) ef ∙ (ran-same n mix).1 in
+      em ∙ ap (λ (g : Lookup). ran_mix code vals g.instrument n mix) ef ∙ (ran-same n mix).1 in
       record {
         long = length-set a j y ∙ r.long;
         samples = ap length em ∙ length-ran f.instrument n mix ∙ r.samples;
         are =
             ap (λ (l : List (cycle.Note VoiceState)). record { notes = l; mix = mix' }) (one_set a j y (omega (arith, r.long)))
-            ∙ (λ i. record { notes = notesIn a j ++ (y-is i ∷ []); mix = m-is i })
-            ∙ ap (λ (b : Rendered VoiceState). ranOn b (note_of n)) r.are
-            ∙ sym (run_more (notesIn notes j) (note_of n) start)
+            ∙ (λ i. record { notes = notes_in a j ++ (y-is i ∷ []); mix = m-is i })
+            ∙ ap (λ (b : Rendered VoiceState). ran_on b (note_of n)) r.are
+            ∙ sym (run_more (notes_in notes j) (note_of n) start)
             ∙ ap (λ (l : List (cycle.Note VoiceState)). run_from v l start) (sym (one_more notes j d (omega arith)));
         behind = drop-set-lt (j + 1) a j y (omega arith) ∙ drop_more a notes j (j + 1) (omega arith) r.behind;
       }

@@ -2,9 +2,9 @@
 ghost use Rattle.std.specs.Prelude.{◌≡◌};
 ghost use Rattle.player_model.specs.Lists.{each, over};
 ghost use Rattle.player_model.specs.Cycle.{run_from};
-ghost use Rattle.code_program.specs.InstrumentTable.{instrumentsOf};
+ghost use Rattle.code_program.specs.InstrumentTable.{instruments_of};
 ghost use Rattle.voices_compiled.specs.Voices.{voices};
-ghost use Rattle.note_pool.specs.Notes.{notesIn};
+ghost use Rattle.note_pool.specs.Notes.{notes_in};
 ghost use Rattle.note_lifecycle.specs.OneNote.{struct_of};
 
 use code_program::Instruments;
@@ -20,8 +20,8 @@ pub fn run_notes<'a>(
     count: usize,
     mix: &mut [f32],
 ) -> [Note; MOST_NOTES]
-    ensures notes { result ≡ over (each struct_of (run_from (voices (instrumentsOf instruments) code.now vals.now) (notesIn notes count) mix.old).notes) notes }
-    ensures mix { mix.new ≡ (run_from (voices (instrumentsOf instruments) code.now vals.now) (notesIn notes count) mix.old).mix }
+    ensures notes { result ≡ over (each struct_of (run_from (voices (instruments_of instruments) code.now vals.now) (notes_in notes count) mix.old).notes) notes }
+    ensures mix { mix.new ≡ (run_from (voices (instruments_of instruments) code.now vals.now) (notes_in notes count) mix.old).mix }
 {
     let m = base_numbers::at_most(count, MOST_NOTES);
     let mut room = code_interpreter::working_area(vals);

@@ -1,10 +1,10 @@
 // What was read at an entrance goes into the waiting lines, all its lines or none (document 01, "Order at an entrance"): whichever entrance it was, a whole reading goes through
 // `submit`, a line of it through `admit_line`, and there is no other way to the waiting lines.
 ghost use Rattle.std.specs.Prelude.{◌≡◌, not, ◌&&◌, take};
-ghost use Rattle.player_model.specs.Calls.{hasTime};
-ghost use Rattle.code_program.specs.InstrumentTable.{instrumentsOf};
-ghost use Rattle.entrance_readers.specs.Entrances.{scoreIn};
-ghost use Rattle.entrance_admission.specs.Submission.{lineAdmitted, admittedAll, submittedIn};
+ghost use Rattle.player_model.specs.Calls.{has_time};
+ghost use Rattle.code_program.specs.InstrumentTable.{instruments_of};
+ghost use Rattle.entrance_readers.specs.Entrances.{score_in};
+ghost use Rattle.entrance_admission.specs.Submission.{line_admitted, admitted_all, submitted_in};
 
 use base_answer::Answer;
 use code_program::Instruments;
@@ -21,7 +21,7 @@ pub struct AdmissionResult {
 }
 
 fn lacks_time(l: Line, timed: bool) -> bool
-    ensures { result ≡ (timed && not (hasTime l.when)) }
+    ensures { result ≡ (timed && not (has_time l.when)) }
 {
     if timed {
         !player_queue::is_timed(l)
@@ -33,7 +33,7 @@ fn lacks_time(l: Line, timed: bool) -> bool
 // The one operation on a decoded line, whichever entrance read it: 6 where it needs a time and has none, then the one admission, with the fields of
 // the line's instrument.
 fn admit_line(instruments: Instruments, q: Queue, l: Line, timed: bool) -> Admitted
-    ensures { result ≡ lineAdmitted timed (instrumentsOf instruments) q l }
+    ensures { result ≡ line_admitted timed (instruments_of instruments) q l }
 {
     if lacks_time(l, timed) {
         return Admitted {
@@ -46,7 +46,7 @@ fn admit_line(instruments: Instruments, q: Queue, l: Line, timed: bool) -> Admit
 
 // The lines into a copy of the waiting ones, so that earlier lines count as waiting.
 fn admit_lines(instruments: Instruments, old: Queue, h: EntranceRead) -> AdmissionResult
-    ensures { result ≡ admittedAll h.timed (instrumentsOf instruments) old old 0 (take h.count h.lines) }
+    ensures { result ≡ admitted_all h.timed (instruments_of instruments) old old 0 (take h.count h.lines) }
 {
     let lines = h.lines;
     let timed = h.timed;
@@ -76,7 +76,7 @@ fn admit_lines(instruments: Instruments, old: Queue, h: EntranceRead) -> Admissi
 
 // What was handed in, into the waiting lines: 9 after the end, then the fault of its reading, then all its lines or none.
 pub fn submit(instruments: Instruments, ended: bool, q: Queue, h: EntranceRead) -> AdmissionResult
-    ensures { result ≡ submittedIn ended h.timed (instrumentsOf instruments) q (scoreIn h) }
+    ensures { result ≡ submitted_in ended h.timed (instruments_of instruments) q (score_in h) }
 {
     if ended {
         return AdmissionResult {

@@ -1,14 +1,14 @@
 // A burst into the waiting lines: its units one after the other, each as a unit comes in that comes alone (document 02, M-103).
 ghost use Rattle.std.specs.Prelude.{◌≡◌, true, ◌≤◌, length};
 ghost use Rattle.base_answer.specs.Numbers.{is_taken};
-ghost use Rattle.score_bursts.specs.inside.Reading.{burstOf, scanOf};
-ghost use Rattle.score_bursts.specs.Bursts.{unitsIn};
+ghost use Rattle.score_bursts.specs.inside.Reading.{burst_of, scan_of};
+ghost use Rattle.score_bursts.specs.Bursts.{units_in};
 ghost use Rattle.player_model.specs.Lists.{over};
-ghost use Rattle.player_model.specs.Calls.{mustBeTimed, reads};
+ghost use Rattle.player_model.specs.Calls.{must_be_timed, reads};
 ghost use Rattle.player_model.specs.Calls as entrance;
-ghost use Rattle.entrance_admission.specs.Submission.{submittedIn};
-ghost use Rattle.code_program.specs.InstrumentTable.{instrumentsOf};
-ghost use Rattle.entrance_burst.specs.Singly.{singlyIn, burstSubmittedIn, areaIn};
+ghost use Rattle.entrance_admission.specs.Submission.{submitted_in};
+ghost use Rattle.code_program.specs.InstrumentTable.{instruments_of};
+ghost use Rattle.entrance_burst.specs.Singly.{singly_in, burst_submitted_in, area_in};
 
 use base_answer::Answer;
 use code_program::Instruments;
@@ -25,7 +25,7 @@ pub struct BurstAdmission {
 
 // A unit of a burst: it comes in as a unit does that comes alone.
 fn submit_unit(instruments: Instruments, ended: bool, q: Queue, s: &[u8]) -> AdmissionResult
-    ensures { result ≡ submittedIn ended (mustBeTimed entrance.unit) (instrumentsOf instruments) q (reads entrance.unit s.now) }
+    ensures { result ≡ submitted_in ended (must_be_timed entrance.unit) (instruments_of instruments) q (reads entrance.unit s.now) }
 {
     entrance_admission::submit(instruments, ended, q, entrance_readers::unit(s))
 }
@@ -39,11 +39,11 @@ fn submit_units(
     m: usize,
     answers: &mut [u8],
 ) -> Queue
-    requires s_value { is_taken (scanOf (burstOf s.now)).answer ≡ true }
-    requires m_value { m ≡ length (unitsIn (burstOf s.now)) }
+    requires s_value { is_taken (scan_of (burst_of s.now)).answer ≡ true }
+    requires m_value { m ≡ length (units_in (burst_of s.now)) }
     requires m_in_bounds { m ≤ length answers.old }
-    ensures queue { result ≡ (singlyIn ended (instrumentsOf instruments) old (unitsIn (burstOf s.now))).queue }
-    ensures area { answers.new ≡ over (singlyIn ended (instrumentsOf instruments) old (unitsIn (burstOf s.now))).numbers answers.old }
+    ensures queue { result ≡ (singly_in ended (instruments_of instruments) old (units_in (burst_of s.now))).queue }
+    ensures area { answers.new ≡ over (singly_in ended (instruments_of instruments) old (units_in (burst_of s.now))).numbers answers.old }
 {
     let mut q = old;
     let mut at: usize = 0;
@@ -69,8 +69,8 @@ pub fn submit_burst(
     s: &[u8],
     answers: &mut [u8],
 ) -> BurstAdmission
-    ensures sent { result ≡ burstSubmittedIn ended (instrumentsOf instruments) q (length answers.old) (burstOf s.now) }
-    ensures area { answers.new ≡ areaIn ended (instrumentsOf instruments) q answers.old (burstOf s.now) }
+    ensures sent { result ≡ burst_submitted_in ended (instruments_of instruments) q (length answers.old) (burst_of s.now) }
+    ensures area { answers.new ≡ area_in ended (instruments_of instruments) q answers.old (burst_of s.now) }
 {
     let cut = score_bursts::scan(s);
     let fault = cut.answer;

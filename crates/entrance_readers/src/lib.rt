@@ -3,11 +3,11 @@
 ghost use Rattle.std.specs.Prelude.{◌≡◌, true, false, length};
 ghost use Rattle.base_answer.specs.Numbers.{is_taken};
 ghost use Rattle.base_bitstream.specs.Bits.{bits_of};
-ghost use Rattle.score_reader.specs.Score.{scoreOf, refusedScore};
+ghost use Rattle.score_reader.specs.Score.{score_of, refused_score};
 ghost use Rattle.text_format.specs.inside.Reading.{text_of};
-ghost use Rattle.player_model.specs.Calls.{mustBeTimed, single, reads};
+ghost use Rattle.player_model.specs.Calls.{must_be_timed, single, reads};
 ghost use Rattle.player_model.specs.Calls as entrance;
-ghost use Rattle.entrance_readers.specs.Entrances.{entranceReadOf};
+ghost use Rattle.entrance_readers.specs.Entrances.{entrance_read_of};
 
 use base_answer::Answer;
 use score_line::{Line, LineRead};
@@ -28,8 +28,8 @@ pub struct EntranceRead {
 
 // The lines of a score that is known to be whole.
 fn score_lines(s: &[u8]) -> EntranceRead
-    requires { is_taken (scoreOf (bits_of s.now)).answer ≡ true }
-    ensures { result ≡ entranceReadOf true (scoreOf (bits_of s.now)) }
+    requires { is_taken (score_of (bits_of s.now)).answer ≡ true }
+    ensures { result ≡ entrance_read_of true (score_of (bits_of s.now)) }
 {
     let none = score_line::blank_line();
     let mut lines = [none; MOST_LINES];
@@ -54,7 +54,7 @@ fn score_lines(s: &[u8]) -> EntranceRead
 
 // A score that is refused: its first fault, and no line.
 fn refused_score(read: ScoreRead) -> EntranceRead
-    ensures { result ≡ entranceReadOf true (refusedScore read.answer read.line) }
+    ensures { result ≡ entrance_read_of true (refused_score read.answer read.line) }
 {
     let answer = read.answer;
     let none = score_line::blank_line();
@@ -69,7 +69,7 @@ fn refused_score(read: ScoreRead) -> EntranceRead
 
 // A stick: a whole score, whose lines must be timed.
 pub fn stick(s: &[u8]) -> EntranceRead
-    ensures { result ≡ entranceReadOf (mustBeTimed entrance.stick) (reads entrance.stick s.now) }
+    ensures { result ≡ entrance_read_of (must_be_timed entrance.stick) (reads entrance.stick s.now) }
 {
     let read = score_reader::read_score(s);
     let answer = read.answer;
@@ -83,7 +83,7 @@ pub fn stick(s: &[u8]) -> EntranceRead
 fn text_lines(s: &[u8], count: usize) -> EntranceRead
     requires s_value { is_taken (text_of s.now).answer ≡ true }
     requires count_value { count ≡ length (text_of s.now).lines }
-    ensures { result ≡ entranceReadOf true (text_of s.now) }
+    ensures { result ≡ entrance_read_of true (text_of s.now) }
 {
     let none = score_line::blank_line();
     let mut lines = [none; MOST_LINES];
@@ -109,7 +109,7 @@ fn text_lines(s: &[u8], count: usize) -> EntranceRead
 
 // A text: a whole score, judged as a stick is once it is read.
 pub fn text(s: &[u8]) -> EntranceRead
-    ensures { result ≡ entranceReadOf (mustBeTimed entrance.text) (reads entrance.text s.now) }
+    ensures { result ≡ entrance_read_of (must_be_timed entrance.text) (reads entrance.text s.now) }
 {
     let read = text_reader::read_text(s);
     let told = read.answer;
@@ -124,7 +124,7 @@ pub fn text(s: &[u8]) -> EntranceRead
 
 // A line that was read on its own.
 fn single_line(read: LineRead) -> EntranceRead
-    ensures { result ≡ entranceReadOf false (single read) }
+    ensures { result ≡ entrance_read_of false (single read) }
 {
     let answer = read.answer;
     let only = read.line;
@@ -146,14 +146,14 @@ fn single_line(read: LineRead) -> EntranceRead
 
 // An access unit.
 pub fn unit(s: &[u8]) -> EntranceRead
-    ensures { result ≡ entranceReadOf (mustBeTimed entrance.unit) (reads entrance.unit s.now) }
+    ensures { result ≡ entrance_read_of (must_be_timed entrance.unit) (reads entrance.unit s.now) }
 {
     single_line(score_reader::read_unit(s))
 }
 
 // A keypad line.
 pub fn keypad(words: &[u32]) -> EntranceRead
-    ensures { result ≡ entranceReadOf (mustBeTimed entrance.keypad) (reads entrance.keypad words.now) }
+    ensures { result ≡ entrance_read_of (must_be_timed entrance.keypad) (reads entrance.keypad words.now) }
 {
     single_line(score_line_reader::keypad_line(words))
 }

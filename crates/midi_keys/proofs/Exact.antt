@@ -13,7 +13,7 @@ use lib.Ieee.Back.{round_whole}
 use lib.Ieee.Exact.{HasValue, round_exact}
 use lib.Ieee.Fits.{down_pos}
 use lib.Ieee.Scale.{round_same}
-use Rattle.midi_keys.specs.Keys.{table, shared, frequencyOf, normalizedVelocity}
+use Rattle.midi_keys.specs.Keys.{table, shared, frequency_of, normalized_velocity}
 use Rattle.midi_keys.proofs.Table.{entry-small}
 
 -- a whole number over a power of two is rounded once
@@ -37,15 +37,15 @@ shared-exact k t K h =
     (round_exact binary32 false t (2 ^ k) t (149 - k) (pow_pos k) h (lt_of_le_of_lt wide (lt_of_le_of_lt most (lit≤ tt)))
     (ap (λ (z : ℕ). t * 2 ^ z) (sym back) ∙ ap (λ (z : ℕ). t * z) (pow-add 2 (149 - k) k) ∙ sym (mul_assoc t (2 ^ (149 - k)) (2 ^ k))))
 
-pub exact : (n : ℕ) → n < 128 → HasValue (frequencyOf n) false (get_or table n 0) 1024
-unfolding frequencyOf table
+pub exact : (n : ℕ) → n < 128 → HasValue (frequency_of n) false (get_or table n 0) 1024
+unfolding frequency_of table
 exact n h = shared-exact 10 (get_or table n 0) (lit≤ tt) (entry-small n h)
 
-pub normalized-velocity-exact : (v : ℕ) → v < 128 → HasValue (normalizedVelocity v) false v 128
-unfolding normalizedVelocity
+pub normalized-velocity-exact : (v : ℕ) → v < 128 → HasValue (normalized_velocity v) false v 128
+unfolding normalized_velocity
 normalized-velocity-exact v h = shared-exact 7 v (lit≤ tt) (lt_of_lt_of_le h (lit≤ tt))
 
 -- past the table the frequency is +0
-pub past : (n : ℕ) → 128 ≤ n → fin false 0 (pos 0) ≡ frequencyOf n
-unfolding table frequencyOf shared of_int div round
+pub past : (n : ℕ) → 128 ≤ n → fin false 0 (pos 0) ≡ frequency_of n
+unfolding table frequency_of shared of_int div round
 past n h = rw (get_or-eq_default table 0 h)

@@ -33,10 +33,10 @@ unfolding of_int div
 shared k t = div binary32 (of_int binary32 (pos t)) (fin false 1 (pos k))
 
 -- field one: the key's frequency, its number divided by 1,024; past the table the number is 0
-unfoldable pub frequencyOf : ℕ → Float
+unfoldable pub frequency_of : ℕ → Float
 unfolding table
-frequencyOf n = shared 10 (get_or table n 0)
+frequency_of n = shared 10 (get_or table n 0)
 
 -- field two: the velocity divided by 128
-unfoldable pub normalizedVelocity : ℕ → Float
-normalizedVelocity v = shared 7 v
+unfoldable pub normalized_velocity : ℕ → Float
+normalized_velocity v = shared 7 v

@@ -2,7 +2,7 @@
 ghost use Rattle.std.specs.Prelude.{◌≡◌, T};
 ghost use Rattle.std.specs.Float.{binary32};
 ghost use Rattle.std.specs.Float.Ieee.{fits};
-ghost use Rattle.midi_keys.specs.Keys.{frequencyOf, normalizedVelocity};
+ghost use Rattle.midi_keys.specs.Keys.{frequency_of, normalized_velocity};
 
 // For key n the largest whole number not above 450,560 * 2^((n - 69) / 12), in 1/1,024 Hz.
 const TABLE: [u32; 128] = [
@@ -22,7 +22,7 @@ const TABLE: [u32; 128] = [
 
 // A key's frequency in Hz; a key above 127 has none, and gives 0.
 pub fn frequency(key: u8) -> f32
-    ensures is { result ≡ frequencyOf key }
+    ensures is { result ≡ frequency_of key }
     ensures fits { T (fits binary32 result) }
 {
     if key < 128 {
@@ -34,7 +34,7 @@ pub fn frequency(key: u8) -> f32
 
 // A velocity divided by 128.
 pub fn normalized_velocity(velocity: u8) -> f32
-    ensures is { result ≡ normalizedVelocity velocity }
+    ensures is { result ≡ normalized_velocity velocity }
     ensures fits { T (fits binary32 result) }
 {
     (velocity as f32) / 128.0

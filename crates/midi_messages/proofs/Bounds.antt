@@ -5,7 +5,7 @@ use Prim.Native.Nat.{ℕ, zero, suc, ◌<◌}
 use native.Mathlib.Nat.{mod-lt}
 use lib.Dec.{eqb, lit≤}
 use lib.ListN.{get_or}
-use Rattle.midi_messages.specs.Message.{kind, channelOf, noteOff, noteOn, classified}
+use Rattle.midi_messages.specs.Message.{kind, channel_of, note_off, note_on, classified}
 use Rattle.midi_messages.specs.Writing.{Call, whole, fault, before, AllData, Parses, nothing, written, running, system, stray, cut, running-cut}
 use Rattle.midi_messages.specs.Claims.{Valid, AllValid, ValidCall, EveryMessageValid}
 use Rattle.midi_messages.specs.declared.Classified.{Classified}
@@ -23,15 +23,15 @@ put-before (Note m) (fault a) p q = tt
 put-before Other c p q = q
 
 module _ (s k v : ℕ) (key : k < 128) (velocity : v < 128) where
-  off : Valid (noteOff (channelOf s) k)
+  off : Valid (note_off (channel_of s) k)
   off = record { channel = mod-lt s (lit≤ tt); key = key; velocity = lit≤ tt }
 
-  on : (b : Bool) → Valid (cond b (noteOff (channelOf s) k) (record { on = true; channel = channelOf s; key = k; velocity = v }))
+  on : (b : Bool) → Valid (cond b (note_off (channel_of s) k) (record { on = true; channel = channel_of s; key = k; velocity = v }))
   on true = off
   on false = record { channel = mod-lt s (lit≤ tt); key = key; velocity = velocity }
 
-  by_kind : (a b : Bool) → ValidHeard (cond a (Note (noteOff (channelOf s) k)) (cond b (Note (noteOn (channelOf s) k v)) Other))
-  unfolding ValidHeard noteOn
+  by_kind : (a b : Bool) → ValidHeard (cond a (Note (note_off (channel_of s) k)) (cond b (Note (note_on (channel_of s) k v)) Other))
+  unfolding ValidHeard note_on
   by_kind true b = off
   by_kind false true = on (eqb v 0)
   by_kind false false = tt

@@ -5,11 +5,11 @@ use Rattle.midi_messages.specs.declared.Classified.{Classified}
 use Rattle.midi_messages.specs.declared.Classified.TheVariants.{Note, Other}
 
 -- a byte below 0x80 is data; from 0x80 on it is a status byte, which begins a channel message or, from 0xF0 on, is a system byte
-abbrev pub firstStatus : ℕ
-firstStatus = 0x80
+abbrev pub first_status : ℕ
+first_status = 0x80
 
-abbrev pub firstSystem : ℕ
-firstSystem = 0xf0
+abbrev pub first_system : ℕ
+first_system = 0xf0
 
 -- no status
 abbrev pub none : ℕ
@@ -19,20 +19,20 @@ none = 0
 abbrev pub kind : ℕ → ℕ
 kind s = s / 16
 
-abbrev pub channelOf : ℕ → ℕ
-channelOf s = s % 16
+abbrev pub channel_of : ℕ → ℕ
+channel_of s = s % 16
 
 -- Cn and Dn have one data byte; 8n, 9n, An, Bn and En have two
-unfoldable pub dataBytes : ℕ → ℕ
-dataBytes s = cond (eqb (kind s) 0xc || eqb (kind s) 0xd) 1 2
+unfoldable pub data_bytes : ℕ → ℕ
+data_bytes s = cond (eqb (kind s) 0xc || eqb (kind s) 0xd) 1 2
 
-abbrev pub noteOff : ℕ → ℕ → NoteMessage
-noteOff c k = record { on = false; channel = c; key = k; velocity = 0 }
+abbrev pub note_off : ℕ → ℕ → NoteMessage
+note_off c k = record { on = false; channel = c; key = k; velocity = 0 }
 
 -- a note-on with velocity 0 is a note-off
-unfoldable pub noteOn : ℕ → ℕ → ℕ → NoteMessage
-noteOn c k v = cond (eqb v 0) (noteOff c k) (record { on = true; channel = c; key = k; velocity = v })
+unfoldable pub note_on : ℕ → ℕ → ℕ → NoteMessage
+note_on c k v = cond (eqb v 0) (note_off c k) (record { on = true; channel = c; key = k; velocity = v })
 
 -- what a whole channel message is, of its status and its first two data bytes: 8n a note-off, 9n a note-on, any other no note message
 unfoldable pub classified : ℕ → ℕ → ℕ → Classified
-classified s k v = cond (eqb (kind s) 8) (Note (noteOff (channelOf s) k)) (cond (eqb (kind s) 9) (Note (noteOn (channelOf s) k v)) Other)
+classified s k v = cond (eqb (kind s) 8) (Note (note_off (channel_of s) k)) (cond (eqb (kind s) 9) (Note (note_on (channel_of s) k v)) Other)

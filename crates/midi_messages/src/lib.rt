@@ -1,9 +1,9 @@
 // The note messages of MIDI 1.0 channel messages, read from the bytes of one keyboard call (document 02, M-104).
 ghost use Rattle.std.specs.Prelude.{◌≡◌, []};
 ghost use Rattle.base_answer.specs.declared.Answer.TheVariants.{Taken};
-ghost use Rattle.midi_messages.specs.Message.{dataBytes, noteOff, noteOn, classified};
-ghost use Rattle.midi_messages.specs.inside.Reading.{feedData as feedDataOf, feedRunning as feedRunningOf, feedStatus as feedStatusOf, stepped, call_of, messagesWith, callMessages};
-ghost use Rattle.midi_messages.specs.inside.Passes.{added, answered as answeredOf};
+ghost use Rattle.midi_messages.specs.Message.{data_bytes, note_off, note_on, classified};
+ghost use Rattle.midi_messages.specs.inside.Reading.{feed_data as feed_data_of, feed_running as feed_running_of, feed_status as feed_status_of, stepped, call_of, messages_with, call_messages};
+ghost use Rattle.midi_messages.specs.inside.Passes.{added, answered as answered_of};
 
 use base_answer::Answer;
 
@@ -67,7 +67,7 @@ const PROGRAM: u8 = 0xc;
 const PRESSURE: u8 = 0xd;
 
 fn data_bytes(status: u8) -> u8
-    ensures { result ≡ dataBytes status }
+    ensures { result ≡ data_bytes status }
 {
     let kind = status / 16;
     if kind == PROGRAM {
@@ -80,7 +80,7 @@ fn data_bytes(status: u8) -> u8
 }
 
 fn note_off(channel: u8, key: u8) -> NoteMessage
-    ensures { result ≡ noteOff channel key }
+    ensures { result ≡ note_off channel key }
 {
     NoteMessage {
         on: false,
@@ -92,7 +92,7 @@ fn note_off(channel: u8, key: u8) -> NoteMessage
 
 // With velocity 0 a note-on is a note-off.
 fn note_on(channel: u8, key: u8, velocity: u8) -> NoteMessage
-    ensures { result ≡ noteOn channel key velocity }
+    ensures { result ≡ note_on channel key velocity }
 {
     if velocity == 0 {
         return note_off(channel, key);
@@ -121,7 +121,7 @@ fn classify(status: u8, key: u8, velocity: u8) -> Classified
 
 // A data byte for a message that wants some.
 fn feed_data(status: u8, wants: u8, first: u8, b: u8) -> Step
-    ensures { result ≡ feedDataOf status wants first b }
+    ensures { result ≡ feed_data_of status wants first b }
 {
     if wants == 1 {
         let h = classify(status, first, b);
@@ -146,7 +146,7 @@ fn feed_data(status: u8, wants: u8, first: u8, b: u8) -> Step
 
 // A data byte between messages.
 fn feed_running(status: u8, b: u8) -> Step
-    ensures { result ≡ feedRunningOf status b }
+    ensures { result ≡ feed_running_of status b }
 {
     if status == NO_STATUS {
         return Step::Stops(Answer::NotCarried);
@@ -156,7 +156,7 @@ fn feed_running(status: u8, b: u8) -> Step
 
 // A status byte between messages.
 fn feed_status(b: u8) -> Step
-    ensures { result ≡ feedStatusOf b }
+    ensures { result ≡ feed_status_of b }
 {
     if b < FIRST_SYSTEM {
         return Step::Goes(
@@ -188,7 +188,7 @@ fn advance(p: ParserState, b: u8) -> Step
 
 // No messages.
 fn empty() -> CallMessages
-    ensures { result ≡ messagesWith [] Taken }
+    ensures { result ≡ messages_with [] Taken }
 {
     let blank = note_off(0, 0);
     let list = [blank; MOST_READ];
@@ -200,7 +200,7 @@ fn empty() -> CallMessages
 }
 
 fn answered(g: CallMessages, a: Answer) -> CallMessages
-    ensures { result ≡ answeredOf g a }
+    ensures { result ≡ answered_of g a }
 {
     let list = g.list;
     CallMessages {
@@ -235,7 +235,7 @@ fn add(g: CallMessages, h: Classified) -> CallMessages
 
 // The bytes of one call: its note messages in order, at most the first 65, or its first fault and none of them.
 pub fn read_call(bytes: &[u8]) -> CallMessages
-    ensures { result ≡ callMessages (call_of bytes.now) }
+    ensures { result ≡ call_messages (call_of bytes.now) }
 {
     let nothing = empty();
     let mut g = nothing;

@@ -9,22 +9,22 @@ use Rattle.midi_queue.specs.declared.MessageQueue.{MessageQueue}
 use Rattle.midi_queue.specs.declared.QueueResult.{QueueResult}
 
 -- the most note messages that wait
-abbrev pub mostMessages : ℕ
-mostMessages = 64
+abbrev pub most_messages : ℕ
+most_messages = 64
 
 -- those that wait
-abbrev pub messagesIn : MessageQueue → List NoteMessage
-messagesIn w = take w.count w.list
+abbrev pub messages_in : MessageQueue → List NoteMessage
+messages_in w = take w.count w.list
 
-unfoldable pub noMessages : MessageQueue
-noMessages = record { list = replicate mostMessages blank; count = 0 }
+unfoldable pub no_messages : MessageQueue
+no_messages = record { list = replicate most_messages blank; count = 0 }
 
 -- with others behind them
 unfoldable pub behind : MessageQueue → List NoteMessage → MessageQueue
-behind w ms = record { list = over (messagesIn w ++ ms) w.list; count = length (messagesIn w ++ ms) }
+behind w ms = record { list = over (messages_in w ++ ms) w.list; count = length (messages_in w ++ ms) }
 
 -- a call's note messages go in, all of them; at a fault (1, 2), or where more would wait than can (8), none does
-unfoldable pub enqueuedIn : MessageQueue → midi.Call → QueueResult
-enqueuedIn w (midi.whole ms) =
-    cond (leb (length (messagesIn w) + length ms) mostMessages) (record { messages = behind w ms; answer = Taken }) (record { messages = w; answer = NoRoom })
-enqueuedIn w (midi.fault a) = record { messages = w; answer = a }
+unfoldable pub enqueued_in : MessageQueue → midi.Call → QueueResult
+enqueued_in w (midi.whole ms) =
+    cond (leb (length (messages_in w) + length ms) most_messages) (record { messages = behind w ms; answer = Taken }) (record { messages = w; answer = NoRoom })
+enqueued_in w (midi.fault a) = record { messages = w; answer = a }

@@ -2,7 +2,7 @@
 ghost use Rattle.std.specs.Prelude.{◌≡◌, ◌++◌, ◌+◌, ◌≤◌, take};
 ghost use Rattle.player_model.specs.Lists.{over};
 ghost use Rattle.midi_messages.specs.inside.Reading.{call_of};
-ghost use Rattle.midi_queue.specs.Keyboard.{noMessages, enqueuedIn};
+ghost use Rattle.midi_queue.specs.Keyboard.{no_messages, enqueued_in};
 
 use base_answer::Answer;
 use midi_messages::{MOST_MESSAGES, MOST_READ, NoteMessage};
@@ -23,7 +23,7 @@ pub struct QueueResult {
 
 // None wait.
 pub fn no_messages() -> MessageQueue
-    ensures { result ≡ noMessages }
+    ensures { result ≡ no_messages }
 {
     let blank = NoteMessage {
         on: false,
@@ -60,7 +60,7 @@ fn appended(
 
 // The bytes of a call: their note messages wait behind the others, or, at a fault or without room for all of them, none does.
 pub fn enqueue(waiting: MessageQueue, bytes: &[u8]) -> QueueResult
-    ensures { result ≡ enqueuedIn waiting (call_of bytes.now) }
+    ensures { result ≡ enqueued_in waiting (call_of bytes.now) }
 {
     let g = midi_messages::read_call(bytes);
     let a = g.answer;

@@ -5,18 +5,18 @@ use Rattle.score_line.specs.declared.Event.TheVariants.{Instr, Control, End, Tem
 use Rattle.score_line.specs.declared.Line.{Line}
 use Rattle.note_state.specs.declared.Note.{Note}
 use Rattle.player_model.specs.Lists.{each, fold}
-use Rattle.code_program.specs.InstrumentTable.{instrumentIn}
+use Rattle.code_program.specs.InstrumentTable.{instrument_in}
 use Rattle.code_program.specs.declared.Instrument.{Instrument}
-use Rattle.note_lifecycle.specs.OneNote.{controlledNote}
+use Rattle.note_lifecycle.specs.OneNote.{controlled_note}
 
-unfoldable pub controlledIn : List Instrument → ℕ → ℕ → Float → Note → Note
-controlledIn table label variable value n = controlledNote (instrumentIn table n.instrument) n label variable value
+unfoldable pub controlled_in : List Instrument → ℕ → ℕ → Float → Note → Note
+controlled_in table label variable value n = controlled_note (instrument_in table n.instrument) n label variable value
 
-abbrev pub controlsIn : List Instrument → List Note → Event → List Note
-controlsIn table ns (Instr label name duration) = ns
-controlsIn table ns (Control label variable value) = each (controlledIn table label variable value) ns
-controlsIn table ns End = ns
-controlsIn table ns (Tempo t) = ns
+abbrev pub controls_in : List Instrument → List Note → Event → List Note
+controls_in table ns (Instr label name duration) = ns
+controls_in table ns (Control label variable value) = each (controlled_in table label variable value) ns
+controls_in table ns End = ns
+controls_in table ns (Tempo t) = ns
 
-unfoldable pub controlledAll : List Instrument → List Note → List Line → List Note
-controlledAll table ns ls = fold (λ (ms : List Note) (l : Line). controlsIn table ms l.event) ns ls
+unfoldable pub controlled_all : List Instrument → List Note → List Line → List Note
+controlled_all table ns ls = fold (λ (ms : List Note) (l : Line). controls_in table ms l.event) ns ls

@@ -1,12 +1,12 @@
 // What lines and note messages do with the sounding notes (document 01, "One cycle, in order", steps 3 and 4).
 ghost use Rattle.std.specs.Prelude.{◌≡◌, ◌<◌, ◌≤◌, take};
 ghost use Rattle.player_model.specs.Lists.{each, over};
-ghost use Rattle.player_model.specs.Cycle.{positionLimit, startedBy, started, afterMessage, afterMessages};
-ghost use Rattle.code_program.specs.InstrumentTable.{instrumentsOf};
+ghost use Rattle.player_model.specs.Cycle.{position_limit, started_by, started, after_message, after_messages};
+ghost use Rattle.code_program.specs.InstrumentTable.{instruments_of};
 ghost use Rattle.voices_compiled.specs.Voices.{voices};
-ghost use Rattle.note_pool.specs.Notes.{notesIn, startedIn, startedOver};
+ghost use Rattle.note_pool.specs.Notes.{notes_in, started_in, started_over};
 ghost use Rattle.note_pool.specs.Started.{StartedBy};
-ghost use Rattle.note_events.specs.Controls.{controlledIn, controlsIn, controlledAll};
+ghost use Rattle.note_events.specs.Controls.{controlled_in, controls_in, controlled_all};
 
 use code_program::Instruments;
 use midi_messages::{MOST_MESSAGES, NoteMessage};
@@ -25,8 +25,8 @@ fn start_line<'a>(
     position: u64,
     most: usize,
 ) -> Started
-    requires { (v.count ≤ 16) × (v.missed < 64) × (position ≤ positionLimit) × (most ≤ 16) }
-    ensures { StartedBy (startedBy (voices (instrumentsOf instruments) code.now vals.now) most position l (startedIn v.notes v.count v.missed) l.event) v result }
+    requires { (v.count ≤ 16) × (v.missed < 64) × (position ≤ position_limit) × (most ≤ 16) }
+    ensures { StartedBy (started_by (voices (instruments_of instruments) code.now vals.now) most position l (started_in v.notes v.count v.missed) l.event) v result }
 {
     let e = l.event;
     match e {
@@ -77,8 +77,8 @@ pub fn start_notes<'a>(
     position: u64,
     most: usize,
 ) -> Started
-    requires { (position ≤ positionLimit) × (most ≤ 16) }
-    ensures { (result ≡ startedOver (started (voices (instrumentsOf instruments) code.now vals.now) most position (notesIn old.notes old.count) (take due.count due.lines)) old.notes) × (result.missed ≤ 64) }
+    requires { (position ≤ position_limit) × (most ≤ 16) }
+    ensures { (result ≡ started_over (started (voices (instruments_of instruments) code.now vals.now) most position (notes_in old.notes old.count) (take due.count due.lines)) old.notes) × (result.missed ≤ 64) }
 {
     let w = base_numbers::at_most(due.count, MOST_LINES);
     let lines = due.lines;
@@ -99,7 +99,7 @@ pub fn start_notes<'a>(
 
 // A control line's effect on the first notes; what lies behind them stays.
 fn control_notes(instruments: Instruments, v: Notes, label: u16, variable: u16, value: f32) -> Notes
-    ensures { (result.count ≡ v.count) × (result.notes ≡ over (each (controlledIn (instrumentsOf instruments) label variable value) (take v.count v.notes)) v.notes) }
+    ensures { (result.count ≡ v.count) × (result.notes ≡ over (each (controlled_in (instruments_of instruments) label variable value) (take v.count v.notes)) v.notes) }
 {
     let notes = v.notes;
     let m = base_numbers::at_most(v.count, MOST_NOTES);
@@ -120,7 +120,7 @@ fn control_notes(instruments: Instruments, v: Notes, label: u16, variable: u16, 
 }
 
 fn control_line(instruments: Instruments, v: Notes, l: Line) -> Notes
-    ensures { (result.count ≡ v.count) × (result.notes ≡ over (controlsIn (instrumentsOf instruments) (take v.count v.notes) l.event) v.notes) }
+    ensures { (result.count ≡ v.count) × (result.notes ≡ over (controls_in (instruments_of instruments) (take v.count v.notes) l.event) v.notes) }
 {
     let e = l.event;
     match e {
@@ -146,7 +146,7 @@ pub fn control_lines(
     lines: [Line; MOST_LINES],
     m: usize,
 ) -> Notes
-    ensures { (result.count ≡ notes.count) × (result.notes ≡ over (controlledAll (instrumentsOf instruments) (take notes.count notes.notes) (take m lines)) notes.notes) }
+    ensures { (result.count ≡ notes.count) × (result.notes ≡ over (controlled_all (instruments_of instruments) (take notes.count notes.notes) (take m lines)) notes.notes) }
 {
     let w = base_numbers::at_most(m, MOST_LINES);
     let mut v = notes;
@@ -170,7 +170,7 @@ fn play_message<'a>(
     most: usize,
 ) -> Started
     requires { (v.count ≤ 16) × (v.missed < 128) × (most ≤ 16) }
-    ensures { StartedBy (afterMessage (voices (instrumentsOf instruments) code.now vals.now) most chosen (startedIn v.notes v.count v.missed) m) v result }
+    ensures { StartedBy (after_message (voices (instruments_of instruments) code.now vals.now) most chosen (started_in v.notes v.count v.missed) m) v result }
 {
     if m.on {
         if v.count < most {
@@ -196,7 +196,7 @@ pub fn play_messages<'a>(
     most: usize,
 ) -> Started
     requires { (old.missed ≤ 64) × (most ≤ 16) }
-    ensures { (result ≡ startedOver (afterMessages (voices (instrumentsOf instruments) code.now vals.now) most chosen (startedIn old.notes old.count old.missed) (take m messages)) old.notes) × (result.missed ≤ 128) }
+    ensures { (result ≡ started_over (after_messages (voices (instruments_of instruments) code.now vals.now) most chosen (started_in old.notes old.count old.missed) (take m messages)) old.notes) × (result.missed ≤ 128) }
 {
     let count = base_numbers::at_most(m, MOST_MESSAGES);
     let mut v = old;

@@ -7,152 +7,152 @@ use lib.Dec.{eqb}
 use lib.Ieee.{Float, binary32, eq, neg, of_bits, of_fields, size, odd, climb, span}
 use lib.ListN.{take}
 use borrow.Author.Tests.{eq-eqb, ne_eqb}
-use Rattle.base_timebase.specs.Time.{ticksIn, endless as withoutEnd}
+use Rattle.base_timebase.specs.Time.{ticks_in, endless as without_end}
 use Rattle.score_line.specs.declared.Label.{Label}
 use Rattle.score_line.specs.declared.Line.{Line}
-use Rattle.midi_keys.specs.Keys.{frequencyOf, normalizedVelocity}
+use Rattle.midi_keys.specs.Keys.{frequency_of, normalized_velocity}
 use Rattle.midi_messages.specs.declared.NoteMessage.{NoteMessage}
 use Rattle.player_model.specs.Cycle.{is_held}
 use Rattle.player_model.proofs.Lists.{cond-true, cond-false}
 use Rattle.player_model.proofs.Results.{and-false}
 use Rattle.code_interpreter.specs.Passes.{stretch, frame_of, fresh_of, once, sums, Played, played}
-use Rattle.code_interpreter.specs.WorkingArea.{numbersIn, workingAreaOf, areaPlayed}
-use Rattle.note_state.specs.Notes.{newNote, withValues}
+use Rattle.code_interpreter.specs.WorkingArea.{numbers_in, working_area_of, area_played}
+use Rattle.note_state.specs.Notes.{new_note, with_values}
 use Rattle.code_interpreter.proofs.Rooms.{once-program, played-program}
 use Rattle.note_state.specs.declared.Note.{Note}
 use Rattle.note_state.specs.declared.NoteLabel.{NoteLabel}
 use Rattle.voices_compiled.specs.Voices.{named}
-use Rattle.note_lifecycle.specs.OneNote.{label_of, bornNote, noteFromKey, isHeldIn, controlledNote, kNote, ranNote, ranMix, ranArea}
+use Rattle.note_lifecycle.specs.OneNote.{label_of, born_note, note_from_key, is_held_in, controlled_note, k_note, ran_note, ran_mix, ran_area}
 use Rattle.code_program.specs.declared.Instrument.{Instrument}
 
-pub minus_one : (x : Float) → eq x (neg (of_bits binary32 0x3f800000)) ≡ eq x withoutEnd
+pub minus_one : (x : Float) → eq x (neg (of_bits binary32 0x3f800000)) ≡ eq x without_end
 unfolding neg of_bits of_fields size odd climb span
 minus_one x = refl
 
-pub begun-law : (vals : List Float) (ws : List ℕ) (note : Note) (room : List Float) → room ≡ workingAreaOf vals
-    → (r : Note) → r ≡ withValues (once (numbersIn room) ws note.values) note → r ≡ withValues (once vals ws note.values) note
+pub begun-law : (vals : List Float) (ws : List ℕ) (note : Note) (room : List Float) → room ≡ working_area_of vals
+    → (r : Note) → r ≡ with_values (once (numbers_in room) ws note.values) note → r ≡ with_values (once vals ws note.values) note
 begun-law vals ws note room m r q =
-    q ∙ ap (λ (u : List Float). withValues (once (numbersIn u) ws note.values) note) m
-    ∙ ap (λ (u : List Float). withValues u note) (once-program vals ws note.values)
+    q ∙ ap (λ (u : List Float). with_values (once (numbers_in u) ws note.values) note) m
+    ∙ ap (λ (u : List Float). with_values u note) (once-program vals ws note.values)
 
 pub born-law : (code : List ℕ) (vals : List Float) (x : Instrument) (l : Line) (position : ℕ) (label : Label) (name : ℕ) (duration : Float)
-    → (vs : List Float) → vs ≡ fresh_of (take x.fields (take l.count l.values)) → (t : ℕ) → t ≡ ticksIn duration
-    → (named : NoteLabel) → named ≡ label_of label → (never : Bool) → never ≡ eq duration withoutEnd
-    → (note : Note) → note ≡ newNote vs named name (record { never = never; at = position + t }) l.priority (record { keyed = false; channel = 0; key = 0; released = false })
-    → (r : Note) → r ≡ withValues (once vals (stretch x.istart x.iend code) note.values) note
-    → r ≡ bornNote code vals x l position label name duration
-unfolding bornNote
+    → (vs : List Float) → vs ≡ fresh_of (take x.fields (take l.count l.values)) → (t : ℕ) → t ≡ ticks_in duration
+    → (named : NoteLabel) → named ≡ label_of label → (never : Bool) → never ≡ eq duration without_end
+    → (note : Note) → note ≡ new_note vs named name (record { never = never; at = position + t }) l.priority (record { keyed = false; channel = 0; key = 0; released = false })
+    → (r : Note) → r ≡ with_values (once vals (stretch x.istart x.iend code) note.values) note
+    → r ≡ born_note code vals x l position label name duration
+unfolding born_note
 born-law code vals x l position label name duration vs e t f named g never k note o r q =
     let ws = stretch x.istart x.iend code in
-    q ∙ ap (λ (y : Note). withValues (once vals ws y.values) y) o
-    ∙ (λ i. newNote (once vals ws (e i)) (g i) name (record { never = k i; at = position + f i }) l.priority (record { keyed = false; channel = 0; key = 0; released = false }))
+    q ∙ ap (λ (y : Note). with_values (once vals ws y.values) y) o
+    ∙ (λ i. new_note (once vals ws (e i)) (g i) name (record { never = k i; at = position + f i }) l.priority (record { keyed = false; channel = 0; key = 0; released = false }))
 
 -- nothing is cut off for a line without priority, with no note to cut off, or for the keyboard
 pub born-yields : (code : List ℕ) (vals : List Float) (x : Instrument) (l : Line) (position : ℕ) (label : Label) (name : ℕ) (duration : Float) (b : Bool)
-    → l.priority ≡ false → ((bornNote code vals x l position label name duration).priority && b) ≡ false
-unfolding bornNote
+    → l.priority ≡ false → ((born_note code vals x l position label name duration).priority && b) ≡ false
+unfolding born_note
 born-yields code vals x l position label name duration b e = ap (λ (p : Bool). p && b) e
 
 pub born-alone : (code : List ℕ) (vals : List Float) (x : Instrument) (l : Line) (position : ℕ) (label : Label) (name : ℕ) (duration : Float) (b : Bool)
-    → b ≡ false → ((bornNote code vals x l position label name duration).priority && b) ≡ false
-unfolding bornNote
+    → b ≡ false → ((born_note code vals x l position label name duration).priority && b) ≡ false
+unfolding born_note
 born-alone code vals x l position label name duration b e = ap (λ (c : Bool). l.priority && c) e ∙ and-false l.priority
 
 pub born-priority : (code : List ℕ) (vals : List Float) (x : Instrument) (l : Line) (position : ℕ) (label : Label) (name : ℕ) (duration : Float)
-    → (n : Note) → n ≡ bornNote code vals x l position label name duration → l.priority ≡ true → n.priority ≡ true
-unfolding bornNote
+    → (n : Note) → n ≡ born_note code vals x l position label name duration → l.priority ≡ true → n.priority ≡ true
+unfolding born_note
 born-priority code vals x l position label name duration n q e = ap (λ (m : Note). m.priority) q ∙ e
 
 pub pressed-yields : (code : List ℕ) (vals : List Float) (x : Instrument) (name : ℕ) (m : NoteMessage) (b : Bool)
-    → ((noteFromKey code vals x name m).priority && b) ≡ false
-unfolding noteFromKey
+    → ((note_from_key code vals x name m).priority && b) ≡ false
+unfolding note_from_key
 pressed-yields code vals x name m b = refl
 
 pub pressed-law : (code : List ℕ) (vals : List Float) (x : Instrument) (name : ℕ) (m : NoteMessage)
-    → (f : Float) → f ≡ frequencyOf m.key → (l : Float) → l ≡ normalizedVelocity m.velocity
+    → (f : Float) → f ≡ frequency_of m.key → (l : Float) → l ≡ normalized_velocity m.velocity
     → (vs : List Float) → vs ≡ fresh_of (take x.fields (f ∷ l ∷ []))
-    → (note : Note) → note ≡ newNote vs (record { given = false; symbol = 0 }) name (record { never = true; at = 0 }) false (record { keyed = true; channel = m.channel; key = m.key; released = false })
-    → (r : Note) → r ≡ withValues (once vals (stretch x.istart x.iend code) note.values) note
-    → r ≡ noteFromKey code vals x name m
-unfolding noteFromKey
+    → (note : Note) → note ≡ new_note vs (record { given = false; symbol = 0 }) name (record { never = true; at = 0 }) false (record { keyed = true; channel = m.channel; key = m.key; released = false })
+    → (r : Note) → r ≡ with_values (once vals (stretch x.istart x.iend code) note.values) note
+    → r ≡ note_from_key code vals x name m
+unfolding note_from_key
 pressed-law code vals x name m f ef l el vs e note o r q =
     let ws = stretch x.istart x.iend code in
-    q ∙ ap (λ (y : Note). withValues (once vals ws y.values) y) o
-    ∙ (λ i. newNote (once vals ws ((e ∙ (λ j. fresh_of (take x.fields (ef j ∷ el j ∷ [])))) i)) (record { given = false; symbol = 0 }) name (record { never = true; at = 0 }) false (record { keyed = true; channel = m.channel; key = m.key; released = false }))
+    q ∙ ap (λ (y : Note). with_values (once vals ws y.values) y) o
+    ∙ (λ i. new_note (once vals ws ((e ∙ (λ j. fresh_of (take x.fields (ef j ∷ el j ∷ [])))) i)) (record { given = false; symbol = 0 }) name (record { never = true; at = 0 }) false (record { keyed = true; channel = m.channel; key = m.key; released = false }))
 
 -- ---- an unmarked note of a key of a channel
 
 module _ (n : Note) (channel key : ℕ) where
-  pub held-here : n.origin.keyed ≡ true → n.origin.channel ≡ channel → n.origin.key ≡ key → not n.origin.released ≡ isHeldIn channel key n
+  pub held-here : n.origin.keyed ≡ true → n.origin.channel ≡ channel → n.origin.key ≡ key → not n.origin.released ≡ is_held_in channel key n
   unfolding is_held
   held-here a b c = sym (λ i. a i && eq-eqb n.origin.channel channel b i && eq-eqb n.origin.key key c i && not n.origin.released)
 
-  pub held-other-key : n.origin.keyed ≡ true → n.origin.channel ≡ channel → (n.origin.key ≡ key → ⊥) → false ≡ isHeldIn channel key n
+  pub held-other-key : n.origin.keyed ≡ true → n.origin.channel ≡ channel → (n.origin.key ≡ key → ⊥) → false ≡ is_held_in channel key n
   unfolding is_held
   held-other-key a b c = sym (λ i. a i && eq-eqb n.origin.channel channel b i && ne_eqb n.origin.key key c i && not n.origin.released)
 
-  pub held-other-channel : n.origin.keyed ≡ true → (n.origin.channel ≡ channel → ⊥) → false ≡ isHeldIn channel key n
+  pub held-other-channel : n.origin.keyed ≡ true → (n.origin.channel ≡ channel → ⊥) → false ≡ is_held_in channel key n
   unfolding is_held
   held-other-channel a b = sym (λ i. a i && ne_eqb n.origin.channel channel b i && eqb n.origin.key key && not n.origin.released)
 
-  pub held-no-key : n.origin.keyed ≡ false → false ≡ isHeldIn channel key n
+  pub held-no-key : n.origin.keyed ≡ false → false ≡ is_held_in channel key n
   unfolding is_held
   held-no-key a = sym (λ i. a i && eqb n.origin.channel channel && eqb n.origin.key key && not n.origin.released)
 
 module _ (x : Instrument) (n : Note) (label variable : ℕ) (value : Float) where
   pub control-yes : n.label.given ≡ true → n.label.symbol ≡ label → (w : ℕ) → w ≡ variable → (vs : List Float) → vs ≡ named w value x.imports n.values
-      → (r : Note) → r ≡ withValues vs n → r ≡ controlledNote x n label variable value
-  unfolding controlledNote
+      → (r : Note) → r ≡ with_values vs n → r ≡ controlled_note x n label variable value
+  unfolding controlled_note
   control-yes a b w e vs q r p =
-      p ∙ ap (λ (l : List Float). withValues l n) (q ∙ ap (λ (y : ℕ). named y value x.imports n.values) e)
+      p ∙ ap (λ (l : List Float). with_values l n) (q ∙ ap (λ (y : ℕ). named y value x.imports n.values) e)
       ∙ sym (cond-true _ _ (ap (λ (t : Bool). t && eqb label n.label.symbol) a ∙ eq-eqb label n.label.symbol (sym b)))
 
-  pub control-other : n.label.given ≡ true → (n.label.symbol ≡ label → ⊥) → n ≡ controlledNote x n label variable value
-  unfolding controlledNote
+  pub control-other : n.label.given ≡ true → (n.label.symbol ≡ label → ⊥) → n ≡ controlled_note x n label variable value
+  unfolding controlled_note
   control-other a b =
       sym (cond-false _ _ (ap (λ (t : Bool). t && eqb label n.label.symbol) a ∙ ne_eqb label n.label.symbol (λ e. b (sym e))))
 
-  pub control-none : n.label.given ≡ false → n ≡ controlledNote x n label variable value
-  unfolding controlledNote
+  pub control-none : n.label.given ≡ false → n ≡ controlled_note x n label variable value
+  unfolding controlled_note
   control-none a = sym (cond-false _ _ (ap (λ (t : Bool). t && eqb label n.label.symbol) a))
 
 -- a note's cycle in a room whose numbers stay
 module _ (code : List ℕ) (N N' : List Float) (x : Instrument) (n k : Note) (mix : List Float) (e : N' ≡ N)
-    (h : k ≡ withValues (once N (stretch x.kstart x.kend code) n.values) n) where
-  pub ran-in : {r : Note} → r ≡ withValues (played N' (stretch x.astart x.aend code) k.values mix).values k → r ≡ ranNote code N x n mix
-  unfolding ranNote kNote
-  ran-in q = q ∙ (λ i. withValues (played (e i) (stretch x.astart x.aend code) (h i).values mix).values (h i))
+    (h : k ≡ with_values (once N (stretch x.kstart x.kend code) n.values) n) where
+  pub ran-in : {r : Note} → r ≡ with_values (played N' (stretch x.astart x.aend code) k.values mix).values k → r ≡ ran_note code N x n mix
+  unfolding ran_note k_note
+  ran-in q = q ∙ (λ i. with_values (played (e i) (stretch x.astart x.aend code) (h i).values mix).values (h i))
 
-  pub mixed-in : {m : List Float} → m ≡ (played N' (stretch x.astart x.aend code) k.values mix).mix → m ≡ ranMix code N x n mix
-  unfolding ranMix kNote
+  pub mixed-in : {m : List Float} → m ≡ (played N' (stretch x.astart x.aend code) k.values mix).mix → m ≡ ran_mix code N x n mix
+  unfolding ran_mix k_note
   mixed-in q = q ∙ (λ i. (played (e i) (stretch x.astart x.aend code) (h i).values mix).mix)
 
-pub area_in : (code : List ℕ) (room room' : List Float) (x : Instrument) (n k : Note) (mix : List Float) → numbersIn room' ≡ numbersIn room
-    → k ≡ withValues (once (numbersIn room) (stretch x.kstart x.kend code) n.values) n
-    → {a : List Float} → a ≡ areaPlayed room' (stretch x.astart x.aend code) k.values mix → a ≡ ranArea code room x n mix
-unfolding ranArea kNote areaPlayed
+pub area_in : (code : List ℕ) (room room' : List Float) (x : Instrument) (n k : Note) (mix : List Float) → numbers_in room' ≡ numbers_in room
+    → k ≡ with_values (once (numbers_in room) (stretch x.kstart x.kend code) n.values) n
+    → {a : List Float} → a ≡ area_played room' (stretch x.astart x.aend code) k.values mix → a ≡ ran_area code room x n mix
+unfolding ran_area k_note area_played
 area_in code room room' x n k mix e h q = q ∙ (λ i. (sums (e i) (stretch x.astart x.aend code) (frame_of (h i).values) mix).frame ++ e i)
 
 -- and in a room with the program's numbers
-module _ (code : List ℕ) (vals : List Float) (x : Instrument) (n : Note) (mix N : List Float) (e : N ≡ numbersIn (workingAreaOf vals)) where
-  abbrev kCode : List ℕ
-  kCode = stretch x.kstart x.kend code
+module _ (code : List ℕ) (vals : List Float) (x : Instrument) (n : Note) (mix N : List Float) (e : N ≡ numbers_in (working_area_of vals)) where
+  abbrev k_code : List ℕ
+  k_code = stretch x.kstart x.kend code
 
-  abbrev aCode : List ℕ
-  aCode = stretch x.astart x.aend code
+  abbrev a_code : List ℕ
+  a_code = stretch x.astart x.aend code
 
-  k-here : once N kCode n.values ≡ once vals kCode n.values
-  k-here = ap (λ (u : List Float). once u kCode n.values) e ∙ once-program vals kCode n.values
+  k-here : once N k_code n.values ≡ once vals k_code n.values
+  k-here = ap (λ (u : List Float). once u k_code n.values) e ∙ once-program vals k_code n.values
 
-  a-here : (vs : List Float) → played N aCode vs mix ≡ played vals aCode vs mix
-  a-here vs = ap (λ (u : List Float). played u aCode vs mix) e ∙ played-program vals aCode vs mix
+  a-here : (vs : List Float) → played N a_code vs mix ≡ played vals a_code vs mix
+  a-here vs = ap (λ (u : List Float). played u a_code vs mix) e ∙ played-program vals a_code vs mix
 
-  pub ran-here : ranNote code N x n mix ≡ ranNote code vals x n mix
-  unfolding ranNote kNote
+  pub ran-here : ran_note code N x n mix ≡ ran_note code vals x n mix
+  unfolding ran_note k_note
   ran-here =
-      ap (λ (u : List Float). withValues (played N aCode u mix).values (withValues u n)) k-here
-      ∙ ap (λ (q : Played). withValues q.values (withValues (once vals kCode n.values) n)) (a-here (once vals kCode n.values))
+      ap (λ (u : List Float). with_values (played N a_code u mix).values (with_values u n)) k-here
+      ∙ ap (λ (q : Played). with_values q.values (with_values (once vals k_code n.values) n)) (a-here (once vals k_code n.values))
 
-  pub mixed-here : ranMix code N x n mix ≡ ranMix code vals x n mix
-  unfolding ranMix kNote
-  mixed-here = ap (λ (u : List Float). (played N aCode u mix).mix) k-here ∙ ap (λ (q : Played). q.mix) (a-here (once vals kCode n.values))
+  pub mixed-here : ran_mix code N x n mix ≡ ran_mix code vals x n mix
+  unfolding ran_mix k_note
+  mixed-here = ap (λ (u : List Float). (played N a_code u mix).mix) k-here ∙ ap (λ (q : Played). q.mix) (a-here (once vals k_code n.values))

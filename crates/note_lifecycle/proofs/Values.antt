@@ -31,13 +31,13 @@ module _ (x : ℕ) (a : Float) where
   length-named (i ∷ is) [] = refl
   length-named (i ∷ is) (v ∷ vs) = ap suc (length-named is vs)
 
-  getD-named : (is : List ℕ) (vs : List Float) (j e : ℕ) (d : Float) → j < length is → j < length vs
+  get_d-named : (is : List ℕ) (vs : List Float) (j e : ℕ) (d : Float) → j < length is → j < length vs
       → get_or (named x a is vs) j d ≡ cond (eqb (get_or is j e) x) a (get_or vs j d)
   unfolding named
-  getD-named [] vs j e d h k = absurd (omega arith)
-  getD-named (i ∷ is) [] j e d h k = absurd (omega arith)
-  getD-named (i ∷ is) (v ∷ vs) zero e d h k = refl
-  getD-named (i ∷ is) (v ∷ vs) (suc j) e d h k = getD-named is vs j e d (le_of_suc-le-suc h) (le_of_suc-le-suc k)
+  get_d-named [] vs j e d h k = absurd (omega arith)
+  get_d-named (i ∷ is) [] j e d h k = absurd (omega arith)
+  get_d-named (i ∷ is) (v ∷ vs) zero e d h k = refl
+  get_d-named (i ∷ is) (v ∷ vs) (suc j) e d h k = get_d-named is vs j e d (le_of_suc-le-suc h) (le_of_suc-le-suc k)
 
   module _ (is : List ℕ) (vs : List Float) (li : length is ≡ 16) (lv : length vs ≡ 16) where
     pub named_step : (out : List Float) (j e : ℕ) (d y : Float) → j < 16 → length out ≡ 16
@@ -51,7 +51,7 @@ module _ (x : ℕ) (a : Float) where
           take-suc (named x a is vs) j d (omega (arith, ln)),
           p,
           q,
-          getD-named is vs j e d (omega arith) (omega arith),
+          get_d-named is vs j e d (omega arith) (omega arith),
         )
 
     pub named_end : (out : List Float) (j : ℕ) → 16 ≤ j → length out ≡ 16 → take j out ≡ take j (named x a is vs) → out ≡ named x a is vs

@@ -1,17 +1,17 @@
 -- One note of the panel as the note of a cycle, and what the code does with it, its instrument at hand.
 use Rattle.std.specs.Prelude.{Bool, true, false, cond, ◌&&◌, List, [], ◌∷◌, ℕ, ◌+◌, take, eqb, Float}
 use Rattle.std.specs.Float.Ieee.{eq}
-use Rattle.base_timebase.specs.Time.{ticksIn, endless as withoutEnd}
+use Rattle.base_timebase.specs.Time.{ticks_in, endless as without_end}
 use Rattle.score_line.specs.declared.Label.{Label}
 use Rattle.score_line.specs.declared.Line.{Line}
 use Rattle.code_interpreter.specs.Passes.{stretch, fresh_of, once, played}
-use Rattle.code_interpreter.specs.WorkingArea.{numbersIn, areaPlayed}
-use Rattle.note_state.specs.Notes.{newNote, withValues}
+use Rattle.code_interpreter.specs.WorkingArea.{numbers_in, area_played}
+use Rattle.note_state.specs.Notes.{new_note, with_values}
 use Rattle.note_state.specs.declared.Note.{Note}
 use Rattle.note_state.specs.declared.NoteLabel.{NoteLabel}
-use Rattle.midi_keys.specs.Keys.{frequencyOf, normalizedVelocity}
+use Rattle.midi_keys.specs.Keys.{frequency_of, normalized_velocity}
 use Rattle.midi_messages.specs.declared.NoteMessage.{NoteMessage}
-use Rattle.player_model.specs.Cycle.{isLabelled, labelNumber, is_held, goesOn}
+use Rattle.player_model.specs.Cycle.{is_labelled, label_number, is_held, goes_on}
 use Rattle.player_model.specs.Cycle as cycle
 use Rattle.code_program.specs.declared.Instrument.{Instrument}
 use Rattle.voices_compiled.specs.Voices.{VoiceState, named}
@@ -33,51 +33,51 @@ note_of n =
 
 abbrev pub struct_of : cycle.Note VoiceState → Note
 struct_of n =
-    newNote n.state.values (record { given = n.labelled; symbol = n.label }) n.state.instrument (record { never = n.endless; at = n.end }) n.priority
+    new_note n.state.values (record { given = n.labelled; symbol = n.label }) n.state.instrument (record { never = n.endless; at = n.end }) n.priority
     (record { keyed = n.keyed; channel = n.channel; key = n.key; released = n.released })
 
 -- a line's label, as its note has it
 abbrev pub label_of : Label → NoteLabel
-label_of label = record { given = isLabelled label; symbol = labelNumber label }
+label_of label = record { given = is_labelled label; symbol = label_number label }
 
 -- the note that a line starts, its i pass run
-unfoldable pub bornNote : List ℕ → List Float → Instrument → Line → ℕ → Label → ℕ → Float → Note
-bornNote code vals x l position label name duration =
-    newNote (once vals (stretch x.istart x.iend code) (fresh_of (take x.fields (take l.count l.values)))) (label_of label) name
-    (record { never = eq duration withoutEnd; at = position + ticksIn duration }) l.priority (record { keyed = false; channel = 0; key = 0; released = false })
+unfoldable pub born_note : List ℕ → List Float → Instrument → Line → ℕ → Label → ℕ → Float → Note
+born_note code vals x l position label name duration =
+    new_note (once vals (stretch x.istart x.iend code) (fresh_of (take x.fields (take l.count l.values)))) (label_of label) name
+    (record { never = eq duration without_end; at = position + ticks_in duration }) l.priority (record { keyed = false; channel = 0; key = 0; released = false })
 
 -- the note that a note-on starts
-unfoldable pub noteFromKey : List ℕ → List Float → Instrument → ℕ → NoteMessage → Note
-noteFromKey code vals x name m =
-    newNote (once vals (stretch x.istart x.iend code) (fresh_of (take x.fields (frequencyOf m.key ∷ normalizedVelocity m.velocity ∷ []))))
+unfoldable pub note_from_key : List ℕ → List Float → Instrument → ℕ → NoteMessage → Note
+note_from_key code vals x name m =
+    new_note (once vals (stretch x.istart x.iend code) (fresh_of (take x.fields (frequency_of m.key ∷ normalized_velocity m.velocity ∷ []))))
     (record { given = false; symbol = 0 }) name (record { never = true; at = 0 }) false
     (record { keyed = true; channel = m.channel; key = m.key; released = false })
 
-unfoldable pub controlledNote : Instrument → Note → ℕ → ℕ → Float → Note
-controlledNote x n label variable value =
-    cond (n.label.given && eqb label n.label.symbol) (withValues (named variable value x.imports n.values) n) n
+unfoldable pub controlled_note : Instrument → Note → ℕ → ℕ → Float → Note
+controlled_note x n label variable value =
+    cond (n.label.given && eqb label n.label.symbol) (with_values (named variable value x.imports n.values) n) n
 
-unfoldable pub kNote : List ℕ → List Float → Instrument → Note → Note
-kNote code vals x n = withValues (once vals (stretch x.kstart x.kend code) n.values) n
+unfoldable pub k_note : List ℕ → List Float → Instrument → Note → Note
+k_note code vals x n = with_values (once vals (stretch x.kstart x.kend code) n.values) n
 
-unfoldable pub ranNote : List ℕ → List Float → Instrument → Note → List Float → Note
-unfolding kNote
-ranNote code vals x n mix =
-    withValues (played vals (stretch x.astart x.aend code) (kNote code vals x n).values mix).values (kNote code vals x n)
+unfoldable pub ran_note : List ℕ → List Float → Instrument → Note → List Float → Note
+unfolding k_note
+ran_note code vals x n mix =
+    with_values (played vals (stretch x.astart x.aend code) (k_note code vals x n).values mix).values (k_note code vals x n)
 
-unfoldable pub ranMix : List ℕ → List Float → Instrument → Note → List Float → List Float
-unfolding kNote
-ranMix code vals x n mix = (played vals (stretch x.astart x.aend code) (kNote code vals x n).values mix).mix
+unfoldable pub ran_mix : List ℕ → List Float → Instrument → Note → List Float → List Float
+unfolding k_note
+ran_mix code vals x n mix = (played vals (stretch x.astart x.aend code) (k_note code vals x n).values mix).mix
 
 -- and the room that it leaves
-unfoldable pub ranArea : List ℕ → List Float → Instrument → Note → List Float → List Float
-unfolding kNote
-ranArea code room x n mix = areaPlayed room (stretch x.astart x.aend code) (kNote code (numbersIn room) x n).values mix
+unfoldable pub ran_area : List ℕ → List Float → Instrument → Note → List Float → List Float
+unfolding k_note
+ran_area code room x n mix = area_played room (stretch x.astart x.aend code) (k_note code (numbers_in room) x n).values mix
 
 -- an unmarked note of a key of a channel
-abbrev pub isHeldIn : ℕ → ℕ → Note → Bool
-isHeldIn channel key n = is_held channel key (note_of n)
+abbrev pub is_held_in : ℕ → ℕ → Note → Bool
+is_held_in channel key n = is_held channel key (note_of n)
 
 -- a note that goes on
-abbrev pub goesOnIn : ℕ → Note → Bool
-goesOnIn position n = goesOn position (note_of n)
+abbrev pub goes_on_in : ℕ → Note → Bool
+goes_on_in position n = goes_on position (note_of n)

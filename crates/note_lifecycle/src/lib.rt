@@ -2,12 +2,12 @@
 ghost use Rattle.std.specs.Prelude.{◌≡◌, cond, ◌<◌, ◌≤◌, ◌+◌, T, take};
 ghost use Rattle.std.specs.Float.{binary32};
 ghost use Rattle.std.specs.Float.Ieee.{fits};
-ghost use Rattle.player_model.specs.Cycle.{positionLimit, goesOn};
+ghost use Rattle.player_model.specs.Cycle.{position_limit, goes_on};
 ghost use Rattle.code_interpreter.specs.Passes.{stretch, fresh_of, once};
-ghost use Rattle.note_state.specs.Notes.{withValues};
-ghost use Rattle.code_interpreter.specs.WorkingArea.{numbersIn};
+ghost use Rattle.note_state.specs.Notes.{with_values};
+ghost use Rattle.code_interpreter.specs.WorkingArea.{numbers_in};
 ghost use Rattle.voices_compiled.specs.Voices.{named};
-ghost use Rattle.note_lifecycle.specs.OneNote.{note_of, label_of, bornNote, noteFromKey, isHeldIn, controlledNote, ranNote, ranMix, ranArea};
+ghost use Rattle.note_lifecycle.specs.OneNote.{note_of, label_of, born_note, note_from_key, is_held_in, controlled_note, ran_note, ran_mix, ran_area};
 
 use code_program::Instrument;
 use midi_messages::NoteMessage;
@@ -65,7 +65,7 @@ fn fresh_values(given: [f32; 8], count: usize, fields: usize) -> [f32; 16]
 
 // A new note after its i pass.
 fn after_i_pass<'a>(code: &'a [u64], vals: &'a [f32], x: Instrument, note: Note) -> Note
-    ensures { result ≡ withValues (once vals.now (stretch x.istart x.iend code.now) note.values) note }
+    ensures { result ≡ with_values (once vals.now (stretch x.istart x.iend code.now) note.values) note }
 {
     let mut room = code_interpreter::working_area(vals);
     code_interpreter::run_pass(code, x.istart, x.iend, &mut room, note)
@@ -82,8 +82,8 @@ pub fn note_from_line<'a>(
     name: u16,
     duration: f32,
 ) -> Note
-    requires { position ≤ positionLimit }
-    ensures { result ≡ bornNote code.now vals.now x l position label name duration }
+    requires { position ≤ position_limit }
+    ensures { result ≡ born_note code.now vals.now x l position label name duration }
 {
     let given = l.values;
     let values = fresh_values(given, l.count, x.fields);
@@ -110,7 +110,7 @@ pub fn note_from_key<'a>(
     name: u16,
     m: NoteMessage,
 ) -> Note
-    ensures { result ≡ noteFromKey code.now vals.now x name m }
+    ensures { result ≡ note_from_key code.now vals.now x name m }
 {
     let mut given = [0.0f32; 8];
     given[0] = midi_keys::frequency(m.key);
@@ -133,7 +133,7 @@ pub fn note_from_key<'a>(
 
 // A control line's effect on one note.
 pub fn controlled_note(x: Instrument, n: Note, label: u16, variable: u16, value: f32) -> Note
-    ensures { result ≡ controlledNote x n label variable value }
+    ensures { result ≡ controlled_note x n label variable value }
 {
     if n.label.given {
         if n.label.symbol == label {
@@ -148,7 +148,7 @@ pub fn controlled_note(x: Instrument, n: Note, label: u16, variable: u16, value:
 
 // An unmarked note of a key of a channel.
 pub fn is_held(n: Note, channel: u8, key: u8) -> bool
-    ensures { result ≡ isHeldIn channel key n }
+    ensures { result ≡ is_held_in channel key n }
 {
     if n.origin.keyed {
         if n.origin.channel == channel {
@@ -168,17 +168,17 @@ pub fn run_note(
     n: Note,
     mix: &mut [f32],
 ) -> Note
-    ensures note { result ≡ ranNote code.now (numbersIn room.old) x n mix.old }
-    ensures mix { mix.new ≡ ranMix code.now (numbersIn room.old) x n mix.old }
-    ensures same { numbersIn room.new ≡ numbersIn room.old }
-    ensures room { room.new ≡ ranArea code.now room.old x n mix.old }
+    ensures note { result ≡ ran_note code.now (numbers_in room.old) x n mix.old }
+    ensures mix { mix.new ≡ ran_mix code.now (numbers_in room.old) x n mix.old }
+    ensures same { numbers_in room.new ≡ numbers_in room.old }
+    ensures room { room.new ≡ ran_area code.now room.old x n mix.old }
 {
     let k = code_interpreter::run_pass(code, x.kstart, x.kend, room, n);
     code_interpreter::run_a_passes(code, x.astart, x.aend, room, k, mix)
 }
 
 pub fn goes_on(n: Note, position: u64) -> bool
-    ensures { result ≡ goesOn position (note_of n) }
+    ensures { result ≡ goes_on position (note_of n) }
 {
     if n.origin.released {
         return false;

@@ -2,11 +2,11 @@
 use Rattle.std.specs.Prelude.{◌≡◌, ◌+◌, ◌≤◌, length, drop}
 use Rattle.player_model.specs.Cycle as cycle
 use Rattle.voices_compiled.specs.Voices.{VoiceState}
-use Rattle.note_pool.specs.Notes.{startedIn}
+use Rattle.note_pool.specs.Notes.{started_in}
 use Rattle.note_pool.specs.declared.Started.{Started}
 
 pub record StartedBy (s : cycle.Started VoiceState) (v r : Started) : Type 0 where
-  pub are : startedIn r.notes r.count r.missed ≡ s
+  pub are : started_in r.notes r.count r.missed ≡ s
   pub room : r.count ≤ 16
   pub more : v.count ≤ r.count
   pub few : r.missed ≤ v.missed + 1

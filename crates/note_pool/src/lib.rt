@@ -2,9 +2,9 @@
 // (document 01, "One cycle, in order", steps 3 and 7, and what a note-off does).
 ghost use Rattle.std.specs.Prelude.{◌≡◌, ◌<◌, ◌≤◌, ◌+◌, length, take, set};
 ghost use Rattle.player_model.specs.Lists.{filter, over};
-ghost use Rattle.player_model.specs.Cycle.{releaseOldest};
-ghost use Rattle.note_lifecycle.specs.OneNote.{goesOnIn};
-ghost use Rattle.note_pool.specs.Notes.{notesIn, oldestWithoutPriority, withoutElement};
+ghost use Rattle.player_model.specs.Cycle.{release_oldest};
+ghost use Rattle.note_lifecycle.specs.OneNote.{goes_on_in};
+ghost use Rattle.note_pool.specs.Notes.{notes_in, oldest_without_priority, without_element};
 ghost use Rattle.note_pool.specs.Started.{StartedBy};
 
 use note_state::Note;
@@ -58,7 +58,7 @@ pub fn with_miss(v: Started) -> Started
 // The place of the oldest note without priority; with none, how many notes there are.
 pub fn oldest_without_priority(v: Started) -> usize
     requires { v.count ≤ 16 }
-    ensures { result ≡ oldestWithoutPriority (take v.count v.notes) }
+    ensures { result ≡ oldest_without_priority (take v.count v.notes) }
 {
     let notes = v.notes;
     let count = v.count;
@@ -76,7 +76,7 @@ pub fn oldest_without_priority(v: Started) -> usize
 // The note at a place cut off: the later ones move down, what lies behind them stays, and one more is missed.
 pub fn cut_off(v: Started, place: usize) -> Started
     requires { (place < v.count) × (v.count ≤ 16) × (v.missed < 128) }
-    ensures { (result.notes ≡ over (withoutElement place (take v.count v.notes)) v.notes) × (result.count + 1 ≡ v.count) × (result.missed ≡ v.missed + 1) }
+    ensures { (result.notes ≡ over (without_element place (take v.count v.notes)) v.notes) × (result.count + 1 ≡ v.count) × (result.missed ≡ v.missed + 1) }
 {
     let notes = v.notes;
     let m = v.count - 1;
@@ -97,7 +97,7 @@ pub fn cut_off(v: Started, place: usize) -> Started
 // What a note-off does: the oldest unmarked note of its key and channel is marked for removal.
 pub fn release_oldest(v: Started, channel: u8, key: u8) -> Started
     requires { v.count ≤ 16 }
-    ensures { StartedBy (record { notes = releaseOldest channel key (notesIn v.notes v.count); missed = v.missed }) v result }
+    ensures { StartedBy (record { notes = release_oldest channel key (notes_in v.notes v.count); missed = v.missed }) v result }
 {
     let notes = v.notes;
     let count = v.count;
@@ -120,7 +120,7 @@ pub fn release_oldest(v: Started, channel: u8, key: u8) -> Started
 
 // Step 7: the notes that go on, in order; what lies behind them stays.
 pub fn remaining(notes: [Note; MOST_NOTES], count: usize, position: u64) -> Notes
-    ensures { (result.count ≡ length (filter (goesOnIn position) (take count notes))) × (result.notes ≡ over (filter (goesOnIn position) (take count notes)) notes) × (result.count ≤ 16) }
+    ensures { (result.count ≡ length (filter (goes_on_in position) (take count notes))) × (result.notes ≡ over (filter (goes_on_in position) (take count notes)) notes) × (result.count ≤ 16) }
 {
     let m = base_numbers::at_most(count, MOST_NOTES);
     let mut a = notes;

@@ -1,6 +1,6 @@
 // A note that sounds, of its parts.
 ghost use Rattle.std.specs.Prelude.{◌≡◌};
-ghost use Rattle.note_state.specs.Notes.{newNote, withValues, release};
+ghost use Rattle.note_state.specs.Notes.{new_note, with_values, release};
 
 // How many values a note holds.
 const VALUES: usize = 16;
@@ -47,7 +47,7 @@ pub fn new_note(
     priority: bool,
     origin: NoteOrigin,
 ) -> Note
-    ensures { result ≡ newNote values label instrument end priority origin }
+    ensures { result ≡ new_note values label instrument end priority origin }
 {
     Note {
         values: values,
@@ -73,7 +73,7 @@ pub fn release(note: Note) -> Note
 
 // A note with other values.
 pub fn with_values(note: Note, values: [f32; VALUES]) -> Note
-    ensures { result ≡ withValues values note }
+    ensures { result ≡ with_values values note }
 {
     let label = note.label;
     let end = note.end;

@@ -4,14 +4,14 @@ use native.Mathlib.Omega.{arith}
 use mathlib.Core.Path.{refl}
 use mathlib.Core.List.{List, [], ◌∷◌, ◌++◌}
 use lib.Ieee.{binary32, of_bits, of_int, to_bits, fits, size, neg, add, sub, mul, div, round, lt, le, eq, ne}
-use Rattle.base_float32.specs.Builtins.{absOf, sgnOf, int_of, fracOf, minOf, max_of, flagOf, truth, either_of, bothOf, notOf}
+use Rattle.base_float32.specs.Builtins.{abs_of, sgn_of, int_of, frac_of, min_of, max_of, flag_of, truth, either_of, both_of, not_of}
 use Rattle.orchestra_signs.specs.Signs as S
 use Rattle.orchestra_tokens.specs.declared.Token.{Token}
 use Rattle.orchestra_tokens.specs.declared.Token.TheVariants.{Symbol, Whole}
-use Rattle.orchestra_tokens.specs.Encoding.{allValid, encoded, bytes_of}
-use Rattle.orchestra_tokens.specs.Measures.{opened, since, bracketsWithin, stretchesWithin}
-use Rattle.orchestra_syntax.specs.Names.{named, named_by, has, apart, known_in, known, allObeyNameRules}
-use Rattle.orchestra_syntax.specs.Rates.{rateOf, rate, obeysRateRules, rateRules}
+use Rattle.orchestra_tokens.specs.Encoding.{all_valid, encoded, bytes_of}
+use Rattle.orchestra_tokens.specs.Measures.{opened, since, brackets_within, stretches_within}
+use Rattle.orchestra_syntax.specs.Names.{named, named_by, has, apart, known_in, known, all_obey_name_rules}
+use Rattle.orchestra_syntax.specs.Rates.{rate_of, rate, obeys_rate_rules, rate_rules}
 use Rattle.orchestra_syntax.specs.Grammar as G
 use Rattle.orchestra_syntax.specs.Grammar.{sign, Orchestra, Binds, Call, Call2, Prefix, whole, prefixed, bracketed, called, called2, sides, chosen, set, out, either, one, more, is, last}
 use Rattle.orchestra_reader.specs.Verdict.{Sized, Accepted}
@@ -29,22 +29,22 @@ g k = sign k ∷ []
 
 abbrev tokens : List Token
 tokens =
-    g S.instr ++ s 1 ++ g S.roundOpen ++ s 2 ++ g S.comma ++ s 3 ++ g S.roundClose ++ g S.curlyOpen
+    g S.instr ++ s 1 ++ g S.round_open ++ s 2 ++ g S.comma ++ s 3 ++ g S.round_close ++ g S.curly_open
     ++ g S.ivar ++ s 4 ++ g S.comma ++ s 8 ++ g S.comma ++ s 9 ++ g S.semicolon ++ g S.ksig ++ s 5 ++ g S.semicolon ++ g S.asig ++ s 6 ++ g S.semicolon ++ g S.imports ++ g S.ksig ++ s 7 ++ g S.semicolon
-    ++ s 4 ++ g S.becomes ++ g S.min ++ g S.roundOpen ++ s 2 ++ g S.comma ++ w 9 ++ g S.roundClose ++ g S.- ++ g S.max ++ g S.roundOpen ++ s 3 ++ g S.comma ++ w 1 ++ g S.roundClose ++ g S.semicolon
+    ++ s 4 ++ g S.becomes ++ g S.min ++ g S.round_open ++ s 2 ++ g S.comma ++ w 9 ++ g S.round_close ++ g S.- ++ g S.max ++ g S.round_open ++ s 3 ++ g S.comma ++ w 1 ++ g S.round_close ++ g S.semicolon
     ++ s 8 ++ g S.becomes ++ w 1 ++ g S./ ++ g S.- ++ w 0 ++ g S.semicolon ++ s 9 ++ g S.becomes ++ s 8 ++ g S.- ++ s 8 ++ g S.semicolon
-    ++ g S.if ++ g S.roundOpen ++ s 5 ++ g S.== ++ w 0 ++ g S.|| ++ s 7 ++ g S.!= ++ w 0 ++ g S.&& ++ g S.! ++ s 5 ++ g S.roundClose
-    ++ g S.curlyOpen ++ s 5 ++ g S.becomes ++ s 4 ++ g S.* ++ w 3 ++ g S./ ++ w 2 ++ g S.semicolon ++ g S.curlyClose
-    ++ g S.else ++ g S.curlyOpen ++ s 5 ++ g S.becomes ++ w 7 ++ g S.semicolon ++ g S.curlyClose
-    ++ s 6 ++ g S.becomes ++ s 5 ++ g S.< ++ w 4 ++ g S.question ++ g S.abs ++ g S.roundOpen ++ s 4 ++ g S.roundClose ++ g S.colon
-    ++ g S.int ++ g S.roundOpen ++ s 5 ++ g S.roundClose ++ g S.+ ++ g S.frac ++ g S.roundOpen ++ s 5 ++ g S.roundClose ++ g S.semicolon
-    ++ g S.output ++ g S.roundOpen ++ s 6 ++ g S.> ++ w 4 ++ g S.question ++ s 6 ++ g S.colon ++ g S.sgn ++ g S.roundOpen ++ s 6 ++ g S.roundClose ++ g S.roundClose ++ g S.semicolon
-    ++ g S.output ++ g S.roundOpen ++ g S.roundOpen ++ s 6 ++ g S.>= ++ w 4 ++ g S.roundClose ++ g S.+ ++ g S.roundOpen ++ s 6 ++ g S.<= ++ w 4 ++ g S.roundClose ++ g S.roundClose ++ g S.semicolon
-    ++ g S.output ++ g S.roundOpen ++ s 9 ++ g S.&& ++ g S.int ++ g S.roundOpen ++ s 8 ++ g S.roundClose ++ g S.< ++ w 0 ++ g S.question ++ g S.- ++ s 3 ++ g S.colon ++ w 0 ++ g S.roundClose ++ g S.semicolon
-    ++ g S.curlyClose
+    ++ g S.if ++ g S.round_open ++ s 5 ++ g S.== ++ w 0 ++ g S.|| ++ s 7 ++ g S.!= ++ w 0 ++ g S.&& ++ g S.! ++ s 5 ++ g S.round_close
+    ++ g S.curly_open ++ s 5 ++ g S.becomes ++ s 4 ++ g S.* ++ w 3 ++ g S./ ++ w 2 ++ g S.semicolon ++ g S.curly_close
+    ++ g S.else ++ g S.curly_open ++ s 5 ++ g S.becomes ++ w 7 ++ g S.semicolon ++ g S.curly_close
+    ++ s 6 ++ g S.becomes ++ s 5 ++ g S.< ++ w 4 ++ g S.question ++ g S.abs ++ g S.round_open ++ s 4 ++ g S.round_close ++ g S.colon
+    ++ g S.int ++ g S.round_open ++ s 5 ++ g S.round_close ++ g S.+ ++ g S.frac ++ g S.round_open ++ s 5 ++ g S.round_close ++ g S.semicolon
+    ++ g S.output ++ g S.round_open ++ s 6 ++ g S.> ++ w 4 ++ g S.question ++ s 6 ++ g S.colon ++ g S.sgn ++ g S.round_open ++ s 6 ++ g S.round_close ++ g S.round_close ++ g S.semicolon
+    ++ g S.output ++ g S.round_open ++ g S.round_open ++ s 6 ++ g S.>= ++ w 4 ++ g S.round_close ++ g S.+ ++ g S.round_open ++ s 6 ++ g S.<= ++ w 4 ++ g S.round_close ++ g S.round_close ++ g S.semicolon
+    ++ g S.output ++ g S.round_open ++ s 9 ++ g S.&& ++ g S.int ++ g S.round_open ++ s 8 ++ g S.round_close ++ g S.< ++ w 0 ++ g S.question ++ g S.- ++ s 3 ++ g S.colon ++ w 0 ++ g S.round_close ++ g S.semicolon
+    ++ g S.curly_close
 
 sized : Sized bytes tokens
-unfolding allValid encoded bytes_of opened since bracketsWithin stretchesWithin
+unfolding all_valid encoded bytes_of opened since brackets_within stretches_within
 sized = record { short = omega arith; encodes = record { listed = refl; encoded = refl }; within = refl }
 
 derived : Orchestra (instrument ∷ []) tokens
@@ -72,9 +72,9 @@ derived =
     G.Stmts.none)))))))))
 
 accepted : Accepted bytes (instrument ∷ [])
-unfolding named named_by has apart known_in known allObeyNameRules rateOf rate obeysRateRules rateRules
+unfolding named named_by has apart known_in known all_obey_name_rules rate_of rate obeys_rate_rules rate_rules
 accepted = record { tokens = tokens; sized = sized; derived = derived; named = refl; rated = refl }
 
 pub every-sign-works : Works
-unfolding M.birth M.cycle M.aPasses M.pass M.value M.fresh named named_by rateOf absOf sgnOf int_of fracOf minOf max_of flagOf truth either_of bothOf notOf neg add sub mul div round of_bits of_int lt le eq ne
+unfolding M.birth M.cycle M.a_passes M.pass M.value M.fresh named named_by rate_of abs_of sgn_of int_of frac_of min_of max_of flag_of truth either_of both_of not_of neg add sub mul div round of_bits of_int lt le eq ne
 every-sign-works = record { accepted = accepted; s4 = refl; s8 = refl; s9 = refl; first = refl; second = refl }

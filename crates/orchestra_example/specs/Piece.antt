@@ -2,9 +2,9 @@
 use Rattle.std.specs.Prelude.{ℕ, ◌≡◌, List, [], ◌∷◌, ◌++◌, Float, pos}
 use Rattle.std.specs.Float.{nan, binary32}
 use Rattle.std.specs.Float.Ieee.{of_bits, of_int}
-use Rattle.base_float32.specs.Builtins.{zeroF}
+use Rattle.base_float32.specs.Builtins.{zero_f}
 use Rattle.orchestra_signs.specs.Operators as O
-use Rattle.orchestra_syntax.specs.Tree.{Expr, number, name, unary, binary, choose, done, assign, output, branch, Instrument, ivarKind, ksigKind, asigKind, importsKind}
+use Rattle.orchestra_syntax.specs.Tree.{Expr, number, name, unary, binary, choose, done, assign, output, branch, Instrument, ivar_kind, ksig_kind, asig_kind, imports_kind}
 use Rattle.orchestra_reader.specs.Verdict.{Accepted}
 use Rattle.orchestra_semantics.specs.Meaning.{Memory, Played, birth, cycle}
 
@@ -57,8 +57,8 @@ instrument =
       name = 1;
       fields = 2 ∷ 3 ∷ [];
       declarations =
-          record { kind = ivarKind; names = 4 ∷ 8 ∷ 9 ∷ [] } ∷ record { kind = ksigKind; names = 5 ∷ [] } ∷ record { kind = asigKind; names = 6 ∷ [] }
-          ∷ record { kind = importsKind; names = 7 ∷ [] } ∷ [];
+          record { kind = ivar_kind; names = 4 ∷ 8 ∷ 9 ∷ [] } ∷ record { kind = ksig_kind; names = 5 ∷ [] } ∷ record { kind = asig_kind; names = 6 ∷ [] }
+          ∷ record { kind = imports_kind; names = 7 ∷ [] } ∷ [];
       body =
           assign 4 (binary O.minus (binary O.least (name 2) (n 9)) (binary O.greatest (name 3) (n 1)))
           (assign 8 (binary O.over (n 1) (unary O.negative (n 0)))
@@ -78,10 +78,10 @@ abbrev pub born : Memory
 born = (birth instrument (of_bits binary32 0x40a00000 ∷ of_bits binary32 0x40000000 ∷ [])).memory
 
 abbrev pub once : Played
-once = cycle instrument born (zeroF ∷ [])
+once = cycle instrument born (zero_f ∷ [])
 
 abbrev pub twice : Played
-twice = cycle instrument once.memory (zeroF ∷ [])
+twice = cycle instrument once.memory (zero_f ∷ [])
 
 -- It is accepted as this tree; s4 is 3, s8 minus infinity, since - 0 is -0, and s9 not a number, which counts as true. In the first cycle s5 is 4.5 and
 -- the sample 4.5 + 1 - 2, in the second s5 is 7 and the sample 7 + 1 - 2.

@@ -4,18 +4,18 @@ use lib.Ieee.{Float, binary32, of_int}
 use Rattle.orchestra_tokens.specs.inside.Token.{toks}
 use Rattle.orchestra_tokens.specs.declared.Token.{Token}
 use Rattle.orchestra_tokens.specs.declared.Token.TheVariants.{Whole, Sign}
-use Rattle.orchestra_syntax.specs.inside.Program.{Ins, numberOp}
+use Rattle.orchestra_syntax.specs.inside.Program.{Ins, number_op}
 use Rattle.orchestra_expressions.specs.declared.PrefixToken.TheVariants.{Push}
 use Rattle.orchestra_expressions.specs.declared.ParseState.{ParseState}
 use Rattle.orchestra_expressions.specs.declared.ParseState.TheVariants.{Next, Refused}
-use Rattle.orchestra_expressions.specs.Roles.{prefix_of, isSign, signL}
-use Rattle.orchestra_expressions.specs.Areas.{Areas, areas, stored_at, oneMore, passed, Place}
+use Rattle.orchestra_expressions.specs.Roles.{prefix_of, is_sign, sign_l}
+use Rattle.orchestra_expressions.specs.Areas.{Areas, areas, stored_at, one_more, passed, Place}
 use Rattle.orchestra_expressions.proofs.Toks.{length-toks}
 
-pub whole-head : {t : Token} {w : ℕ} {x : Float} → t ≡ Whole w → x ≡ of_int binary32 (pos w) → Push numberOp 0 x ≡ prefix_of t
+pub whole-head : {t : Token} {w : ℕ} {x : Float} → t ≡ Whole w → x ≡ of_int binary32 (pos w) → Push number_op 0 x ≡ prefix_of t
 whole-head e f = rw (e, f)
 
-pub sign-told : {t : Token} {k : ℕ} (s : ℕ) → t ≡ Sign k → eqb k s ≡ isSign t s
+pub sign-told : {t : Token} {k : ℕ} (s : ℕ) → t ≡ Sign k → eqb k s ≡ is_sign t s
 sign-told s e = rw e
 
 -- what says more than past the end stands at a token
@@ -25,13 +25,13 @@ in-tokens f [] (suc at) n = absurd (n refl)
 in-tokens f (t ∷ ts) zero n = omega arith
 in-tokens f (t ∷ ts) (suc at) n = let h = in-tokens f ts at n in omega arith
 
-pub sign-in : (ts : List Token) (at s : ℕ) → signL (drop at ts) s ≡ true → at < length ts
-sign-in ts at s e = in-tokens (λ l. signL l s) ts at (λ n. let z : ◌≡◌ {A = ℕ} 0 1 = cc in omega arith)
+pub sign-in : (ts : List Token) (at s : ℕ) → sign_l (drop at ts) s ≡ true → at < length ts
+sign-in ts at s e = in-tokens (λ l. sign_l l s) ts at (λ n. let z : ◌≡◌ {A = ℕ} 0 1 = cc in omega arith)
 
-pub sign_fits : (ks ws : List ℕ) (xs : List Float) (at s : ℕ) {b : Bool} → b ≡ signL (drop at (toks ks ws xs)) s → b ≡ true → at < length ks
+pub sign_fits : (ks ws : List ℕ) (xs : List Float) (at s : ℕ) {b : Bool} → b ≡ sign_l (drop at (toks ks ws xs)) s → b ≡ true → at < length ks
 sign_fits ks ws xs at s e f = rw length-toks at (sign-in (toks ks ws xs) at s (sym e ∙ f))
 
-module _ (ts : List Token) {g : ParseState} {at out : ℕ} (s : ℕ) {b : Bool} (q : g ≡ Next at out) (e : b ≡ signL (drop at ts) s) where
+module _ (ts : List Token) {g : ParseState} {at out : ℕ} (s : ℕ) {b : Bool} (q : g ≡ Next at out) (e : b ≡ sign_l (drop at ts) s) where
   pub passed_on : b ≡ true → Next (at + 1) out ≡ passed s ts g
   passed_on f = rw (q, ← e, f)
 
@@ -48,10 +48,10 @@ module _ {g : ParseState} {a b : List ℕ} {x : List Float} where
   pub place-vals : {at out : ℕ} → Place g (areas a b x) → g ≡ Next at out → out < length x
   place-vals p q = omega (arith, (p.fits _ _ q).vals)
 
-pub more-on : {g : ParseState} {at out : ℕ} → g ≡ Next at out → Next at (out + 1) ≡ oneMore g
+pub more-on : {g : ParseState} {at out : ℕ} → g ≡ Next at out → Next at (out + 1) ≡ one_more g
 more-on q = rw q
 
-pub more-gone : {g : ParseState} → g ≡ Refused → Refused ≡ oneMore g
+pub more-gone : {g : ParseState} → g ≡ Refused → Refused ≡ one_more g
 more-gone q = rw q
 
 pub stored_on : {g : ParseState} {at out : ℕ} (a b : List ℕ) (x : List Float) (o n : ℕ) (v : Float) → g ≡ Next at out

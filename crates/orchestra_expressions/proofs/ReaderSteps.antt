@@ -3,16 +3,16 @@ use Rattle.std.proofs.Common.{◌≡◌, ℕ, zero, suc, ◌+◌, ◌-◌, ◌<�
 use Rattle.orchestra_tokens.specs.declared.Token.{Token}
 use Rattle.orchestra_tokens.specs.declared.Token.TheVariants.{Number}
 use Rattle.orchestra_syntax.specs.Tree.{Expr, number}
-use Rattle.orchestra_syntax.specs.inside.Program.{Ins, zeroF, ins, compile}
+use Rattle.orchestra_syntax.specs.inside.Program.{Ins, zero_f, ins, compile}
 use Rattle.orchestra_syntax.specs.Grammar.{Derives, real, whole, named, prefixed, bracketed, called, called2, sides, chosen}
 use Rattle.orchestra_expressions.specs.declared.PrefixToken.{PrefixToken}
 use Rattle.orchestra_expressions.specs.declared.PrefixToken.TheVariants.{Push, Unary, Open, Call, Call2, Bad}
 use Rattle.orchestra_expressions.specs.declared.InfixToken.{InfixToken}
 use Rattle.orchestra_expressions.specs.declared.InfixToken.TheVariants.{Binary, Question, Stop}
-use Rattle.orchestra_expressions.specs.Roles.{prefix_of, infixOf, prefixL, infixL}
-use Rattle.orchestra_expressions.specs.Reader.{Res, prepend, seq, emit, Sys, lastly, byPrefix, parts, byInfix, step, deep, reader}
+use Rattle.orchestra_expressions.specs.Roles.{prefix_of, infix_of, prefix_l, infix_l}
+use Rattle.orchestra_expressions.specs.Reader.{Res, prepend, seq, emit, Sys, lastly, by_prefix, parts, by_infix, step, deep, reader}
 use Rattle.orchestra_expressions.proofs.Tables.{heads}
-use Rattle.orchestra_expressions.proofs.Sound.{Sound, fit-any, right-sound, parts-sound, byHead-sound, deep-sound}
+use Rattle.orchestra_expressions.proofs.Sound.{Sound, fit-any, right-sound, parts-sound, by_head-sound, deep-sound}
 pub use Rattle.orchestra_expressions.proofs.Results.{by_arm, All, none, some, All-weaken, All-seq, All-cond, All-if, Signed, signed, All-sign, Reads, reads, All-read}
 
 -- ---- no more code than tokens
@@ -46,7 +46,7 @@ bounded S X = record {
   expr = λ m ts. All-weaken (X.expr m ts) (λ c r p. took-tree r p.derives.0 p.eq p.code);
   -- behind a number
   more = λ m ts.
-      All-weaken (X.more m ts (number zeroF) (Number zeroF ∷ []) (real zeroF) (fit-any (infixL ts) (λ j. real zeroF)))
+      All-weaken (X.more m ts (number zero_f) (Number zero_f ∷ []) (real zero_f) (fit-any (infix_l ts) (λ j. real zero_f)))
       (λ c r p. let h = took-tree r p.derives.0 p.eq p.code in omega (arith, h.0));
 }
 
@@ -100,16 +100,16 @@ module _ (S R : Sys) (b : ℕ) (X : Sound S) (A : Agree b S R) where
       let x = ap length h.1 in
       seq-same _ _ (B.expr 0 p) (A.expr 0 p (omega arith)) (λ d q g. refl))
 
-  byHead-same : (h : PrefixToken) (ts : List Token) → length ts < b → byPrefix S h ts ≡ byPrefix R h ts
-  byHead-same (Push o a x) ts lt = refl
-  byHead-same (Unary o) ts lt = seq-same _ _ (B.expr 7 ts) (A.expr 7 ts lt) (λ c r h. refl)
-  byHead-same Open ts lt = seq-same _ _ (B.expr 0 ts) (A.expr 0 ts lt) (λ c r h. refl)
-  byHead-same (Call o) ts lt = lastly-same 15 o ts lt
-  byHead-same (Call2 o) ts lt =
+  by_head-same : (h : PrefixToken) (ts : List Token) → length ts < b → by_prefix S h ts ≡ by_prefix R h ts
+  by_head-same (Push o a x) ts lt = refl
+  by_head-same (Unary o) ts lt = seq-same _ _ (B.expr 7 ts) (A.expr 7 ts lt) (λ c r h. refl)
+  by_head-same Open ts lt = seq-same _ _ (B.expr 0 ts) (A.expr 0 ts lt) (λ c r h. refl)
+  by_head-same (Call o) ts lt = lastly-same 15 o ts lt
+  by_head-same (Call2 o) ts lt =
       seq-same _ _ (signed 15 ts) refl (λ c p h.
       let x = ap length h.1 in
       seq-same _ _ (B.expr 0 p) (A.expr 0 p (omega arith)) (λ d q g. lastly-same 19 o q (omega (arith, g.1))))
-  byHead-same Bad ts lt = refl
+  by_head-same Bad ts lt = refl
 
   parts_same : (ts : List Token) → length ts < b → parts S ts ≡ parts R ts
   parts_same ts lt =
@@ -118,15 +118,15 @@ module _ (S R : Sys) (b : ℕ) (X : Sound S) (A : Agree b S R) where
       let x = ap length g.1 in
       seq-same _ _ (B.expr 0 q) (A.expr 0 q (omega (arith, h.1))) (λ u v w. refl)))
 
-  byTail-same : (h : InfixToken) (m : ℕ) (t : Token) (ts : List Token) → length ts < b → byInfix S h m (t ∷ ts) ≡ byInfix R h m (t ∷ ts)
-  byTail-same (Binary o l) m t ts lt =
+  by_tail-same : (h : InfixToken) (m : ℕ) (t : Token) (ts : List Token) → length ts < b → by_infix S h m (t ∷ ts) ≡ by_infix R h m (t ∷ ts)
+  by_tail-same (Binary o l) m t ts lt =
       cond_same (leb m l) _ _ _
       (seq-same _ _ (right-sound S X o (suc l) ts) (ap (λ z. seq z (emit (ins o))) (A.expr (suc l) ts lt))
       (λ c r h. A.more m r (omega (arith, rest-short h.pre r ts h.eq))))
-  byTail-same Question m t ts lt =
+  by_tail-same Question m t ts lt =
       cond_same (leb m 0) _ _ _
       (seq-same _ _ (parts-sound S X ts) (parts_same ts lt) (λ c r h. A.more m r (omega (arith, rest-short h.pre r ts h.eq))))
-  byTail-same Stop m t ts lt = refl
+  by_tail-same Stop m t ts lt = refl
 
   agree-step : Agree (suc b) (step S) (step R)
   agree-step = record { expr = ex; more = mo }
@@ -134,12 +134,12 @@ module _ (S R : Sys) (b : ℕ) (X : Sound S) (A : Agree b S R) where
       ex : (m : ℕ) (ts : List Token) → length ts < suc b → (step S).expr m ts ≡ (step R).expr m ts
       ex m [] lt = refl
       ex m (t ∷ ts) lt =
-          seq-same _ _ (byHead-sound S X t ts (heads t)) (byHead-same (prefix_of t) ts (omega arith))
+          seq-same _ _ (by_head-sound S X t ts (heads t)) (by_head-same (prefix_of t) ts (omega arith))
           (λ c r h. A.more m r (omega (arith, (took-tree r (h.derives 0) h.eq h.code).1)))
 
       mo : (m : ℕ) (ts : List Token) → length ts < suc b → (step S).more m ts ≡ (step R).more m ts
       mo m [] lt = refl
-      mo m (t ∷ ts) lt = byTail-same (infixOf t) m t ts (omega arith)
+      mo m (t ∷ ts) lt = by_tail-same (infix_of t) m t ts (omega arith)
 
 -- what is deep enough reads alike
 deep-agree : (n k : ℕ) → Agree n (deep n) (deep (n + k))
@@ -159,10 +159,10 @@ reader-agree b = record {
 }
 
 -- the reader's equations
-pub expr·law : (m : ℕ) (ts : List Token) → reader.expr m ts ≡ seq (byPrefix reader (prefixL ts) (drop 1 ts)) (reader.more m)
+pub expr·law : (m : ℕ) (ts : List Token) → reader.expr m ts ≡ seq (by_prefix reader (prefix_l ts) (drop 1 ts)) (reader.more m)
 unfolding reader deep
 expr·law m ts = (agree-step (deep (length ts)) reader (length ts) (deep-sound (length ts)) (reader-agree (length ts))).expr m ts (omega arith)
 
-pub more·law : (m : ℕ) (ts : List Token) → reader.more m ts ≡ byInfix reader (infixL ts) m ts
+pub more·law : (m : ℕ) (ts : List Token) → reader.more m ts ≡ by_infix reader (infix_l ts) m ts
 unfolding reader deep
 more·law m ts = (agree-step (deep (length ts)) reader (length ts) (deep-sound (length ts)) (reader-agree (length ts))).more m ts (omega arith)

@@ -3,7 +3,7 @@ use Rattle.std.proofs.Common.{◌≡◌, ℕ, Bool, true, false, cond, eqb, List
 use Rattle.orchestra_tokens.specs.declared.Token.{Token}
 use Rattle.orchestra_tokens.specs.declared.Token.TheVariants.{Number, Symbol, Whole, Sign}
 use Rattle.orchestra_syntax.specs.inside.Program.{Ins}
-use Rattle.orchestra_expressions.specs.Roles.{signL}
+use Rattle.orchestra_expressions.specs.Roles.{sign_l}
 use Rattle.orchestra_expressions.specs.Reader.{Res, no, ok, prepend, seq, sign}
 
 pub data All (P : List Ins → List Token → Type 0) : Res → Type 0 where
@@ -35,7 +35,7 @@ All-cond {Q} = by_arm (All Q)
 
 -- by whether a sign is there: what is read after it, or something else
 pub All-if : {Q : List Ins → List Token → Type 0} (s : ℕ) (ts : List Token) (x : List Token → Res) (y : Res)
-    → ((r : List Token) → ts ≡ Sign s ∷ r → All Q (x r)) → All Q y → All Q (cond (signL ts s) (x (drop 1 ts)) y)
+    → ((r : List Token) → ts ≡ Sign s ∷ r → All Q (x r)) → All Q y → All Q (cond (sign_l ts s) (x (drop 1 ts)) y)
 All-if s [] x y f g = g
 All-if s (Number v ∷ ts) x y f g = g
 All-if s (Symbol n ∷ ts) x y f g = g

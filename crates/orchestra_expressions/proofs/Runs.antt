@@ -7,9 +7,9 @@ use Rattle.orchestra_tokens.specs.declared.Token.{Token}
 use Rattle.orchestra_syntax.specs.inside.Program.{Ins}
 use Rattle.orchestra_expressions.specs.declared.ParseState.{ParseState}
 use Rattle.orchestra_expressions.specs.declared.ParseState.TheVariants.{Next, Refused}
-use Rattle.orchestra_expressions.specs.Roles.{signL}
+use Rattle.orchestra_expressions.specs.Roles.{sign_l}
 use Rattle.orchestra_expressions.specs.Reader.{Res, ok, seq, sign, emit}
-use Rattle.orchestra_expressions.specs.Areas.{Areas, op_of, argOf, val_of, stored, stored_at, oneMore, passed, left, Holds, Place, Ready, gone, come, Runs, refused, done, StoredStays}
+use Rattle.orchestra_expressions.specs.Areas.{Areas, op_of, arg_of, val_of, stored, stored_at, one_more, passed, left, Holds, Place, Ready, gone, come, Runs, refused, done, StoredStays}
 use Rattle.orchestra_expressions.proofs.Moves.{sign-in}
 use Rattle.orchestra_expressions.proofs.Results.{All, some, All-weaken}
 
@@ -28,7 +28,7 @@ stored-in f a out u v =
 stored-append : (m : Areas) (out : ℕ) (u v : List Ins) → stored (stored m out u) (out + length u) v ≡ stored m out (u ++ v)
 stored-append m out u v i = record {
   ops = stored-in op_of m.ops out u v i;
-  args = stored-in argOf m.args out u v i;
+  args = stored-in arg_of m.args out u v i;
   vals = stored-in val_of m.vals out u v i;
 }
 
@@ -36,7 +36,7 @@ stored-append m out u v i = record {
 pub holds-stored : {n : ℕ} {m : Areas} (out : ℕ) (c : List Ins) → Holds n m → Holds n (stored m out c)
 holds-stored {m = m} out c h = record {
   ops = rw (length-sets m.ops out (map op_of c)) h.ops;
-  args = rw (length-sets m.args out (map argOf c)) h.args;
+  args = rw (length-sets m.args out (map arg_of c)) h.args;
   vals = rw (length-sets m.vals out (map val_of c)) h.vals;
 }
 
@@ -110,9 +110,9 @@ runs_by ts at F L by h f law l q x y w =
 
 pub runs-sign : (ts : List Token) (s : ℕ) (g : ParseState) {h : ParseState} {m : Areas} → h ≡ passed s ts g → Runs ts (sign s) g m h m
 runs-sign ts s Refused e = gone refl e refl
-runs-sign ts s (Next at out) {m = m} e = go (signL (drop at ts) s) refl e
+runs-sign ts s (Next at out) {m = m} e = go (sign_l (drop at ts) s) refl e
   where
-    go : {h : ParseState} (b : Bool) → signL (drop at ts) s ≡ b → h ≡ cond b (Next (at + 1) out) Refused → Runs ts (sign s) (Next at out) m h m
+    go : {h : ParseState} (b : Bool) → sign_l (drop at ts) s ≡ b → h ≡ cond b (Next (at + 1) out) Refused → Runs ts (sign s) (Next at out) m h m
     go true f q = let lt = sign-in ts at s f in
         done at out (at + 1) [] refl (rw (f, drop-one ts at)) (omega arith) (q ∙ ap (λ z. Next (at + 1) z) (omega arith)) refl
     go false f q = refused at out [] refl (rw f) q refl
@@ -132,7 +132,7 @@ pub took_of : {P : List Ins → List Token → Type 0} {x : Res} {c : List Ins} 
 took_of all e = took-ok (rw e at all)
 
 module _ {ts : List Token} {k : ℕ} {g : ParseState} {m : Areas} where
-  pub runs-emit : {h : ParseState} {n : Areas} (i : Ins) → Ready ts k g m → h ≡ oneMore g → n ≡ stored_at g m i → Runs ts (emit i) g m h n
+  pub runs-emit : {h : ParseState} {n : Areas} (i : Ins) → Ready ts k g m → h ≡ one_more g → n ≡ stored_at g m i → Runs ts (emit i) g m h n
   runs-emit i (gone e) x y = gone e (x ∙ rw e) (y ∙ rw e)
   runs-emit i (come at out e le r) x y = done at out at (i ∷ []) e refl le (x ∙ rw e) (y ∙ rw e)
 
@@ -146,7 +146,7 @@ module _ {ts : List Token} {k : ℕ} {g : ParseState} {m : Areas} where
   ready-less le (gone e) = gone e
   ready-less le (come at out e l r) = come at out e l (holds-less (omega arith) r)
 
-  pub ready-emit : {h : ParseState} {n : Areas} (i : Ins) → Ready ts (suc k) g m → h ≡ oneMore g → n ≡ stored_at g m i → Ready ts k h n
+  pub ready-emit : {h : ParseState} {n : Areas} (i : Ins) → Ready ts (suc k) g m → h ≡ one_more g → n ≡ stored_at g m i → Ready ts k h n
   ready-emit i (gone e) x y = gone (x ∙ rw e)
   ready-emit i (come at out e le r) x y =
       let z : out + 1 + k + (length ts - at) ≡ out + suc k + (length ts - at) = omega arith in
@@ -154,9 +154,9 @@ module _ {ts : List Token} {k : ℕ} {g : ParseState} {m : Areas} where
 
   pub ready-sign : (s : ℕ) {h : ParseState} → Ready ts k g m → h ≡ passed s ts g → Ready ts (suc k) h m
   ready-sign s (gone e) x = gone (x ∙ rw e)
-  ready-sign s {h} (come at out e le r) x = go (signL (drop at ts) s) refl (x ∙ ap (passed s ts) e)
+  ready-sign s {h} (come at out e le r) x = go (sign_l (drop at ts) s) refl (x ∙ ap (passed s ts) e)
     where
-      go : (b : Bool) → signL (drop at ts) s ≡ b → h ≡ cond b (Next (at + 1) out) Refused → Ready ts (suc k) h m
+      go : (b : Bool) → sign_l (drop at ts) s ≡ b → h ≡ cond b (Next (at + 1) out) Refused → Ready ts (suc k) h m
       go true f q = let lt = sign-in ts at s f in come (at + 1) out q (omega arith) (holds-less (omega arith) r)
       go false f q = gone q
 
@@ -202,13 +202,13 @@ past_first j {at} b r e x q = record { ready = ready-took (suc j) b r x; less = 
 
 left_passed : (ts : List Token) (s : ℕ) (g : ParseState) → left ts (passed s ts g) ≤ left ts g
 left_passed ts s Refused = omega arith
-left_passed ts s (Next at out) = go (signL (drop at ts) s)
+left_passed ts s (Next at out) = go (sign_l (drop at ts) s)
   where
     go : (b : Bool) → left ts (cond b (Next (at + 1) out) Refused) ≤ length ts - at
     go true = omega arith
     go false = omega arith
 
-left-more : (ts : List Token) (g : ParseState) → left ts (oneMore g) ≡ left ts g
+left-more : (ts : List Token) (g : ParseState) → left ts (one_more g) ≡ left ts g
 left-more ts Refused = refl
 left-more ts (Next at out) = refl
 
@@ -228,7 +228,7 @@ module _ {ts : List Token} {t k : ℕ} {g : ParseState} {m : Areas} where
   pub past-sign : (s : ℕ) {h : ParseState} → Past ts t k g m → h ≡ passed s ts g → Past ts t (suc k) h m
   past-sign s p e = record { ready = ready-sign s p.ready e; less = rw e (omega (arith, p.less, left_passed ts s g)) }
 
-  pub past-emit : {h : ParseState} {n : Areas} (i : Ins) → Past ts t (suc k) g m → h ≡ oneMore g → n ≡ stored_at g m i → Past ts t k h n
+  pub past-emit : {h : ParseState} {n : Areas} (i : Ins) → Past ts t (suc k) g m → h ≡ one_more g → n ≡ stored_at g m i → Past ts t k h n
   past-emit i p e f = record { ready = ready-emit i p.ready e f; less = rw (e, left-more ts g) p.less }
 
 -- past the first token
@@ -248,13 +248,13 @@ pub past-passed : {ts : List Token} {t k : ℕ} {g : ParseState} {m : Areas} (s 
     → h ≡ Next at out → Past ts t (suc k) h m
 past-passed {ts} {t} {g = g} s {h} {at} {out} r e x q = record { ready = ready-sign s r x; less = go g e (sym x ∙ q) }
   where
-    on : (p o : ℕ) (b : Bool) → signL (drop p ts) s ≡ b → length ts - p ≡ t → cond b (Next (p + 1) o) Refused ≡ Next at out → left ts h < t
+    on : (p o : ℕ) (b : Bool) → sign_l (drop p ts) s ≡ b → length ts - p ≡ t → cond b (Next (p + 1) o) Refused ≡ Next at out → left ts h < t
     on p o true f e y = let lt = sign-in ts p s f in let z : at ≡ p + 1 = cc in rw q (omega arith)
     on p o false f e y = let z : ◌≡◌ {A = ℕ} 0 1 = cc in absurd (omega arith)
 
     go : (g : ParseState) → left ts g ≡ t → passed s ts g ≡ Next at out → left ts h < t
     go Refused e y = let z : ◌≡◌ {A = ℕ} 0 1 = cc in absurd (omega arith)
-    go (Next p o) e y = on p o (signL (drop p ts) s) refl e y
+    go (Next p o) e y = on p o (sign_l (drop p ts) s) refl e y
 
 -- ---- what stays
 
@@ -266,7 +266,7 @@ pub stored-stays : StoredStays
 stored-stays m out c =
     record {
       ops = sets-front m.ops out out (map op_of c) (omega arith);
-      args = sets-front m.args out out (map argOf c) (omega arith);
+      args = sets-front m.args out out (map arg_of c) (omega arith);
       vals = sets-front m.vals out out (map val_of c) (omega arith);
-      sizes = (length-sets m.ops out (map op_of c), (length-sets m.args out (map argOf c), length-sets m.vals out (map val_of c)));
+      sizes = (length-sets m.ops out (map op_of c), (length-sets m.args out (map arg_of c), length-sets m.vals out (map val_of c)));
     }

@@ -5,14 +5,14 @@ use Rattle.orchestra_tokens.specs.declared.Token.{Token}
 use Rattle.orchestra_tokens.specs.declared.Token.TheVariants.{Number, Symbol, Whole, Sign}
 use Rattle.orchestra_signs.specs.Signs as S
 use Rattle.orchestra_signs.specs.Operators as O
-use Rattle.orchestra_signs.specs.Operators.{unarySign, binarySign}
+use Rattle.orchestra_signs.specs.Operators.{unary_sign, binary_sign}
 use Rattle.orchestra_syntax.specs.Tree.{Expr, number, name}
-use Rattle.orchestra_syntax.specs.inside.Program.{Ins, compile, unaryOp, binaryOp}
+use Rattle.orchestra_syntax.specs.inside.Program.{Ins, compile, unary_op, binary_op}
 use Rattle.orchestra_expressions.specs.declared.PrefixToken.{PrefixToken}
 use Rattle.orchestra_expressions.specs.declared.PrefixToken.TheVariants.{Push, Unary, Open, Call, Call2, Bad}
 use Rattle.orchestra_expressions.specs.declared.InfixToken.{InfixToken}
 use Rattle.orchestra_expressions.specs.declared.InfixToken.TheVariants.{Binary, Question, Stop}
-use Rattle.orchestra_expressions.specs.Roles.{prefixSign, prefix_of, infixSign, infixOf}
+use Rattle.orchestra_expressions.specs.Roles.{prefix_sign, prefix_of, infix_sign, infix_of}
 use Rattle.orchestra_syntax.specs.Grammar as G
 use Rattle.orchestra_syntax.specs.Grammar.{sign, Derives, real, whole, named, Binds, Prefix, or, and, equal, unequal, less, greater, at_most, at_least, plus, minus, times, over, negative, not, abs, sgn, int, frac, min, max}
 use Rattle.orchestra_expressions.proofs.Results.{by_arm}
@@ -28,10 +28,10 @@ pub record Atom (t : Token) (i : Ins) : Type 0 where
 
 pub data Heads (t : Token) : PrefixToken → Type 0 where
   push : {o a : ℕ} {x : Float} → Atom t (record { op = o; arg = a; val = x }) → Heads t (Push o a x)
-  unary : {o : O.Unary} → t ≡ sign (unarySign o) → Prefix o → Heads t (Unary (unaryOp o))
-  opens : t ≡ sign S.roundOpen → Heads t Open
-  call : {o : O.Unary} → t ≡ sign (unarySign o) → G.Call o → Heads t (Call (unaryOp o))
-  call2 : {o : O.Binary} → t ≡ sign (binarySign o) → G.Call2 o → Heads t (Call2 (binaryOp o))
+  unary : {o : O.Unary} → t ≡ sign (unary_sign o) → Prefix o → Heads t (Unary (unary_op o))
+  opens : t ≡ sign S.round_open → Heads t Open
+  call : {o : O.Unary} → t ≡ sign (unary_sign o) → G.Call o → Heads t (Call (unary_op o))
+  call2 : {o : O.Binary} → t ≡ sign (binary_sign o) → G.Call2 o → Heads t (Call2 (binary_op o))
   bad : Heads t Bad
 
 pub heads : (t : Token) → Heads t (prefix_of t)
@@ -52,11 +52,11 @@ heads (Sign s) =
     (split P (eqb s 36) (Unary 36) Bad (λ e. unary (ap Sign (eqb-true s 36 e)) not) bad))))))))
 
 pub data Tails (t : Token) : InfixToken → Type 0 where
-  binary : {o : O.Binary} {l : ℕ} → t ≡ sign (binarySign o) → Binds o l → Tails t (Binary (binaryOp o) l)
+  binary : {o : O.Binary} {l : ℕ} → t ≡ sign (binary_sign o) → Binds o l → Tails t (Binary (binary_op o) l)
   question : t ≡ sign S.question → Tails t Question
   stop : Tails t Stop
 
-pub tails : (t : Token) → Tails t (infixOf t)
+pub tails : (t : Token) → Tails t (infix_of t)
 tails (Number x) = stop
 tails (Symbol n) = stop
 tails (Whole w) = stop
@@ -77,7 +77,7 @@ tails (Sign s) =
     (split P (eqb s 35) (Binary 35 6) Stop (λ e. binary (ap Sign (eqb-true s 35 e)) over) stop))))))))))))
 
 -- an operator's sign is its own, and its level is from 1 to 6
-operator : {o : O.Binary} {l : ℕ} → Binds o l → (infixSign (binaryOp o) ≡ Binary (binaryOp o) l) × ((1 ≤ l) × (l < 7))
+operator : {o : O.Binary} {l : ℕ} → Binds o l → (infix_sign (binary_op o) ≡ Binary (binary_op o) l) × ((1 ≤ l) × (l < 7))
 operator or = (refl, (omega arith, omega arith))
 operator and = (refl, (omega arith, omega arith))
 operator equal = (refl, (omega arith, omega arith))
@@ -91,23 +91,23 @@ operator minus = (refl, (omega arith, omega arith))
 operator times = (refl, (omega arith, omega arith))
 operator over = (refl, (omega arith, omega arith))
 
-pub tail-operator : {o : O.Binary} {l : ℕ} → Binds o l → infixSign (binaryOp o) ≡ Binary (binaryOp o) l
+pub tail-operator : {o : O.Binary} {l : ℕ} → Binds o l → infix_sign (binary_op o) ≡ Binary (binary_op o) l
 tail-operator b = (operator b).0
 
 pub levels : {o : O.Binary} {l : ℕ} → Binds o l → (1 ≤ l) × (l < 7)
 levels b = (operator b).1
 
-pub head-prefix : {o : O.Unary} → Prefix o → prefixSign (S.number (unarySign o)) ≡ Unary (unaryOp o)
+pub head-prefix : {o : O.Unary} → Prefix o → prefix_sign (S.number (unary_sign o)) ≡ Unary (unary_op o)
 head-prefix negative = refl
 head-prefix not = refl
 
-pub head-call : {o : O.Unary} → G.Call o → prefixSign (S.number (unarySign o)) ≡ Call (unaryOp o)
+pub head-call : {o : O.Unary} → G.Call o → prefix_sign (S.number (unary_sign o)) ≡ Call (unary_op o)
 head-call abs = refl
 head-call sgn = refl
 head-call int = refl
 head-call frac = refl
 
-pub head-call2 : {o : O.Binary} → G.Call2 o → prefixSign (binaryOp o) ≡ Call2 (binaryOp o)
+pub head-call2 : {o : O.Binary} → G.Call2 o → prefix_sign (binary_op o) ≡ Call2 (binary_op o)
 head-call2 min = refl
 head-call2 max = refl
 
@@ -119,8 +119,8 @@ Ends m Stop = Unit {0}
 
 -- ---- a sign by its number
 
-pub sign-starts : (k : ℕ) {t : Token} {s : ℕ} {h : PrefixToken} → h ≡ prefixSign k → t ≡ Sign s → s ≡ k → h ≡ prefix_of t
+pub sign-starts : (k : ℕ) {t : Token} {s : ℕ} {h : PrefixToken} → h ≡ prefix_sign k → t ≡ Sign s → s ≡ k → h ≡ prefix_of t
 sign-starts k e f g = rw (f, g) e
 
-pub sign-goes-on : (k : ℕ) {t : Token} {s : ℕ} {h : InfixToken} → h ≡ infixSign k → t ≡ Sign s → s ≡ k → h ≡ infixOf t
+pub sign-goes-on : (k : ℕ) {t : Token} {s : ℕ} {h : InfixToken} → h ≡ infix_sign k → t ≡ Sign s → s ≡ k → h ≡ infix_of t
 sign-goes-on k e f g = rw (f, g) e

@@ -3,14 +3,14 @@ use Rattle.std.proofs.Common.{◌≡◌, ℕ, cond, eqb, List, [], ◌∷◌, �
 use Rattle.orchestra_tokens.specs.declared.Token.{Token}
 use Rattle.orchestra_signs.specs.Operators as O
 use Rattle.orchestra_syntax.specs.Tree.{Expr, number, name, unary, binary, choose, Statements, done, assign, output, branch}
-use Rattle.orchestra_syntax.specs.inside.Program.{Ins, ins, insArg, zeroF, nameOp, numberOp, outputOp, ifOp, elseOp, endOp, storeOp, chooseOp, unaryOp, binaryOp, compile, code}
+use Rattle.orchestra_syntax.specs.inside.Program.{Ins, ins, ins_arg, zero_f, name_op, number_op, output_op, if_op, else_op, end_op, store_op, choose_op, unary_op, binary_op, compile, code}
 use Rattle.orchestra_syntax.specs.Grammar.{Derives}
 use Rattle.orchestra_expressions.proofs.Complete.{complete}
 
 -- code read back as trees: on a stack of expressions, top first, up to each else and each end of an if
 
 abbrev at : List Expr → ℕ → Expr
-at s i = get_or s i (number zeroF)
+at s i = get_or s i (number zero_f)
 
 abbrev block : List Statements → ℕ → Statements
 block xs i = get_or xs i done
@@ -28,24 +28,24 @@ module _ (k : List Expr → List Statements) (s : List Expr) where
   two·sides o = k (binary o (at s 1) (at s 0) ∷ drop 2 s)
 
   abbrev one·operand : O.Unary → ℕ × List Statements
-  one·operand o = (unaryOp o, one·side o)
+  one·operand o = (unary_op o, one·side o)
 
   abbrev two·operands : O.Binary → ℕ × List Statements
-  two·operands o = (binaryOp o, two·sides o)
+  two·operands o = (binary_op o, two·sides o)
 
   -- an operation's number says which it is
   abbrev by : Ins → List Statements
   by i =
       first i.op
-      ((numberOp, k (number i.val ∷ s)) ∷ (nameOp, k (name i.arg ∷ s)) ∷ (chooseOp, k (choose (at s 2) (at s 1) (at s 0) ∷ drop 3 s))
-      ∷ (storeOp, assign i.arg (at s 0) (block (k []) 0) ∷ drop 1 (k [])) ∷ (outputOp, output (at s 0) (block (k []) 0) ∷ drop 1 (k []))
-      ∷ (ifOp, branch (at s 0) (block (k []) 0) (block (k []) 1) (block (k []) 2) ∷ drop 3 (k [])) ∷ (elseOp, done ∷ k []) ∷ (endOp, done ∷ k [])
+      ((number_op, k (number i.val ∷ s)) ∷ (name_op, k (name i.arg ∷ s)) ∷ (choose_op, k (choose (at s 2) (at s 1) (at s 0) ∷ drop 3 s))
+      ∷ (store_op, assign i.arg (at s 0) (block (k []) 0) ∷ drop 1 (k [])) ∷ (output_op, output (at s 0) (block (k []) 0) ∷ drop 1 (k []))
+      ∷ (if_op, branch (at s 0) (block (k []) 0) (block (k []) 1) (block (k []) 2) ∷ drop 3 (k [])) ∷ (else_op, done ∷ k []) ∷ (end_op, done ∷ k [])
       ∷ one·operand O.absolute ∷ one·operand O.signum ∷ one·operand O.whole ∷ one·operand O.fraction ∷ one·operand O.negative ∷ one·operand O.not
       ∷ two·operands O.least ∷ two·operands O.greatest ∷ two·operands O.or ∷ two·operands O.and ∷ two·operands O.equal ∷ two·operands O.unequal ∷ two·operands O.less
       ∷ two·operands O.greater ∷ two·operands O.at_most ∷ two·operands O.at_least ∷ two·operands O.plus ∷ two·operands O.minus ∷ two·operands O.times
       ∷ two·operands O.over ∷ [])
 
-  by-unary : (o : O.Unary) → by (ins (unaryOp o)) ≡ one·side o
+  by-unary : (o : O.Unary) → by (ins (unary_op o)) ≡ one·side o
   by-unary O.Unary.absolute = refl
   by-unary O.Unary.signum = refl
   by-unary O.Unary.whole = refl
@@ -53,7 +53,7 @@ module _ (k : List Expr → List Statements) (s : List Expr) where
   by-unary O.Unary.not = refl
   by-unary O.Unary.negative = refl
 
-  by-binary : (o : O.Binary) → by (ins (binaryOp o)) ≡ two·sides o
+  by-binary : (o : O.Binary) → by (ins (binary_op o)) ≡ two·sides o
   by-binary O.Binary.least = refl
   by-binary O.Binary.greatest = refl
   by-binary O.Binary.or = refl
@@ -77,25 +77,25 @@ trees-compile : (e : Expr) (c : List Ins) (s : List Expr) → trees (compile e +
 unfolding compile trees
 trees-compile (number x) c s = refl
 trees-compile (name n) c s = refl
-trees-compile (unary o e) c s = simp append_assoc (trees-compile e (ins (unaryOp o) ∷ c) s ∙ by-unary (trees c) (e ∷ s) o)
+trees-compile (unary o e) c s = simp append_assoc (trees-compile e (ins (unary_op o) ∷ c) s ∙ by-unary (trees c) (e ∷ s) o)
 trees-compile (binary o a b) c s =
     simp append_assoc
-    (trees-compile a (compile b ++ ins (binaryOp o) ∷ c) s ∙ trees-compile b (ins (binaryOp o) ∷ c) (a ∷ s) ∙ by-binary (trees c) (b ∷ a ∷ s) o)
+    (trees-compile a (compile b ++ ins (binary_op o) ∷ c) s ∙ trees-compile b (ins (binary_op o) ∷ c) (a ∷ s) ∙ by-binary (trees c) (b ∷ a ∷ s) o)
 trees-compile (choose t a b) c s =
     simp append_assoc
-    (trees-compile t (compile a ++ (compile b ++ ins chooseOp ∷ c)) s ∙ trees-compile a (compile b ++ ins chooseOp ∷ c) (t ∷ s)
-    ∙ trees-compile b (ins chooseOp ∷ c) (a ∷ t ∷ s))
+    (trees-compile t (compile a ++ (compile b ++ ins choose_op ∷ c)) s ∙ trees-compile a (compile b ++ ins choose_op ∷ c) (t ∷ s)
+    ∙ trees-compile b (ins choose_op ∷ c) (a ∷ t ∷ s))
 
 trees-code : (t : Statements) (c : List Ins) (xs : List Statements) → trees c [] ≡ done ∷ xs → trees (code t ++ c) [] ≡ t ∷ xs
 unfolding code trees
 trees-code done c xs h = h
-trees-code (assign n e r) c xs h = simp append_assoc (trees-compile e (insArg storeOp n ∷ (code r ++ c)) [] ∙ rw (trees-code r c xs h))
-trees-code (output e r) c xs h = simp append_assoc (trees-compile e (ins outputOp ∷ (code r ++ c)) [] ∙ rw (trees-code r c xs h))
+trees-code (assign n e r) c xs h = simp append_assoc (trees-compile e (ins_arg store_op n ∷ (code r ++ c)) [] ∙ rw (trees-code r c xs h))
+trees-code (output e r) c xs h = simp append_assoc (trees-compile e (ins output_op ∷ (code r ++ c)) [] ∙ rw (trees-code r c xs h))
 trees-code (branch e a b r) c xs h =
-    let i = ins endOp ∷ (code r ++ c) in
-    let j = ins elseOp ∷ (code b ++ i) in
+    let i = ins end_op ∷ (code r ++ c) in
+    let j = ins else_op ∷ (code b ++ i) in
     let x = trees-code b i (r ∷ xs) (ap (λ l. done ∷ l) (trees-code r c xs h)) in
-    simp append_assoc (trees-compile e (ins ifOp ∷ (code a ++ j)) [] ∙ rw (trees-code a j (b ∷ r ∷ xs) (ap (λ l. done ∷ l) x)))
+    simp append_assoc (trees-compile e (ins if_op ∷ (code a ++ j)) [] ∙ rw (trees-code a j (b ∷ r ∷ xs) (ap (λ l. done ∷ l) x)))
 
 -- two blocks of the same code are one
 pub code-unique : (t u : Statements) → code t ≡ code u → t ≡ u

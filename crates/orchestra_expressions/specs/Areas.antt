@@ -5,7 +5,7 @@ use Rattle.orchestra_tokens.specs.declared.Token.{Token}
 use Rattle.orchestra_syntax.specs.inside.Program.{Ins}
 use Rattle.orchestra_expressions.specs.declared.ParseState.{ParseState}
 use Rattle.orchestra_expressions.specs.declared.ParseState.TheVariants.{Next, Refused}
-use Rattle.orchestra_expressions.specs.Roles.{signL}
+use Rattle.orchestra_expressions.specs.Roles.{sign_l}
 use Rattle.orchestra_expressions.specs.Reader.{Res, no, ok}
 
 -- an operation, an argument and a number for each instruction
@@ -20,28 +20,28 @@ areas a b x = record { ops = a; args = b; vals = x }
 abbrev pub op_of : Ins → ℕ
 op_of i = i.op
 
-abbrev pub argOf : Ins → ℕ
-argOf i = i.arg
+abbrev pub arg_of : Ins → ℕ
+arg_of i = i.arg
 
 abbrev pub val_of : Ins → Float
 val_of i = i.val
 
 -- code from the place `out` on
 abbrev pub stored : Areas → ℕ → List Ins → Areas
-stored m out c = record { ops = sets m.ops out (map op_of c); args = sets m.args out (map argOf c); vals = sets m.vals out (map val_of c) }
+stored m out c = record { ops = sets m.ops out (map op_of c); args = sets m.args out (map arg_of c); vals = sets m.vals out (map val_of c) }
 
 -- one instruction where a reading has come to
 abbrev pub stored_at : ParseState → Areas → Ins → Areas
 stored_at (Next at out) m i = stored m out (i ∷ [])
 stored_at Refused m i = m
 
-abbrev pub oneMore : ParseState → ParseState
-oneMore (Next at out) = Next at (out + 1)
-oneMore Refused = Refused
+abbrev pub one_more : ParseState → ParseState
+one_more (Next at out) = Next at (out + 1)
+one_more Refused = Refused
 
 -- past a sign that must be there
 abbrev pub passed : ℕ → List Token → ParseState → ParseState
-passed s ts (Next at out) = cond (signL (drop at ts) s) (Next (at + 1) out) Refused
+passed s ts (Next at out) = cond (sign_l (drop at ts) s) (Next (at + 1) out) Refused
 passed s ts Refused = Refused
 
 -- the tokens left

@@ -6,7 +6,7 @@ use Rattle.orchestra_tokens.specs.declared.Token.{Token}
 use Rattle.orchestra_tokens.specs.declared.Token.TheVariants.{Number, Symbol, Whole, Sign}
 use Rattle.orchestra_signs.specs.Signs as S
 use Rattle.orchestra_signs.specs.Operators as O
-use Rattle.orchestra_syntax.specs.inside.Program.{zeroF, nameOp, numberOp, unaryOp, binaryOp}
+use Rattle.orchestra_syntax.specs.inside.Program.{zero_f, name_op, number_op, unary_op, binary_op}
 use Rattle.orchestra_expressions.specs.declared.PrefixToken.{PrefixToken}
 use Rattle.orchestra_expressions.specs.declared.PrefixToken.TheVariants.{Push, Unary, Open, Call, Call2, Bad}
 use Rattle.orchestra_expressions.specs.declared.InfixToken.{InfixToken}
@@ -17,60 +17,60 @@ abbrev is : ℕ → S.Sign → Bool
 is s k = s == S.number k
 
 -- what a sign starts
-abbrev pub prefixSign : ℕ → PrefixToken
-prefixSign s =
-    cond (is s S.abs) (Call (unaryOp O.absolute))
-    (cond (is s S.sgn) (Call (unaryOp O.signum))
-    (cond (is s S.int) (Call (unaryOp O.whole))
-    (cond (is s S.frac) (Call (unaryOp O.fraction))
-    (cond (is s S.min) (Call2 (binaryOp O.least))
-    (cond (is s S.max) (Call2 (binaryOp O.greatest))
-    (cond (is s S.roundOpen) Open
-    (cond (is s S.-) (Unary (unaryOp O.negative))
-    (cond (is s S.!) (Unary (unaryOp O.not)) Bad))))))))
+abbrev pub prefix_sign : ℕ → PrefixToken
+prefix_sign s =
+    cond (is s S.abs) (Call (unary_op O.absolute))
+    (cond (is s S.sgn) (Call (unary_op O.signum))
+    (cond (is s S.int) (Call (unary_op O.whole))
+    (cond (is s S.frac) (Call (unary_op O.fraction))
+    (cond (is s S.min) (Call2 (binary_op O.least))
+    (cond (is s S.max) (Call2 (binary_op O.greatest))
+    (cond (is s S.round_open) Open
+    (cond (is s S.-) (Unary (unary_op O.negative))
+    (cond (is s S.!) (Unary (unary_op O.not)) Bad))))))))
 
 abbrev pub prefix_of : Token → PrefixToken
-prefix_of (Number x) = Push numberOp 0 x
-prefix_of (Symbol n) = Push nameOp n zeroF
-prefix_of (Whole w) = Push numberOp 0 (of_int binary32 (pos w))
-prefix_of (Sign s) = prefixSign s
+prefix_of (Number x) = Push number_op 0 x
+prefix_of (Symbol n) = Push name_op n zero_f
+prefix_of (Whole w) = Push number_op 0 (of_int binary32 (pos w))
+prefix_of (Sign s) = prefix_sign s
 
 -- what a sign does after an operand: an operator and its level
-abbrev pub infixSign : ℕ → InfixToken
-infixSign s =
+abbrev pub infix_sign : ℕ → InfixToken
+infix_sign s =
     cond (is s S.question) Question
-    (cond (is s S.||) (Binary (binaryOp O.or) 1)
-    (cond (is s S.&&) (Binary (binaryOp O.and) 2)
-    (cond (is s S.==) (Binary (binaryOp O.equal) 3)
-    (cond (is s S.!=) (Binary (binaryOp O.unequal) 3)
-    (cond (is s S.<) (Binary (binaryOp O.less) 4)
-    (cond (is s S.>) (Binary (binaryOp O.greater) 4)
-    (cond (is s S.<=) (Binary (binaryOp O.at_most) 4)
-    (cond (is s S.>=) (Binary (binaryOp O.at_least) 4)
-    (cond (is s S.+) (Binary (binaryOp O.plus) 5)
-    (cond (is s S.-) (Binary (binaryOp O.minus) 5)
-    (cond (is s S.*) (Binary (binaryOp O.times) 6)
-    (cond (is s S./) (Binary (binaryOp O.over) 6) Stop))))))))))))
+    (cond (is s S.||) (Binary (binary_op O.or) 1)
+    (cond (is s S.&&) (Binary (binary_op O.and) 2)
+    (cond (is s S.==) (Binary (binary_op O.equal) 3)
+    (cond (is s S.!=) (Binary (binary_op O.unequal) 3)
+    (cond (is s S.<) (Binary (binary_op O.less) 4)
+    (cond (is s S.>) (Binary (binary_op O.greater) 4)
+    (cond (is s S.<=) (Binary (binary_op O.at_most) 4)
+    (cond (is s S.>=) (Binary (binary_op O.at_least) 4)
+    (cond (is s S.+) (Binary (binary_op O.plus) 5)
+    (cond (is s S.-) (Binary (binary_op O.minus) 5)
+    (cond (is s S.*) (Binary (binary_op O.times) 6)
+    (cond (is s S./) (Binary (binary_op O.over) 6) Stop))))))))))))
 
-abbrev pub infixOf : Token → InfixToken
-infixOf (Number x) = Stop
-infixOf (Symbol n) = Stop
-infixOf (Whole w) = Stop
-infixOf (Sign s) = infixSign s
+abbrev pub infix_of : Token → InfixToken
+infix_of (Number x) = Stop
+infix_of (Symbol n) = Stop
+infix_of (Whole w) = Stop
+infix_of (Sign s) = infix_sign s
 
 -- the token is this sign
-abbrev pub isSign : Token → ℕ → Bool
-isSign (Number x) s = false
-isSign (Symbol n) s = false
-isSign (Whole w) s = false
-isSign (Sign k) s = k == s
+abbrev pub is_sign : Token → ℕ → Bool
+is_sign (Number x) s = false
+is_sign (Symbol n) s = false
+is_sign (Whole w) s = false
+is_sign (Sign k) s = k == s
 
 -- the signs that the reader looks for, by number
-abbrev pub roundOpen : ℕ
-roundOpen = S.number S.roundOpen
+abbrev pub round_open : ℕ
+round_open = S.number S.round_open
 
-abbrev pub roundClose : ℕ
-roundClose = S.number S.roundClose
+abbrev pub round_close : ℕ
+round_close = S.number S.round_close
 
 abbrev pub comma : ℕ
 comma = S.number S.comma
@@ -79,14 +79,14 @@ abbrev pub colon : ℕ
 colon = S.number S.colon
 
 -- the same of the first of some tokens: past the end nothing starts, nothing goes on, and no sign stands
-abbrev pub prefixL : List Token → PrefixToken
-prefixL [] = Bad
-prefixL (t ∷ ts) = prefix_of t
+abbrev pub prefix_l : List Token → PrefixToken
+prefix_l [] = Bad
+prefix_l (t ∷ ts) = prefix_of t
 
-abbrev pub infixL : List Token → InfixToken
-infixL [] = Stop
-infixL (t ∷ ts) = infixOf t
+abbrev pub infix_l : List Token → InfixToken
+infix_l [] = Stop
+infix_l (t ∷ ts) = infix_of t
 
-abbrev pub signL : List Token → ℕ → Bool
-signL [] s = false
-signL (t ∷ ts) s = isSign t s
+abbrev pub sign_l : List Token → ℕ → Bool
+sign_l [] s = false
+sign_l (t ∷ ts) s = is_sign t s

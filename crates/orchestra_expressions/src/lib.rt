@@ -1,8 +1,8 @@
 // What a token does in an expression, a sign that must be there, and one instruction more: what the reading code is made of.
 ghost use Rattle.std.specs.Prelude.{◌≡◌, drop};
 ghost use Rattle.orchestra_tokens.specs.inside.Token.{toks};
-ghost use Rattle.orchestra_expressions.specs.Roles.{prefix_of, infixOf, isSign, prefixL, infixL, signL};
-ghost use Rattle.orchestra_expressions.specs.Areas.{areas, stored_at, oneMore, passed, Place};
+ghost use Rattle.orchestra_expressions.specs.Roles.{prefix_of, infix_of, is_sign, prefix_l, infix_l, sign_l};
+ghost use Rattle.orchestra_expressions.specs.Areas.{areas, stored_at, one_more, passed, Place};
 
 use orchestra_tokens::Token;
 
@@ -75,7 +75,7 @@ pub fn prefix_of(t: Token) -> PrefixToken
 }
 
 pub fn infix_of(t: Token) -> InfixToken
-    ensures { result ≡ infixOf t }
+    ensures { result ≡ infix_of t }
 {
     match t {
         Token::Sign(s) => match s {
@@ -101,7 +101,7 @@ pub fn infix_of(t: Token) -> InfixToken
 }
 
 pub fn is_sign(t: Token, s: u8) -> bool
-    ensures { result ≡ isSign t s }
+    ensures { result ≡ is_sign t s }
 {
     match t {
         Token::Sign(k) => k == s,
@@ -113,7 +113,7 @@ pub fn is_sign(t: Token, s: u8) -> bool
 
 // What stands at a place among the tokens; past their end nothing starts, nothing goes on and no sign stands.
 pub fn prefix_at(kinds: &[u8], words: &[u32], reals: &[f32], at: usize) -> PrefixToken
-    ensures { result ≡ prefixL (drop at (toks kinds.now words.now reals.now)) }
+    ensures { result ≡ prefix_l (drop at (toks kinds.now words.now reals.now)) }
 {
     if at < kinds.len() {
         prefix_of(orchestra_tokens::token_at(kinds, words, reals, at))
@@ -123,7 +123,7 @@ pub fn prefix_at(kinds: &[u8], words: &[u32], reals: &[f32], at: usize) -> Prefi
 }
 
 pub fn infix_at(kinds: &[u8], words: &[u32], reals: &[f32], at: usize) -> InfixToken
-    ensures { result ≡ infixL (drop at (toks kinds.now words.now reals.now)) }
+    ensures { result ≡ infix_l (drop at (toks kinds.now words.now reals.now)) }
 {
     if at < kinds.len() {
         infix_of(orchestra_tokens::token_at(kinds, words, reals, at))
@@ -133,7 +133,7 @@ pub fn infix_at(kinds: &[u8], words: &[u32], reals: &[f32], at: usize) -> InfixT
 }
 
 pub fn sign_at(kinds: &[u8], words: &[u32], reals: &[f32], at: usize, s: u8) -> bool
-    ensures { result ≡ signL (drop at (toks kinds.now words.now reals.now)) s }
+    ensures { result ≡ sign_l (drop at (toks kinds.now words.now reals.now)) s }
 {
     if at < kinds.len() {
         is_sign(orchestra_tokens::token_at(kinds, words, reals, at), s)
@@ -167,7 +167,7 @@ pub fn emit(
     val: f32,
 ) -> ParseState
     requires { Place got (areas ops.old args.old vals.old) }
-    ensures answer { result ≡ oneMore got }
+    ensures answer { result ≡ one_more got }
     ensures code { areas ops.new args.new vals.new ≡ stored_at got (areas ops.old args.old vals.old) (record { op = op; arg = arg; val = val }) }
 {
     let ParseState::Next(at, out) = got else {

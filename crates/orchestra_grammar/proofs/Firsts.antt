@@ -6,13 +6,13 @@ use Rattle.orchestra_tokens.specs.declared.Token.TheVariants.{Symbol, Sign}
 use Rattle.orchestra_grammar.specs.declared.StatementStart.TheVariants.{Name}
 use Rattle.orchestra_grammar.specs.declared.DeclarationStart.{DeclarationStart}
 use Rattle.orchestra_grammar.specs.declared.NameToken.TheVariants.{Is}
-use Rattle.orchestra_grammar.specs.Starts.{statementStartOf, declarationStartOf, declarationSign, nameTokenOf}
+use Rattle.orchestra_grammar.specs.Starts.{statement_start_of, declaration_start_of, declaration_sign, name_token_of}
 
-pub name-start : {t : Token} {n : ℕ} → t ≡ Symbol n → Name n ≡ statementStartOf t
+pub name-start : {t : Token} {n : ℕ} → t ≡ Symbol n → Name n ≡ statement_start_of t
 name-start e = rw e
 
-pub name-word : {t : Token} {n : ℕ} → t ≡ Symbol n → Is n ≡ nameTokenOf t
+pub name-word : {t : Token} {n : ℕ} → t ≡ Symbol n → Is n ≡ name_token_of t
 name-word e = rw e
 
-pub sign-leads : (k : ℕ) {t : Token} {s : ℕ} {h : DeclarationStart} → h ≡ declarationSign k → t ≡ Sign s → s ≡ k → h ≡ declarationStartOf t
+pub sign-leads : (k : ℕ) {t : Token} {s : ℕ} {h : DeclarationStart} → h ≡ declaration_sign k → t ≡ Sign s → s ≡ k → h ≡ declaration_start_of t
 sign-leads k e f g = rw (f, g) e

@@ -8,7 +8,7 @@ use mathlib.Core.Bool.{Bool, true, false, cond}
 use lib.ListN.{length, drop, length-append}
 use Rattle.orchestra_tokens.specs.declared.Token.{Token}
 use Rattle.orchestra_syntax.specs.inside.Program.{Ins}
-use Rattle.orchestra_expressions.specs.Roles.{signL}
+use Rattle.orchestra_expressions.specs.Roles.{sign_l}
 use Rattle.orchestra_expressions.specs.Reader.{Res, ok, seq}
 use Rattle.orchestra_grammar.specs.Reader.{deep, whole}
 use Rattle.orchestra_expressions.proofs.ReaderSteps.{All, none, some, All-weaken, All-seq, All-if, seq-same}
@@ -45,16 +45,16 @@ cond-alike : (b : Bool) (x y z w : Res) → (b ≡ true → x ≡ z) → y ≡ w
 cond-alike true x y z w f g = f refl
 cond-alike false x y z w f g = g
 
-sign-passed : (s : ℕ) (ts : List Token) → signL ts s ≡ true → length (drop 1 ts) < length ts
+sign-passed : (s : ℕ) (ts : List Token) → sign_l ts s ≡ true → length (drop 1 ts) < length ts
 sign-passed s [] e = absurd (let z : ◌≡◌ {A = ℕ} 0 1 = cc in omega arith)
 sign-passed s (t ∷ ts) e = omega arith
 
 -- past a sign if it is there
 pub where-sign : (s : ℕ) {k d i : ℕ} {F G : (List Token → Res) → List Token → Res} → Steady k d i F → Steady (suc k) d (suc i) G
-    → Steady (suc k) d (suc i) (λ S ts. cond (signL ts s) (F S (drop 1 ts)) (G S ts))
+    → Steady (suc k) d (suc i) (λ S ts. cond (sign_l ts s) (F S (drop 1 ts)) (G S ts))
 where-sign s f g = record {
   took = λ S B ts. All-if s ts _ _ (λ r e. All-weaken (f.took S B r) (λ c q h. omega (arith, ap length e))) (g.took S B ts);
-  same = λ S R B b A ts lt. cond-alike (signL ts s) _ _ _ _ (λ e. f.same S R B b A (drop 1 ts) (omega (arith, sign-passed s ts e))) (g.same S R B b A ts lt);
+  same = λ S R B b A ts lt. cond-alike (sign_l ts s) _ _ _ _ (λ e. f.same S R B b A (drop 1 ts) (omega (arith, sign-passed s ts e))) (g.same S R B b A ts lt);
 }
 
 -- past a first token, whatever it is

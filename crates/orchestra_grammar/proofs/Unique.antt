@@ -6,12 +6,12 @@ use mathlib.Core.List.{List, [], ◌∷◌, ◌++◌, map, append_assoc, append-
 use lib.ListN.{get_or}
 use Rattle.orchestra_tokens.specs.declared.Token.{Token}
 use Rattle.orchestra_tokens.specs.declared.Token.TheVariants.{Sign}
-use Rattle.orchestra_syntax.specs.Tree.{Statements, Declaration, Instrument, fieldKind}
+use Rattle.orchestra_syntax.specs.Tree.{Statements, Declaration, Instrument, field_kind}
 use Rattle.orchestra_syntax.specs.inside.Program.{code, declare}
 use Rattle.orchestra_expressions.specs.Reader.{ok}
 use Rattle.orchestra_grammar.specs.declared.DeclarationStart.TheVariants.{Stop as No}
-use Rattle.orchestra_grammar.specs.Starts.{declarationStartL}
-use Rattle.orchestra_grammar.specs.Reader.{byDeclarationStart, fields, statements}
+use Rattle.orchestra_grammar.specs.Starts.{declaration_start_l}
+use Rattle.orchestra_grammar.specs.Reader.{by_declaration_start, fields, statements}
 use Rattle.orchestra_syntax.specs.Grammar.{Stmts, Names, one, more, Fields, Kinds, ivar, ksig, asig, imports, Decls, none as no·decls, some as some·decls, Instr, is, Orchestra, last, next}
 use Rattle.orchestra_expressions.proofs.Unique.{code-unique}
 use Rattle.orchestra_grammar.proofs.Complete.{statements-reads, fields-reads, kind-reads, no_lead, orchestra-some}
@@ -42,26 +42,26 @@ declare-kind (more n s) k = refl
 fields-once : {ns ms : List ℕ} {ts us : List Token} → Fields ns ts → Fields ms us → (p q : List Token) → ts ++ Sign 16 ∷ p ≡ us ++ Sign 16 ∷ q → (ns ≡ ms) × (p ≡ q)
 fields-once F G p q h =
     let z = sym (fields-reads F p) ∙ ap fields h ∙ fields-reads G q in
-    (declare-unique fieldKind fieldKind _ _ (cc), cc)
+    (declare-unique field_kind field_kind _ _ (cc), cc)
 
 -- a kind starts a declaration
-lead-not : {k : ℕ} {ks : List Token} → Kinds k ks → (r x : List Token) → declarationStartL r ≡ No → r ≡ ks ++ x → ◌≡◌ {A = ℕ} 0 1
-lead-not ivar r x h e = let z = sym h ∙ ap declarationStartL e in cc
-lead-not ksig r x h e = let z = sym h ∙ ap declarationStartL e in cc
-lead-not asig r x h e = let z = sym h ∙ ap declarationStartL e in cc
-lead-not imports r x h e = let z = sym h ∙ ap declarationStartL e in cc
+lead-not : {k : ℕ} {ks : List Token} → Kinds k ks → (r x : List Token) → declaration_start_l r ≡ No → r ≡ ks ++ x → ◌≡◌ {A = ℕ} 0 1
+lead-not ivar r x h e = let z = sym h ∙ ap declaration_start_l e in cc
+lead-not ksig r x h e = let z = sym h ∙ ap declaration_start_l e in cc
+lead-not asig r x h e = let z = sym h ∙ ap declaration_start_l e in cc
+lead-not imports r x h e = let z = sym h ∙ ap declaration_start_l e in cc
 
 flat-decl : (ks ts us r : List Token) → (ks ++ (ts ++ Sign 20 ∷ us)) ++ r ≡ ks ++ (ts ++ Sign 20 ∷ (us ++ r))
 flat-decl ks ts us r = simp append_assoc
 
-pub declarations-once : {ds es : List Declaration} {ts us : List Token} → Decls ds ts → Decls es us → (p q : List Token) → declarationStartL p ≡ No → declarationStartL q ≡ No
+pub declarations-once : {ds es : List Declaration} {ts us : List Token} → Decls ds ts → Decls es us → (p q : List Token) → declaration_start_l p ≡ No → declaration_start_l q ≡ No
     → ts ++ p ≡ us ++ q → (ds ≡ es) × (p ≡ q)
 declarations-once no·decls no·decls p q a b h = (refl, h)
 declarations-once no·decls (some·decls {ks = ks} {ts = ts} {us = us} K N D) p q a b h = never (lead-not K p _ a (h ∙ flat-decl ks ts us q))
 declarations-once (some·decls {ks = ks} {ts = ts} {us = us} K N D) no·decls p q a b h = never (lead-not K q _ b (sym h ∙ flat-decl ks ts us p))
 declarations-once (some·decls {k = k} {ks = ks} {ns = ns} {ts = ts} {us = us} K N D) (some·decls {k = l} {ks = ls} {ns = ms} {ts = vs} {us = ws} L M E) p q a b h =
     let z : ok (declare k ns ++ []) (us ++ p) ≡ ok (declare l ms ++ []) (ws ++ q) =
-    sym (kind-reads K N (us ++ p) (ok [])) ∙ ap (λ t. byDeclarationStart (ok []) (declarationStartL t) t) (sym (flat-decl ks ts us p) ∙ h ∙ flat-decl ls vs ws q)
+    sym (kind-reads K N (us ++ p) (ok [])) ∙ ap (λ t. by_declaration_start (ok []) (declaration_start_l t) t) (sym (flat-decl ks ts us p) ∙ h ∙ flat-decl ls vs ws q)
     ∙ kind-reads L M (ws ++ q) (ok []) in
     let c : declare k ns ≡ declare l ms = cc (append-nil (declare k ns), append-nil (declare l ms)) in
     let i : k ≡ l = sym (declare-kind N k) ∙ ap (λ d. get_or (map (λ j. j.op) d) 0 0) c ∙ declare-kind M l in

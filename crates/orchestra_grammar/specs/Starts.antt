@@ -1,7 +1,7 @@
 -- What a token starts above expressions.
 use Rattle.std.specs.Prelude.{ℕ, Bool, cond, List, [], ◌∷◌, eqb}
 use Rattle.orchestra_signs.specs.Signs as S
-use Rattle.orchestra_syntax.specs.Tree.{ivarKind, ksigKind, asigKind}
+use Rattle.orchestra_syntax.specs.Tree.{ivar_kind, ksig_kind, asig_kind}
 use Rattle.orchestra_tokens.specs.declared.Token.{Token}
 use Rattle.orchestra_tokens.specs.declared.Token.TheVariants.{Number, Symbol, Whole, Sign}
 use Rattle.orchestra_grammar.specs.declared.StatementStart.{StatementStart}
@@ -16,41 +16,41 @@ abbrev is : ℕ → S.Sign → Bool
 is s k = eqb s (S.number k)
 
 -- a statement
-abbrev pub statementSign : ℕ → StatementStart
-statementSign s = cond (is s S.output) Output (cond (is s S.if) If Stop)
+abbrev pub statement_sign : ℕ → StatementStart
+statement_sign s = cond (is s S.output) Output (cond (is s S.if) If Stop)
 
-abbrev pub statementStartOf : Token → StatementStart
-statementStartOf (Number x) = Stop
-statementStartOf (Symbol n) = Name n
-statementStartOf (Whole w) = Stop
-statementStartOf (Sign s) = statementSign s
+abbrev pub statement_start_of : Token → StatementStart
+statement_start_of (Number x) = Stop
+statement_start_of (Symbol n) = Name n
+statement_start_of (Whole w) = Stop
+statement_start_of (Sign s) = statement_sign s
 
 -- a declaration, by its kind
-abbrev pub declarationSign : ℕ → DeclarationStart
-declarationSign s = cond (is s S.ivar) (Kind ivarKind) (cond (is s S.ksig) (Kind ksigKind) (cond (is s S.asig) (Kind asigKind) (cond (is s S.imports) Imports No)))
+abbrev pub declaration_sign : ℕ → DeclarationStart
+declaration_sign s = cond (is s S.ivar) (Kind ivar_kind) (cond (is s S.ksig) (Kind ksig_kind) (cond (is s S.asig) (Kind asig_kind) (cond (is s S.imports) Imports No)))
 
-abbrev pub declarationStartOf : Token → DeclarationStart
-declarationStartOf (Number x) = No
-declarationStartOf (Symbol n) = No
-declarationStartOf (Whole w) = No
-declarationStartOf (Sign s) = declarationSign s
+abbrev pub declaration_start_of : Token → DeclarationStart
+declaration_start_of (Number x) = No
+declaration_start_of (Symbol n) = No
+declaration_start_of (Whole w) = No
+declaration_start_of (Sign s) = declaration_sign s
 
 -- a name
-abbrev pub nameTokenOf : Token → NameToken
-nameTokenOf (Number x) = Not
-nameTokenOf (Symbol n) = Is n
-nameTokenOf (Whole w) = Not
-nameTokenOf (Sign s) = Not
+abbrev pub name_token_of : Token → NameToken
+name_token_of (Number x) = Not
+name_token_of (Symbol n) = Is n
+name_token_of (Whole w) = Not
+name_token_of (Sign s) = Not
 
 -- the same of the first of some tokens
-abbrev pub statementStartL : List Token → StatementStart
-statementStartL [] = Stop
-statementStartL (t ∷ ts) = statementStartOf t
+abbrev pub statement_start_l : List Token → StatementStart
+statement_start_l [] = Stop
+statement_start_l (t ∷ ts) = statement_start_of t
 
-abbrev pub declarationStartL : List Token → DeclarationStart
-declarationStartL [] = No
-declarationStartL (t ∷ ts) = declarationStartOf t
+abbrev pub declaration_start_l : List Token → DeclarationStart
+declaration_start_l [] = No
+declaration_start_l (t ∷ ts) = declaration_start_of t
 
-abbrev pub nameTokenL : List Token → NameToken
-nameTokenL [] = Not
-nameTokenL (t ∷ ts) = nameTokenOf t
+abbrev pub name_token_l : List Token → NameToken
+name_token_l [] = Not
+name_token_l (t ∷ ts) = name_token_of t

@@ -1,7 +1,7 @@
 // What tokens start above expressions; the grammar, the reader's definition and their theorems stand in specs/ and proofs/.
 ghost use Rattle.std.specs.Prelude.{◌≡◌, drop};
 ghost use Rattle.orchestra_tokens.specs.inside.Token.{toks};
-ghost use Rattle.orchestra_grammar.specs.Starts.{statementStartOf, declarationStartOf, nameTokenOf, statementStartL, declarationStartL, nameTokenL};
+ghost use Rattle.orchestra_grammar.specs.Starts.{statement_start_of, declaration_start_of, name_token_of, statement_start_l, declaration_start_l, name_token_l};
 
 use orchestra_tokens::Token;
 
@@ -30,7 +30,7 @@ pub enum NameToken {
 }
 
 pub fn statement_start_of(t: Token) -> StatementStart
-    ensures { result ≡ statementStartOf t }
+    ensures { result ≡ statement_start_of t }
 {
     match t {
         Token::Number(_) => StatementStart::Stop,
@@ -45,7 +45,7 @@ pub fn statement_start_of(t: Token) -> StatementStart
 }
 
 pub fn declaration_start_of(t: Token) -> DeclarationStart
-    ensures { result ≡ declarationStartOf t }
+    ensures { result ≡ declaration_start_of t }
 {
     match t {
         Token::Number(_) => DeclarationStart::Stop,
@@ -62,7 +62,7 @@ pub fn declaration_start_of(t: Token) -> DeclarationStart
 }
 
 pub fn name_token_of(t: Token) -> NameToken
-    ensures { result ≡ nameTokenOf t }
+    ensures { result ≡ name_token_of t }
 {
     match t {
         Token::Number(_) => NameToken::Not,
@@ -74,7 +74,7 @@ pub fn name_token_of(t: Token) -> NameToken
 
 // The same of the token at a place; past the end nothing starts.
 pub fn statement_start_at(kinds: &[u8], words: &[u32], reals: &[f32], at: usize) -> StatementStart
-    ensures { result ≡ statementStartL (drop at (toks kinds.now words.now reals.now)) }
+    ensures { result ≡ statement_start_l (drop at (toks kinds.now words.now reals.now)) }
 {
     if at < kinds.len() {
         statement_start_of(orchestra_tokens::token_at(kinds, words, reals, at))
@@ -89,7 +89,7 @@ pub fn declaration_start_at(
     reals: &[f32],
     at: usize,
 ) -> DeclarationStart
-    ensures { result ≡ declarationStartL (drop at (toks kinds.now words.now reals.now)) }
+    ensures { result ≡ declaration_start_l (drop at (toks kinds.now words.now reals.now)) }
 {
     if at < kinds.len() {
         declaration_start_of(orchestra_tokens::token_at(kinds, words, reals, at))
@@ -99,7 +99,7 @@ pub fn declaration_start_at(
 }
 
 pub fn name_token_at(kinds: &[u8], words: &[u32], reals: &[f32], at: usize) -> NameToken
-    ensures { result ≡ nameTokenL (drop at (toks kinds.now words.now reals.now)) }
+    ensures { result ≡ name_token_l (drop at (toks kinds.now words.now reals.now)) }
 {
     if at < kinds.len() {
         name_token_of(orchestra_tokens::token_at(kinds, words, reals, at))

@@ -12,9 +12,9 @@ use borrow.Author.Tests.{eq-eqb, ne_eqb, not-true, not-false}
 use Rattle.base_laws.proofs.Choice.{and-swap}
 use Rattle.base_answer.specs.declared.Answer.TheVariants.{BadToken}
 use Rattle.orchestra_tokens.specs.Encoding.{valid}
-use Rattle.orchestra_tokens.specs.inside.Scanning.{Scanned, none, some, with, ended, more, tokensAfter}
-use Rattle.orchestra_tokens.specs.Measures.{kind_of, opened, since, bracketsWithin, stretchesWithin}
-use Rattle.orchestra_tokens.specs.inside.Passes.{standing, found, next, closedOf, finished, start, scanned}
+use Rattle.orchestra_tokens.specs.inside.Scanning.{Scanned, none, some, with, ended, more, tokens_after}
+use Rattle.orchestra_tokens.specs.Measures.{kind_of, opened, since, brackets_within, stretches_within}
+use Rattle.orchestra_tokens.specs.inside.Passes.{standing, found, next, closed_of, finished, start, scanned}
 use Rattle.orchestra_tokens.specs.declared.Token.{Token}
 use Rattle.orchestra_tokens.specs.declared.Measure.{Measure}
 use Rattle.orchestra_tokens.specs.declared.ScanResult.{ScanResult}
@@ -24,31 +24,31 @@ use Rattle.orchestra_lexer.proofs.Standing.{kind-is}
 -- ---- the tokens of the bytes left at a place
 
 module _ (bs : List ℕ) (at : ℕ) (lt : at < length bs) where
-  left_is : tokensAfter 0 (drop at bs) ≡ tokensAfter 0 (get_or bs at 0 ∷ drop (at + 1) bs)
-  left_is = ap (tokensAfter 0) (drop-cons bs at 0 lt ∙ ap (λ n. get_or bs at 0 ∷ drop n bs) (sym (add-one at)))
+  left_is : tokens_after 0 (drop at bs) ≡ tokens_after 0 (get_or bs at 0 ∷ drop (at + 1) bs)
+  left_is = ap (tokens_after 0) (drop-cons bs at 0 lt ∙ ap (λ n. get_or bs at 0 ∷ drop n bs) (sym (add-one at)))
 
   pub left-next : (k : ℕ) → k ≡ get_or bs at 0 → (k ≡ 0xff → ⊥) → valid (standing bs at) ≡ true
-      → tokensAfter 0 (drop at bs) ≡ with (standing bs at) (tokensAfter 0 (drop (at + 1 + more k) bs))
-  unfolding tokensAfter
+      → tokens_after 0 (drop at bs) ≡ with (standing bs at) (tokens_after 0 (drop (at + 1 + more k) bs))
+  unfolding tokens_after
   left-next k e a l =
-      left_is ∙ rw (← e, ne_eqb k 0xff a, e, l) (ap (with (standing bs at)) (after-drop (more (get_or bs at 0)) (drop (at + 1) bs) ∙ ap (tokensAfter 0) (drop-drop (more (get_or bs at 0)) (at + 1) bs)))
+      left_is ∙ rw (← e, ne_eqb k 0xff a, e, l) (ap (with (standing bs at)) (after-drop (more (get_or bs at 0)) (drop (at + 1) bs) ∙ ap (tokens_after 0) (drop-drop (more (get_or bs at 0)) (at + 1) bs)))
 
-  pub left-bad : (k : ℕ) → k ≡ get_or bs at 0 → (k ≡ 0xff → ⊥) → valid (standing bs at) ≡ false → tokensAfter 0 (drop at bs) ≡ none
-  unfolding tokensAfter
+  pub left-bad : (k : ℕ) → k ≡ get_or bs at 0 → (k ≡ 0xff → ⊥) → valid (standing bs at) ≡ false → tokens_after 0 (drop at bs) ≡ none
+  unfolding tokens_after
   left-bad k e a l = left_is ∙ rw (← e, ne_eqb k 0xff a, e, l)
 
   ended_by : (l : List ℕ) (n : ℕ) → length l + 1 ≡ n → ended l ≡ cond (eqb n 1) (some []) none
   ended_by [] n e = rw (eq-eqb n 1 (omega arith))
   ended_by (b ∷ l) n e = rw (ne_eqb n 1 (λ f. omega arith))
 
-  pub left_end : (k : ℕ) → k ≡ get_or bs at 0 → k ≡ 0xff → tokensAfter 0 (drop at bs) ≡ cond (eqb (length bs - at) 1) (some []) none
-  unfolding tokensAfter
+  pub left_end : (k : ℕ) → k ≡ get_or bs at 0 → k ≡ 0xff → tokens_after 0 (drop at bs) ≡ cond (eqb (length bs - at) 1) (some []) none
+  unfolding tokens_after
   left_end k e a =
       left_is ∙ rw (← e, a) (ended_by (drop (at + 1) bs) (length bs - at) (omega (arith, length-drop (at + 1) bs)))
 
-pub left-none : (bs : List ℕ) (at : ℕ) → length bs ≤ at → tokensAfter 0 (drop at bs) ≡ none
-unfolding tokensAfter
-left-none bs at h = ap (tokensAfter 0) (drop_of_length-le bs {i = at} h)
+pub left-none : (bs : List ℕ) (at : ℕ) → length bs ≤ at → tokens_after 0 (drop at bs) ≡ none
+unfolding tokens_after
+left-none bs at h = ap (tokens_after 0) (drop_of_length-le bs {i = at} h)
 
 -- ---- one token more
 
@@ -59,13 +59,13 @@ one_more : (c n : ℕ) → c + suc n ≡ c + 1 + n
 one_more c n = omega arith
 
 pub finished-with : (m : Measure) (t : Token) (g : Scanned) → finished m (with t g) ≡ finished (next m (kind_of t)) g
-unfolding next bracketsWithin stretchesWithin
+unfolding next brackets_within stretches_within
 finished-with m t none = refl
 finished-with m t (some ts) =
     let k = kind_of t in
     let d = opened m.depth k in
     let r = since m.run k in
-    rw (one_more m.count (length ts), regroup m.fits (leb d 24) (leb r 128) (leb (m.count + 1 + length ts) 2048) (bracketsWithin d ts) (stretchesWithin r ts))
+    rw (one_more m.count (length ts), regroup m.fits (leb d 24) (leb r 128) (leb (m.count + 1 + length ts) 2048) (brackets_within d ts) (stretches_within r ts))
 
 -- both arms of a choice are at most n
 cond-le : (b : Bool) {x y n : ℕ} → x ≤ n → y ≤ n → cond b x y ≤ n
@@ -87,7 +87,7 @@ pub record Inv (bs : List ℕ) (m : Measure) (at : ℕ) : Type 0 where
   pub counted : m.count ≤ at
   pub nested : m.depth ≤ at
   pub ran : m.run ≤ at
-  pub is : finished m (tokensAfter 0 (drop at bs)) ≡ scanned bs
+  pub is : finished m (tokens_after 0 (drop at bs)) ≡ scanned bs
 
 pub starts : (bs : List ℕ) → Inv bs start 0
 unfolding scanned
@@ -100,7 +100,7 @@ module _ {bs : List ℕ} {m : Measure} {at : ℕ} (i : Inv bs m at) where
   stepped : (k : ℕ) → at < length bs → k ≡ get_or bs at 0 → (k ≡ 0xff → ⊥) → valid (standing bs at) ≡ true → Inv bs (next m k) (at + 1 + more k)
   unfolding next
   stepped k lt e a l =
-      let g = tokensAfter 0 (drop (at + 1 + more k) bs) in
+      let g = tokens_after 0 (drop (at + 1 + more k) bs) in
       record {
         inside = omega (arith, more-le k);
         counted = omega (arith, i.counted);
@@ -115,7 +115,7 @@ module _ {bs : List ℕ} {m : Measure} {at : ℕ} (i : Inv bs m at) where
       subst (λ (x : Measure). Inv bs x (at + 1 + n)) (sym u)
       (subst (λ (x : ℕ). Inv bs (next m k) (at + 1 + x)) (sym w) (stepped k lt e a (sym p ∙ not-false b q)))
 
-  pub ends-closed : {f : ScanResult} (k : ℕ) → at < length bs → k ≡ get_or bs at 0 → k ≡ 0xff → f ≡ closedOf m (length bs - at) → f ≡ scanned bs
+  pub ends-closed : {f : ScanResult} (k : ℕ) → at < length bs → k ≡ get_or bs at 0 → k ≡ 0xff → f ≡ closed_of m (length bs - at) → f ≡ scanned bs
   ends-closed k lt e a u = u ∙ ap (finished m) (sym (left_end bs at lt k e a)) ∙ i.is
 
   pub ends-bad : {f : ScanResult} (k : ℕ) {b : Bool} → at < length bs → k ≡ get_or bs at 0 → (k ≡ 0xff → ⊥) → b ≡ valid (standing bs at) → not b ≡ true

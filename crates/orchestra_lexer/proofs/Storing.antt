@@ -12,12 +12,12 @@ use lib.Dec.{eqb}
 use lib.Ieee.{Float}
 use borrow.Author.Tests.{eqb-true, eqb-false}
 use Rattle.base_answer.specs.declared.Answer.TheVariants.{Taken}
-use Rattle.orchestra_tokens.specs.inside.Token.{zeroF}
+use Rattle.orchestra_tokens.specs.inside.Token.{zero_f}
 use Rattle.orchestra_tokens.specs.Encoding.{valid}
-use Rattle.orchestra_tokens.specs.inside.Scanning.{none, some, more, tokensAfter, tokensOf, tokensIn}
+use Rattle.orchestra_tokens.specs.inside.Scanning.{none, some, more, tokens_after, tokens_of, tokens_in}
 use Rattle.orchestra_tokens.specs.Measures.{kind_of}
 use Rattle.orchestra_tokens.specs.inside.Passes.{standing, found, scanned}
-use Rattle.orchestra_tokens.specs.inside.Reading.{word_of, realOf, padded, stored, judged}
+use Rattle.orchestra_tokens.specs.inside.Reading.{word_of, real_of, padded, stored, judged}
 use Rattle.orchestra_tokens.specs.declared.Token.{Token}
 use Rattle.orchestra_tokens.specs.declared.Token.TheVariants.{Sign}
 use Rattle.orchestra_tokens.proofs.RoundTrip.{impossible, with_first, with_rest}
@@ -26,7 +26,7 @@ use Rattle.orchestra_lexer.proofs.Judging.{Took, took}
 use Rattle.orchestra_lexer.proofs.Passing.{left-next, left-bad, left_end, left-none}
 
 -- bytes are left where tokens are
-some-inside : (bs : List ℕ) (at : ℕ) (ts : List Token) → tokensAfter 0 (drop at bs) ≡ some ts → at < length bs
+some-inside : (bs : List ℕ) (at : ℕ) (ts : List Token) → tokens_after 0 (drop at bs) ≡ some ts → at < length bs
 some-inside bs at ts e = go (dec_lt at (length bs))
   where
     go : Dec (at < length bs) → at < length bs
@@ -39,17 +39,17 @@ pub record Stands (bs : List ℕ) (at : ℕ) (t : Token) (ts : List Token) : Typ
   pub inside : at < length bs
   pub fine : valid (standing bs at) ≡ true
   pub first : standing bs at ≡ t
-  pub rest : tokensAfter 0 (drop (at + 1 + more (get_or bs at 0)) bs) ≡ some ts
+  pub rest : tokens_after 0 (drop (at + 1 + more (get_or bs at 0)) bs) ≡ some ts
 
 end_of : (b : Bool) (t : Token) (ts : List Token) → cond b (some []) none ≡ some (t ∷ ts) → ◌≡◌ {A = ℕ} 0 1
 end_of true t ts e = cc
 end_of false t ts e = cc
 
-module _ (bs : List ℕ) (at : ℕ) (t : Token) (ts : List Token) (e : tokensAfter 0 (drop at bs) ≡ some (t ∷ ts)) where
+module _ (bs : List ℕ) (at : ℕ) (t : Token) (ts : List Token) (e : tokens_after 0 (drop at bs) ≡ some (t ∷ ts)) where
   by-law : (b : Bool) → valid (standing bs at) ≡ b → at < length bs → (get_or bs at 0 ≡ 0xff → ⊥) → Stands bs at t ts
   by-law false l lt n = let f = left-bad bs at lt (get_or bs at 0) refl n l in impossible (cc)
   by-law true l lt n =
-      let g = tokensAfter 0 (drop (at + 1 + more (get_or bs at 0)) bs) in
+      let g = tokens_after 0 (drop (at + 1 + more (get_or bs at 0)) bs) in
       let f = sym (left-next bs at lt (get_or bs at 0) refl n l) ∙ e in
       record { inside = lt; fine = l; first = with_first (standing bs at) g t ts f; rest = with_rest (standing bs at) g t ts f }
 
@@ -90,17 +90,17 @@ pub record Filled (bs : List ℕ) (count : ℕ) (ks ws : List ℕ) (xs : List Fl
   pub took-all : Took bs count
   pub within : n ≤ count
   pub inside : at < length bs
-  pub left : tokensAfter 0 (drop at bs) ≡ some (drop n (tokensIn (tokensOf bs)))
-  pub kinds : ks ≡ padded 0 (map kind_of (take n (tokensIn (tokensOf bs))))
-  pub words : ws ≡ padded 0 (map word_of (take n (tokensIn (tokensOf bs))))
-  pub reals : xs ≡ padded zeroF (map realOf (take n (tokensIn (tokensOf bs))))
+  pub left : tokens_after 0 (drop at bs) ≡ some (drop n (tokens_in (tokens_of bs)))
+  pub kinds : ks ≡ padded 0 (map kind_of (take n (tokens_in (tokens_of bs))))
+  pub words : ws ≡ padded 0 (map word_of (take n (tokens_in (tokens_of bs))))
+  pub reals : xs ≡ padded zero_f (map real_of (take n (tokens_in (tokens_of bs))))
 
-pub starts : (bs : List ℕ) (count : ℕ) → scanned bs ≡ found Taken count → Filled bs count (replicate 2048 0) (replicate 2048 0) (replicate 2048 zeroF) 0 0
-starts bs count e = let t = took bs count e in record { took-all = t; within = omega arith; inside = some-inside bs 0 (tokensIn (tokensOf bs)) t.some_is; left = t.some_is; kinds = refl; words = refl; reals = refl }
+pub starts : (bs : List ℕ) (count : ℕ) → scanned bs ≡ found Taken count → Filled bs count (replicate 2048 0) (replicate 2048 0) (replicate 2048 zero_f) 0 0
+starts bs count e = let t = took bs count e in record { took-all = t; within = omega arith; inside = some-inside bs 0 (tokens_in (tokens_of bs)) t.some_is; left = t.some_is; kinds = refl; words = refl; reals = refl }
 
 module _ {bs : List ℕ} {count : ℕ} {ks ws : List ℕ} {xs : List Float} {at n : ℕ} (i : Filled bs count ks ws xs at n) where
   abbrev all : List Token
-  all = tokensIn (tokensOf bs)
+  all = tokens_in (tokens_of bs)
 
   here : n < count → Stands bs at (get_or all n (Sign 0)) (drop (n + 1) all)
   here lt =
@@ -114,7 +114,7 @@ module _ {bs : List ℕ} {count : ℕ} {ks ws : List ℕ} {xs : List Float} {at 
   pub room-left : n < count → n < 2048
   room-left lt = omega (arith, i.took-all.room, i.took-all.count-is)
 
-  pub again : {k w m : ℕ} {x : Float} → n < count → k ≡ get_or bs at 0 → w ≡ word_of (standing bs at) → x ≡ realOf (standing bs at) → m ≡ more k
+  pub again : {k w m : ℕ} {x : Float} → n < count → k ≡ get_or bs at 0 → w ≡ word_of (standing bs at) → x ≡ real_of (standing bs at) → m ≡ more k
       → Filled bs count (set ks n k) (set ws n w) (set xs n x) (at + 1 + m) (n + 1)
   again {k = k} {w = w} {m = m} {x = x} lt e f g r =
       let s = here lt in
@@ -122,7 +122,7 @@ module _ {bs : List ℕ} {count : ℕ} {ks ws : List ℕ} {xs : List Float} {at 
       let h : n < length all = omega (arith, i.took-all.count-is) in
       let b = room-left lt in
       let a : at + 1 + m ≡ at + 1 + more (get_or bs at 0) = ap (λ (j : ℕ). at + 1 + j) (r ∙ ap more e) in
-      let l = ap (λ (j : ℕ). tokensAfter 0 (drop j bs)) a ∙ s.rest in
+      let l = ap (λ (j : ℕ). tokens_after 0 (drop j bs)) a ∙ s.rest in
       record {
         took-all = i.took-all;
         within = omega arith;
@@ -130,10 +130,10 @@ module _ {bs : List ℕ} {count : ℕ} {ks ws : List ℕ} {xs : List Float} {at 
         left = l;
         kinds = ap (λ l. set l n k) i.kinds ∙ put-token kind_of 0 all n k h b (sym (kind-is bs at k e) ∙ ap kind_of t);
         words = ap (λ l. set l n w) i.words ∙ put-token word_of 0 all n w h b (f ∙ ap word_of t);
-        reals = ap (λ l. set l n x) i.reals ∙ put-token realOf zeroF all n x h b (g ∙ ap realOf t);
+        reals = ap (λ l. set l n x) i.reals ∙ put-token real_of zero_f all n x h b (g ∙ ap real_of t);
       }
 
-  pub ends : count ≤ n → record { answer = Taken; count = count; kinds = ks; words = ws; reals = xs } ≡ judged (tokensOf bs)
+  pub ends : count ≤ n → record { answer = Taken; count = count; kinds = ks; words = ws; reals = xs } ≡ judged (tokens_of bs)
   ends le =
       let c = i.took-all.count-is in
       let q = i.within in
@@ -144,6 +144,6 @@ module _ {bs : List ℕ} {count : ℕ} {ks ws : List ℕ} {xs : List Float} {at 
         count = c j;
         kinds = (i.kinds ∙ ap (λ l. padded 0 (map kind_of l)) e) j;
         words = (i.words ∙ ap (λ l. padded 0 (map word_of l)) e) j;
-        reals = (i.reals ∙ ap (λ l. padded zeroF (map realOf l)) e) j;
+        reals = (i.reals ∙ ap (λ l. padded zero_f (map real_of l)) e) j;
       } in
       p ∙ sym i.took-all.judged-is

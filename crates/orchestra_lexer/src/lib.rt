@@ -1,12 +1,12 @@
 // The reading of an orchestra's bytes: a first pass finds the tokens and measures them, a second stores them.
 ghost use Rattle.std.specs.Prelude.{◌≡◌, true, [], ◌<◌, ◌≤◌, ◌+◌, drop, length};
 ghost use Rattle.base_answer.specs.declared.Answer.TheVariants.{Taken};
-ghost use Rattle.base_timebase.specs.Time.{finiteBits};
+ghost use Rattle.base_timebase.specs.Time.{finite_bits};
 ghost use Rattle.orchestra_tokens.specs.Measures.{longest};
 ghost use Rattle.orchestra_tokens.specs.Encoding.{valid};
-ghost use Rattle.orchestra_tokens.specs.inside.Scanning.{twoOf, fourOf, more as moreOf, tokensOf};
+ghost use Rattle.orchestra_tokens.specs.inside.Scanning.{two_of, four_of, more as more_of, tokens_of};
 ghost use Rattle.orchestra_tokens.specs.inside.Passes.{standing, found, scanned};
-ghost use Rattle.orchestra_tokens.specs.inside.Reading.{word_of, realOf, stored, judged, read_of};
+ghost use Rattle.orchestra_tokens.specs.inside.Reading.{word_of, real_of, stored, judged, read_of};
 
 use base_answer::Answer;
 use base_timebase::Checked;
@@ -31,7 +31,7 @@ fn wide(b: u8) -> u32
 fn two_at(bytes: &[u8], at: usize) -> u32
     requires { at ≤ longest + 3 }
     ensures low { result < 65536 }
-    ensures is { result ≡ twoOf (drop at bytes.now) }
+    ensures is { result ≡ two_of (drop at bytes.now) }
 {
     let high = wide(byte_at(bytes, at));
     let low = wide(byte_at(bytes, at + 1));
@@ -40,7 +40,7 @@ fn two_at(bytes: &[u8], at: usize) -> u32
 
 fn four_at(bytes: &[u8], at: usize) -> u32
     requires { at ≤ longest + 1 }
-    ensures { result ≡ fourOf (drop at bytes.now) }
+    ensures { result ≡ four_of (drop at bytes.now) }
 {
     let high = two_at(bytes, at);
     let low = two_at(bytes, at + 2);
@@ -50,7 +50,7 @@ fn four_at(bytes: &[u8], at: usize) -> u32
 // How many more bytes a token has, by its first.
 fn more(k: u8) -> usize
     ensures low { result ≤ 4 }
-    ensures is { result ≡ moreOf k }
+    ensures is { result ≡ more_of k }
 {
     if k == SYMBOL {
         return 2;
@@ -65,7 +65,7 @@ fn more(k: u8) -> usize
 }
 
 fn is_finite(w: u32) -> bool
-    ensures { result ≡ finiteBits w }
+    ensures { result ≡ finite_bits w }
 {
     match base_timebase::value_of(w) {
         Checked::Value(_) => true,
@@ -137,7 +137,7 @@ fn word_from(bytes: &[u8], at: usize) -> u32
 
 fn real_from(bytes: &[u8], at: usize) -> f32
     requires { (at ≤ longest) × (valid (standing bytes.now at) ≡ true) }
-    ensures { result ≡ realOf (standing bytes.now at) }
+    ensures { result ≡ real_of (standing bytes.now at) }
 {
     let k = byte_at(bytes, at);
     if k == NUMBER {
@@ -168,7 +168,7 @@ fn refused(a: Answer) -> Tokens
 // The second pass, over bytes that the first one took.
 fn store(bytes: &[u8], count: usize) -> Tokens
     requires { (length bytes.now ≤ longest) × (scanned bytes.now ≡ found Taken count) }
-    ensures { result ≡ judged (tokensOf bytes.now) }
+    ensures { result ≡ judged (tokens_of bytes.now) }
 {
     let mut kinds: [u8; 2048] = [0; 2048];
     let mut words: [u32; 2048] = [0; 2048];

@@ -16,7 +16,7 @@ use Rattle.orchestra_syntax.specs.inside.Placed.{place}
 use Rattle.orchestra_syntax.specs.declared.OpClass.{OpClass}
 use Rattle.orchestra_syntax.specs.declared.OpClass.TheVariants.{Value, Name, Store, Output, If, Else, End, Declare, Instr}
 use Rattle.orchestra_syntax.specs.contracts.OpClass.{the_type}
-use Rattle.orchestra_name_rules.specs.Entries.{valid, namesAfter, titlesAfter, placedName}
+use Rattle.orchestra_name_rules.specs.Entries.{valid, names_after, titles_after, placed_name}
 use Rattle.orchestra_name_rules.specs.Table.{own_of, own}
 use Rattle.orchestra_name_rules.proofs.Seeking.{symbols-own, length-own}
 
@@ -67,7 +67,7 @@ module _ (a : OpClass) (n heads count : ℕ) (ts ms : List ℕ) where
 abbrev unused : List ℕ
 unused = 0 ∷ 3 ∷ 4 ∷ 5 ∷ 6 ∷ 7 ∷ 8 ∷ []
 
-unused-placed : (a : OpClass) (n : ℕ) (ms : List Named) → Left unused a → n ≡ placedName a n ms
+unused-placed : (a : OpClass) (n : ℕ) (ms : List Named) → Left unused a → n ≡ placed_name a n ms
 unused-placed Value n ms h = refl
 unused-placed Name n ms h = absurd (miss unused 1 tt h)
 unused-placed Store n ms h = absurd (miss unused 2 tt h)
@@ -79,13 +79,13 @@ unused-placed Declare n ms h = refl
 unused-placed Instr n ms h = refl
 
 module _ (a : OpClass) (n : ℕ) (ms : List Named) where
-  pub p-name : {p : ℕ} → a ≡ Name → p ≡ place ms n → p ≡ placedName a n ms
+  pub p-name : {p : ℕ} → a ≡ Name → p ≡ place ms n → p ≡ placed_name a n ms
   p-name f e = rw f e
 
-  pub p-store : {p : ℕ} → a ≡ Store → p ≡ place ms n → p ≡ placedName a n ms
+  pub p-store : {p : ℕ} → a ≡ Store → p ≡ place ms n → p ≡ placed_name a n ms
   p-store f e = rw f e
 
-  pub p-other : Left unused a → n ≡ placedName a n ms
+  pub p-other : Left unused a → n ≡ placed_name a n ms
   p-other h = unused-placed a n ms h
 
 -- ---- the instruments after it
@@ -93,7 +93,7 @@ module _ (a : OpClass) (n : ℕ) (ms : List Named) where
 abbrev untitled : List ℕ
 untitled = 0 ∷ 1 ∷ 2 ∷ 3 ∷ 4 ∷ 5 ∷ 6 ∷ 7 ∷ []
 
-untitled-stay : (a : OpClass) (n : ℕ) (ts : List ℕ) → Left untitled a → ts ≡ titlesAfter a n ts
+untitled-stay : (a : OpClass) (n : ℕ) (ts : List ℕ) → Left untitled a → ts ≡ titles_after a n ts
 untitled-stay Value n ts h = refl
 untitled-stay Name n ts h = refl
 untitled-stay Store n ts h = refl
@@ -106,7 +106,7 @@ untitled-stay Instr n ts h = absurd (miss untitled 8 tt h)
 
 module _ (a : OpClass) (n heads : ℕ) (ts : List ℕ) (room : heads ≤ 8) (long : length ts ≡ 8) where
   abbrev Titles : ℕ → List ℕ → Type 0
-  Titles r us = take r us ≡ titlesAfter a n (take heads ts)
+  Titles r us = take r us ≡ titles_after a n (take heads ts)
 
   len-titles : length (take heads ts) ≡ heads
   len-titles = length-take-le heads ts (omega (arith, long))
@@ -125,7 +125,7 @@ module _ (a : OpClass) (n heads : ℕ) (ts : List ℕ) (room : heads ≤ 8) (lon
 abbrev unnamed : List ℕ
 unnamed = 0 ∷ 1 ∷ 2 ∷ 3 ∷ 4 ∷ 5 ∷ 6 ∷ []
 
-unnamed-stay : (a : OpClass) (o n : ℕ) (ms : List Named) → Left unnamed a → ms ≡ namesAfter a o n ms
+unnamed-stay : (a : OpClass) (o n : ℕ) (ms : List Named) → Left unnamed a → ms ≡ names_after a o n ms
 unnamed-stay Value o n ms h = refl
 unnamed-stay Name o n ms h = refl
 unnamed-stay Store o n ms h = refl
@@ -146,7 +146,7 @@ own-more (suc n) s k (m ∷ ms) (c ∷ ks) p q = ap (λ l. record { name = m; ki
 
 module _ (a : OpClass) (o n count : ℕ) (ms ks : List ℕ) (room : count ≤ 16) (long : length ms ≡ 16) (long-kinds : length ks ≡ 16) where
   abbrev Names : ℕ → List ℕ → List ℕ → Type 0
-  Names r ms' ks' = own ms' ks' r ≡ namesAfter a o n (own ms ks count)
+  Names r ms' ks' = own ms' ks' r ≡ names_after a o n (own ms ks count)
 
   len-own : length (own ms ks count) ≡ count
   len-own = length-own (take count ms) ks ∙ length-take-le count ms (omega (arith, long))

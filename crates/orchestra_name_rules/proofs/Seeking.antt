@@ -10,14 +10,14 @@ use lib.Seq.{drop-cons, get_or-take, length-take-le}
 use lib.Dec.{eqb, leb, ltb, leb-suc-suc}
 use borrow.Author.Tests.{eq-eqb, ne_eqb, lt-ltb, le-ltb, lt-leb, le-leb, ltb-true, ltb-false}
 use Rattle.orchestra_syntax.specs.Names.{symbols, has}
-use Rattle.orchestra_syntax.specs.inside.Placed.{placedAs, placeFrom, place, speedOfKind}
-use Rattle.orchestra_name_rules.specs.Table.{own_of, seekIn}
+use Rattle.orchestra_syntax.specs.inside.Placed.{placed_as, place_from, place, speed_of_kind}
+use Rattle.orchestra_name_rules.specs.Table.{own_of, seek_in}
 
 -- ---- the loop of `seek`
 
 pub record Inv (table : List ℕ) (n s i : ℕ) : Type 0 where
   pub inside : i ≤ n
-  pub is : i + seekIn (drop i (take n table)) s ≡ seekIn (take n table) s
+  pub is : i + seek_in (drop i (take n table)) s ≡ seek_in (take n table) s
 
 module _ (table : List ℕ) (n s : ℕ) (fits : n ≤ length table) where
   here : (i : ℕ) → i < n → drop i (take n table) ≡ get_or table i 0 ∷ drop (suc i) (take n table)
@@ -27,45 +27,45 @@ module _ (table : List ℕ) (n s : ℕ) (fits : n ≤ length table) where
   starts = record { inside = omega arith; is = omega arith }
 
   module _ {i : ℕ} (v : Inv table n s i) where
-    pub found : i < n → get_or table i 0 ≡ s → i ≡ seekIn (take n table) s
-    unfolding seekIn
+    pub found : i < n → get_or table i 0 ≡ s → i ≡ seek_in (take n table) s
+    unfolding seek_in
     found lt e =
-        let z : seekIn (drop i (take n table)) s ≡ 0 = rw (here i lt, eq-eqb (get_or table i 0) s e) in
+        let z : seek_in (drop i (take n table)) s ≡ 0 = rw (here i lt, eq-eqb (get_or table i 0) s e) in
         omega (arith, v.is)
 
     pub again : i < n → (get_or table i 0 ≡ s → ⊥) → Inv table n s (i + 1)
-    unfolding seekIn
+    unfolding seek_in
     again lt e =
-        let z : seekIn (drop i (take n table)) s ≡ suc (seekIn (drop (suc i) (take n table)) s) = rw (here i lt, ne_eqb (get_or table i 0) s e) in
+        let z : seek_in (drop i (take n table)) s ≡ suc (seek_in (drop (suc i) (take n table)) s) = rw (here i lt, ne_eqb (get_or table i 0) s e) in
         record { inside = omega arith; is = rw add-one (omega (arith, v.is)) }
 
-    pub ends : n ≤ i → n ≡ seekIn (take n table) s
-    unfolding seekIn
+    pub ends : n ≤ i → n ≡ seek_in (take n table) s
+    unfolding seek_in
     ends le =
         let d = drop_of_length-le (take n table) {i = i} (rw (length-take-le n table fits) le) in
-        let z : seekIn (drop i (take n table)) s ≡ 0 = rw d in
+        let z : seek_in (drop i (take n table)) s ≡ 0 = rw d in
         omega (arith, v.is, v.inside)
 
 -- ---- what the place found says
 
-seek-has : (ws : List ℕ) (s : ℕ) → ltb (seekIn ws s) (length ws) ≡ has s ws
-unfolding seekIn has
+seek-has : (ws : List ℕ) (s : ℕ) → ltb (seek_in ws s) (length ws) ≡ has s ws
+unfolding seek_in has
 seek-has [] s = refl
 seek-has (w ∷ ws) s = go (eqb w s) (seek-has ws s)
   where
-    go : (b : Bool) → ltb (seekIn ws s) (length ws) ≡ has s ws → ltb (cond b 0 (suc (seekIn ws s))) (suc (length ws)) ≡ (b || has s ws)
+    go : (b : Bool) → ltb (seek_in ws s) (length ws) ≡ has s ws → ltb (cond b 0 (suc (seek_in ws s))) (suc (length ws)) ≡ (b || has s ws)
     go true h = lt-ltb 0 (suc (length ws)) (omega arith)
-    go false h = leb-suc-suc (suc (seekIn ws s)) (length ws) ∙ h
+    go false h = leb-suc-suc (suc (seek_in ws s)) (length ws) ∙ h
 
 not-less : (i n : ℕ) (b : Bool) → ltb i n ≡ b → leb n i ≡ not b
 not-less i n true e = lt-leb n i (ltb-true i n e)
 not-less i n false e = le-leb n i (ltb-false i n e)
 
-module _ (table : List ℕ) (n s i : ℕ) (fits : n ≤ length table) (e : i ≡ seekIn (take n table) s) where
+module _ (table : List ℕ) (n s i : ℕ) (fits : n ≤ length table) (e : i ≡ seek_in (take n table) s) where
   pub known_is : ltb i n ≡ has s (take n table)
   known_is =
       let l = length-take-le n table fits in
-      ap (λ (x : ℕ). ltb x n) e ∙ ap (ltb (seekIn (take n table) s)) (sym l) ∙ seek-has (take n table) s
+      ap (λ (x : ℕ). ltb x n) e ∙ ap (ltb (seek_in (take n table) s)) (sym l) ∙ seek-has (take n table) s
 
   pub free-is : (most : ℕ) → n < most → leb n i ≡ (ltb n most && not (has s (take n table)))
   free-is most lt = rw (lt-ltb n most lt) (not-less i n (has s (take n table)) known_is)
@@ -85,34 +85,34 @@ unfolding own_of
 length-own [] ks = refl
 length-own (w ∷ ws) ks = ap suc (length-own ws (drop 1 ks))
 
-getD-drop1 : (l : List ℕ) (i : ℕ) → get_or (drop 1 l) i 0 ≡ get_or l (suc i) 0
-getD-drop1 [] i = refl
-getD-drop1 (a ∷ l) i = refl
+get_d-drop1 : (l : List ℕ) (i : ℕ) → get_or (drop 1 l) i 0 ≡ get_or l (suc i) 0
+get_d-drop1 [] i = refl
+get_d-drop1 (a ∷ l) i = refl
 
-seek-from : (ws ks : List ℕ) (s p : ℕ) → seekIn ws s < length ws → placeFrom p s (own_of ws ks) ≡ 16 * speedOfKind (get_or ks (seekIn ws s) 0) + (p + seekIn ws s)
-unfolding seekIn placeFrom own_of
+seek-from : (ws ks : List ℕ) (s p : ℕ) → seek_in ws s < length ws → place_from p s (own_of ws ks) ≡ 16 * speed_of_kind (get_or ks (seek_in ws s) 0) + (p + seek_in ws s)
+unfolding seek_in place_from own_of
 seek-from [] ks s p lt = absurd (omega arith)
 seek-from (w ∷ ws) ks s p lt = go (eqb w s) (λ h. seek-from ws (drop 1 ks) s (suc p) h) lt
   where
-    go : (b : Bool) → (seekIn ws s < length ws → placeFrom (suc p) s (own_of ws (drop 1 ks)) ≡ 16 * speedOfKind (get_or (drop 1 ks) (seekIn ws s) 0) + (suc p + seekIn ws s))
-        → cond b 0 (suc (seekIn ws s)) < suc (length ws)
-        → cond b (16 * speedOfKind (get_or ks 0 0) + p) (placeFrom (suc p) s (own_of ws (drop 1 ks))) ≡ 16 * speedOfKind (get_or ks (cond b 0 (suc (seekIn ws s))) 0) + (p + cond b 0 (suc (seekIn ws s)))
+    go : (b : Bool) → (seek_in ws s < length ws → place_from (suc p) s (own_of ws (drop 1 ks)) ≡ 16 * speed_of_kind (get_or (drop 1 ks) (seek_in ws s) 0) + (suc p + seek_in ws s))
+        → cond b 0 (suc (seek_in ws s)) < suc (length ws)
+        → cond b (16 * speed_of_kind (get_or ks 0 0) + p) (place_from (suc p) s (own_of ws (drop 1 ks))) ≡ 16 * speed_of_kind (get_or ks (cond b 0 (suc (seek_in ws s))) 0) + (p + cond b 0 (suc (seek_in ws s)))
     go true h lt = omega arith
-    go false h lt = h (omega arith) ∙ rw getD-drop1 (omega arith)
+    go false h lt = h (omega arith) ∙ rw get_d-drop1 (omega arith)
 
-seek-none : (ws ks : List ℕ) (s p : ℕ) → length ws ≤ seekIn ws s → placeFrom p s (own_of ws ks) ≡ 0
-unfolding seekIn placeFrom own_of
+seek-none : (ws ks : List ℕ) (s p : ℕ) → length ws ≤ seek_in ws s → place_from p s (own_of ws ks) ≡ 0
+unfolding seek_in place_from own_of
 seek-none [] ks s p le = refl
 seek-none (w ∷ ws) ks s p le = go (eqb w s) (λ h. seek-none ws (drop 1 ks) s (suc p) h) le
   where
-    go : (b : Bool) → (length ws ≤ seekIn ws s → placeFrom (suc p) s (own_of ws (drop 1 ks)) ≡ 0)
-        → suc (length ws) ≤ cond b 0 (suc (seekIn ws s))
-        → cond b (16 * speedOfKind (get_or ks 0 0) + p) (placeFrom (suc p) s (own_of ws (drop 1 ks))) ≡ 0
+    go : (b : Bool) → (length ws ≤ seek_in ws s → place_from (suc p) s (own_of ws (drop 1 ks)) ≡ 0)
+        → suc (length ws) ≤ cond b 0 (suc (seek_in ws s))
+        → cond b (16 * speed_of_kind (get_or ks 0 0) + p) (place_from (suc p) s (own_of ws (drop 1 ks))) ≡ 0
     go true h le = absurd (omega arith)
     go false h le = h (omega arith)
 
-module _ (table ks : List ℕ) (n s i : ℕ) (fits : n ≤ length table) (e : i ≡ seekIn (take n table) s) where
-  pub place_found : {r c : ℕ} → i < n → r ≡ speedOfKind (get_or ks i 0) → c ≡ placedAs r i → c ≡ place (own_of (take n table) ks) s
+module _ (table ks : List ℕ) (n s i : ℕ) (fits : n ≤ length table) (e : i ≡ seek_in (take n table) s) where
+  pub place_found : {r c : ℕ} → i < n → r ≡ speed_of_kind (get_or ks i 0) → c ≡ placed_as r i → c ≡ place (own_of (take n table) ks) s
   place_found lt q c =
       let l = length-take-le n table fits in
       let f = seek-from (take n table) ks s 0 (omega (arith, l, e)) in

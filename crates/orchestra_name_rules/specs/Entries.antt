@@ -18,37 +18,37 @@ valid Declare n ts ms = ltb (length ms) 16 && not (has n (symbols ms))
 valid Instr n ts ms = ltb (length ts) 8 && not (has n ts)
 
 -- the names after it, of which there is room for 16; a declaration's operation is its kind
-abbrev pub namesAfter : OpClass → ℕ → ℕ → List Named → List Named
-namesAfter Value o n ms = ms
-namesAfter Name o n ms = ms
-namesAfter Store o n ms = ms
-namesAfter Output o n ms = ms
-namesAfter If o n ms = ms
-namesAfter Else o n ms = ms
-namesAfter End o n ms = ms
-namesAfter Declare o n ms = cond (ltb (length ms) 16) (ms ++ record { name = n; kind = o } ∷ []) ms
-namesAfter Instr o n ms = []
+abbrev pub names_after : OpClass → ℕ → ℕ → List Named → List Named
+names_after Value o n ms = ms
+names_after Name o n ms = ms
+names_after Store o n ms = ms
+names_after Output o n ms = ms
+names_after If o n ms = ms
+names_after Else o n ms = ms
+names_after End o n ms = ms
+names_after Declare o n ms = cond (ltb (length ms) 16) (ms ++ record { name = n; kind = o } ∷ []) ms
+names_after Instr o n ms = []
 
 -- the instruments after it, of which there is room for 8
-abbrev pub titlesAfter : OpClass → ℕ → List ℕ → List ℕ
-titlesAfter Value n ts = ts
-titlesAfter Name n ts = ts
-titlesAfter Store n ts = ts
-titlesAfter Output n ts = ts
-titlesAfter If n ts = ts
-titlesAfter Else n ts = ts
-titlesAfter End n ts = ts
-titlesAfter Declare n ts = ts
-titlesAfter Instr n ts = cond (ltb (length ts) 8) (ts ++ n ∷ []) ts
+abbrev pub titles_after : OpClass → ℕ → List ℕ → List ℕ
+titles_after Value n ts = ts
+titles_after Name n ts = ts
+titles_after Store n ts = ts
+titles_after Output n ts = ts
+titles_after If n ts = ts
+titles_after Else n ts = ts
+titles_after End n ts = ts
+titles_after Declare n ts = ts
+titles_after Instr n ts = cond (ltb (length ts) 8) (ts ++ n ∷ []) ts
 
 -- a name that is used stands by its place; one that is declared stays
-abbrev pub placedName : OpClass → ℕ → List Named → ℕ
-placedName Value n ms = n
-placedName Name n ms = place ms n
-placedName Store n ms = place ms n
-placedName Output n ms = n
-placedName If n ms = n
-placedName Else n ms = n
-placedName End n ms = n
-placedName Declare n ms = n
-placedName Instr n ms = n
+abbrev pub placed_name : OpClass → ℕ → List Named → ℕ
+placed_name Value n ms = n
+placed_name Name n ms = place ms n
+placed_name Store n ms = place ms n
+placed_name Output n ms = n
+placed_name If n ms = n
+placed_name Else n ms = n
+placed_name End n ms = n
+placed_name Declare n ms = n
+placed_name Instr n ms = n

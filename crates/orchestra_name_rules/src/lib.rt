@@ -1,9 +1,9 @@
 // The name rules of one instruction, the tables of names after it, and its name put by its place.
 ghost use Rattle.std.specs.Prelude.{◌≡◌, not, ◌&&◌, ℕ, ◌≤◌, List, length, take, ltb};
 ghost use Rattle.orchestra_syntax.specs.Names.{has};
-ghost use Rattle.orchestra_syntax.specs.inside.Placed.{place as place_of, speedOfKind};
-ghost use Rattle.orchestra_name_rules.specs.Entries.{valid, namesAfter, titlesAfter, placedName};
-ghost use Rattle.orchestra_name_rules.specs.Table.{seekIn, own};
+ghost use Rattle.orchestra_syntax.specs.inside.Placed.{place as place_of, speed_of_kind};
+ghost use Rattle.orchestra_name_rules.specs.Entries.{valid, names_after, titles_after, placed_name};
+ghost use Rattle.orchestra_name_rules.specs.Table.{seek_in, own};
 
 use orchestra_syntax::{MOST_NAMES, OpClass};
 
@@ -15,7 +15,7 @@ const MOST_INSTRUMENTS: usize = 8;
 // The place of the first of n words that is s, or n.
 fn seek(table: &[u16], n: usize, s: u16) -> usize
     requires { n ≤ length table.now }
-    ensures { result ≡ seekIn (take n table.now) s }
+    ensures { result ≡ seek_in (take n table.now) s }
 {
     let mut i: usize = 0;
     while i < n {
@@ -47,7 +47,7 @@ fn free(table: &[u16], n: usize, most: usize, s: u16) -> bool
 
 fn rate_of_kind(k: u8) -> u16
     ensures low { result ≤ 2 }
-    ensures is { result ≡ speedOfKind k }
+    ensures is { result ≡ speed_of_kind k }
 {
     if k == orchestra_syntax::FIELD {
         return orchestra_syntax::I_RATE;
@@ -98,7 +98,7 @@ pub fn is_valid(
 pub fn titles_after(act: OpClass, arg: u16, titles: &mut [u16], heads: usize) -> usize
     requires { (heads ≤ 8) × (length titles.old ≡ 8) }
     ensures room { result ≤ 8 }
-    ensures is { take result titles.new ≡ titlesAfter act arg (take heads titles.old) }
+    ensures is { take result titles.new ≡ titles_after act arg (take heads titles.old) }
 {
     match act {
         OpClass::Instr => {
@@ -123,7 +123,7 @@ pub fn names_after(
 ) -> usize
     requires { (count ≤ 16) × (length symbols.old ≡ 16) × (length kinds.old ≡ 16) }
     ensures room { result ≤ 16 }
-    ensures is { own symbols.new kinds.new result ≡ namesAfter act op arg (own symbols.old kinds.old count) }
+    ensures is { own symbols.new kinds.new result ≡ names_after act op arg (own symbols.old kinds.old count) }
 {
     match act {
         OpClass::Declare => {
@@ -141,7 +141,7 @@ pub fn names_after(
 
 pub fn placed(act: OpClass, arg: u16, symbols: &[u16], kinds: &[u8], count: usize) -> u16
     requires { (count ≤ 16) × (count ≤ length symbols.now) × (count ≤ length kinds.now) }
-    ensures { result ≡ placedName act arg (own symbols.now kinds.now count) }
+    ensures { result ≡ placed_name act arg (own symbols.now kinds.now count) }
 {
     match act {
         OpClass::Name => place(symbols, kinds, count, arg),

@@ -6,11 +6,11 @@ use mathlib.Core.List.{List, [], ◌∷◌}
 use mathlib.Core.Bool.{Bool, true, false, cond}
 use lib.ListN.{length, drop, drop_of_length-le}
 use Rattle.orchestra_tokens.specs.declared.Token.{Token}
-use Rattle.orchestra_syntax.specs.Tree.{fieldKind}
-use Rattle.orchestra_syntax.specs.inside.Program.{insArg}
+use Rattle.orchestra_syntax.specs.Tree.{field_kind}
+use Rattle.orchestra_syntax.specs.inside.Program.{ins_arg}
 use Rattle.orchestra_expressions.specs.declared.ParseState.{ParseState}
 use Rattle.orchestra_expressions.specs.declared.ParseState.TheVariants.{Next, Refused}
-use Rattle.orchestra_expressions.specs.Roles.{signL}
+use Rattle.orchestra_expressions.specs.Roles.{sign_l}
 use Rattle.orchestra_expressions.specs.Reader.{Res, ok, emit}
 use Rattle.orchestra_expressions.specs.Areas.{Areas, left, Ready, gone, Runs, refused}
 use Rattle.orchestra_expressions.proofs.ReaderSteps.{All}
@@ -20,48 +20,48 @@ use Rattle.orchestra_grammar.specs.declared.DeclarationStart.{DeclarationStart}
 use Rattle.orchestra_grammar.specs.declared.DeclarationStart.TheVariants.{Kind, Imports, Stop}
 use Rattle.orchestra_grammar.specs.declared.NameToken.{NameToken}
 use Rattle.orchestra_grammar.specs.declared.NameToken.TheVariants.{Is, Not}
-use Rattle.orchestra_grammar.specs.Starts.{declarationStartL, nameTokenL}
-use Rattle.orchestra_grammar.specs.Reader.{byNameToken, name, names, byDeclarationStart, declarations, stepDeclarations, fields, instrument, orchestra, none}
+use Rattle.orchestra_grammar.specs.Starts.{declaration_start_l, name_token_l}
+use Rattle.orchestra_grammar.specs.Reader.{by_name_token, name, names, by_declaration_start, declarations, step_declarations, fields, instrument, orchestra, none}
 use Rattle.orchestra_grammar.proofs.Steady.{whole-took}
 use Rattle.orchestra_grammar.proofs.Steps.{steady-declarations, declarations·law, names·law, orchestra·law, name-took, instrument-took}
 
 -- ---- a name
 
-pub word_in : (ts : List Token) (at : ℕ) {k : NameToken} {n : ℕ} → k ≡ nameTokenL (drop at ts) → k ≡ Is n → at < length ts
-word_in ts at e q = in-tokens nameTokenL ts at (λ x. let z : ◌≡◌ {A = ℕ} 0 1 = cc in omega arith)
+pub word_in : (ts : List Token) (at : ℕ) {k : NameToken} {n : ℕ} → k ≡ name_token_l (drop at ts) → k ≡ Is n → at < length ts
+word_in ts at e q = in-tokens name_token_l ts at (λ x. let z : ◌≡◌ {A = ℕ} 0 1 = cc in omega arith)
 
 -- room for one instruction after the first token
 pub ready-next : {ts : List Token} {k at out : ℕ} {g : ParseState} {m : Areas} → Ready ts k g m → g ≡ Next at out → at < length ts
     → Ready ts (suc k) (Next (at + 1) out) m
 ready-next r q lt = (past-start r q refl lt).ready
 
-pub name-as : (ts : List Token) (o at : ℕ) {out n : ℕ} {g r : ParseState} {m u : Areas} {k : NameToken} → g ≡ Next at out → k ≡ nameTokenL (drop at ts) → k ≡ Is n
-    → Runs ts (emit (insArg o n)) (Next (at + 1) out) m r u → Runs ts (name o) g m r u
-name-as ts o at {n = n} = runs_by ts at (name o) nameTokenL (λ k z. byNameToken o k (drop 1 z)) (Is n) (emit (insArg o n)) (λ z. refl) (λ z. refl)
+pub name-as : (ts : List Token) (o at : ℕ) {out n : ℕ} {g r : ParseState} {m u : Areas} {k : NameToken} → g ≡ Next at out → k ≡ name_token_l (drop at ts) → k ≡ Is n
+    → Runs ts (emit (ins_arg o n)) (Next (at + 1) out) m r u → Runs ts (name o) g m r u
+name-as ts o at {n = n} = runs_by ts at (name o) name_token_l (λ k z. by_name_token o k (drop 1 z)) (Is n) (emit (ins_arg o n)) (λ z. refl) (λ z. refl)
 
-pub name-no : (ts : List Token) (o at : ℕ) {out : ℕ} {g : ParseState} {m : Areas} {k : NameToken} → g ≡ Next at out → k ≡ nameTokenL (drop at ts) → k ≡ Not
+pub name-no : (ts : List Token) (o at : ℕ) {out : ℕ} {g : ParseState} {m : Areas} {k : NameToken} → g ≡ Next at out → k ≡ name_token_l (drop at ts) → k ≡ Not
     → Runs ts (name o) g m Refused m
-name-no ts o at q x y = let z : nameTokenL (drop at ts) ≡ Not = sym x ∙ y in refused at _ [] q (rw z) refl refl
+name-no ts o at q x y = let z : name_token_l (drop at ts) ≡ Not = sym x ∙ y in refused at _ [] q (rw z) refl refl
 
 -- ---- names
 
 -- what comes after a name
 abbrev rest : ℕ → List Token → Res
-rest k r = cond (signL r 19) (names k (drop 1 r)) (ok [] r)
+rest k r = cond (sign_l r 19) (names k (drop 1 r)) (ok [] r)
 
 pub names-no : {ts : List Token} (k : ℕ) {g h : ParseState} {m n : Areas} → Runs ts (name k) g m h n → h ≡ Refused → Runs ts (names k) g m Refused n
 names-no k x q = runs-law (names k) (names·law k) (runs_seq (rest k) (runs_to q x) (gone refl refl refl))
 
 module _ (ts : List Token) (k at : ℕ) {out : ℕ} {g h : ParseState} {m n : Areas} (x : Runs ts (name k) g m h n) where
-  module _ {b : Bool} (q : h ≡ Next at out) (e : b ≡ signL (drop at ts) 19) where
+  module _ {b : Bool} (q : h ≡ Next at out) (e : b ≡ sign_l (drop at ts) 19) where
     pub names_more : {r : ParseState} {u : Areas} → b ≡ true → Runs ts (names k) (Next (at + 1) out) n r u → Runs ts (names k) g m r u
     names_more y w =
-        let z : signL (drop at ts) 19 ≡ true = sym e ∙ y in
+        let z : sign_l (drop at ts) 19 ≡ true = sym e ∙ y in
         runs-law (names k) (names·law k) (runs_seq (rest k) (runs_to q x) (runs_as (rest k) refl (rw z) (runs_after w)))
 
     pub names-end : Ready ts 0 g m → b ≡ false → Runs ts (names k) g m (Next at out) n
     names-end r y =
-        let z : signL (drop at ts) 19 ≡ false = sym e ∙ y in
+        let z : sign_l (drop at ts) 19 ≡ false = sym e ∙ y in
         let v = runs_to q x in
         runs-law (names k) (names·law k) (runs_seq (rest k) v (stays (ready-took 0 (name-took k) r v) refl (rw z)))
 
@@ -80,36 +80,36 @@ Leads (Kind k) = Unit {0}
 Leads Imports = Unit {0}
 Leads Stop = ⊥
 
-pub lead-in : (ts : List Token) (at : ℕ) {k h : DeclarationStart} → k ≡ declarationStartL (drop at ts) → k ≡ h → Leads h → at < length ts
-lead-in ts at {h = h} e q f = in-tokens declarationStartL ts at (λ n. let z : h ≡ Stop = cc in rw z at f)
+pub lead-in : (ts : List Token) (at : ℕ) {k h : DeclarationStart} → k ≡ declaration_start_l (drop at ts) → k ≡ h → Leads h → at < length ts
+lead-in ts at {h = h} e q f = in-tokens declaration_start_l ts at (λ n. let z : h ≡ Stop = cc in rw z at f)
 
 pub lead-past : (ts : List Token) {t : ℕ} {g : ParseState} {m : Areas} (at : ℕ) {out : ℕ} {k h : DeclarationStart} → Ready ts 0 g m → left ts g ≡ t → g ≡ Next at out
-    → k ≡ declarationStartL (drop at ts) → k ≡ h → Leads h → Past ts t 1 (Next (at + 1) out) m
+    → k ≡ declaration_start_l (drop at ts) → k ≡ h → Leads h → Past ts t 1 (Next (at + 1) out) m
 lead-past ts at r e q x y f = past-start r q e (lead-in ts at x y f)
 
 pub declarations-took : (ts : List Token) → All (Took 0 ts) (declarations ts)
-declarations-took ts = whole-took stepDeclarations steady-declarations ts
+declarations-took ts = whole-took step_declarations steady-declarations ts
 
 pub declarations-as : (ts : List Token) (at : ℕ) {out : ℕ} {g r : ParseState} {m n : Areas} {k : DeclarationStart} (h : DeclarationStart) (f : List Token → Res)
-    → ((z : List Token) → byDeclarationStart declarations h z ≡ f (drop 1 z)) → g ≡ Next at out → k ≡ declarationStartL (drop at ts) → k ≡ h
+    → ((z : List Token) → by_declaration_start declarations h z ≡ f (drop 1 z)) → g ≡ Next at out → k ≡ declaration_start_l (drop at ts) → k ≡ h
     → Runs ts f (Next (at + 1) out) m r n → Runs ts declarations g m r n
-declarations-as ts at h f = runs_by ts at declarations declarationStartL (byDeclarationStart declarations) h f declarations·law
+declarations-as ts at h f = runs_by ts at declarations declaration_start_l (by_declaration_start declarations) h f declarations·law
 
 pub declarations-stop : (ts : List Token) (at : ℕ) {out : ℕ} {g : ParseState} {m : Areas} {k : DeclarationStart} → Ready ts 0 g m → g ≡ Next at out
-    → k ≡ declarationStartL (drop at ts) → k ≡ Stop → Runs ts declarations g m (Next at out) m
+    → k ≡ declaration_start_l (drop at ts) → k ≡ Stop → Runs ts declarations g m (Next at out) m
 declarations-stop ts at r q x y =
-    let z : declarationStartL (drop at ts) ≡ Stop = sym x ∙ y in
+    let z : declaration_start_l (drop at ts) ≡ Stop = sym x ∙ y in
     stays r q (declarations·law (drop at ts) ∙ rw z)
 
 -- ---- fields
 
-module _ (ts : List Token) (at : ℕ) {out : ℕ} {g : ParseState} {m : Areas} {b : Bool} (q : g ≡ Next at out) (x : b ≡ signL (drop at ts) 16) where
+module _ (ts : List Token) (at : ℕ) {out : ℕ} {g : ParseState} {m : Areas} {b : Bool} (q : g ≡ Next at out) (x : b ≡ sign_l (drop at ts) 16) where
   pub fields-none : Ready ts 0 g m → b ≡ true → Runs ts fields g m (Next at out) m
-  fields-none p y = let z : signL (drop at ts) 16 ≡ true = sym x ∙ y in stays p q (rw z)
+  fields-none p y = let z : sign_l (drop at ts) 16 ≡ true = sym x ∙ y in stays p q (rw z)
 
-  pub fields-some : {r : ParseState} {n : Areas} → b ≡ false → Runs ts (names fieldKind) (Next at out) m r n → Runs ts fields g m r n
+  pub fields-some : {r : ParseState} {n : Areas} → b ≡ false → Runs ts (names field_kind) (Next at out) m r n → Runs ts fields g m r n
   fields-some y w =
-      let z : signL (drop at ts) 16 ≡ false = sym x ∙ y in
+      let z : sign_l (drop at ts) 16 ≡ false = sym x ∙ y in
       rw q (runs_as fields refl (rw z) w)
 
 -- ---- instruments

@@ -4,11 +4,11 @@ use mathlib.Core.Path.{◌≡◌, sym, ap, ◌∙◌}
 use mathlib.Core.Bool.{Bool, true, false, ◌&&◌}
 use lib.Dec.{leb}
 use borrow.Author.Tests.{lt-ltb, le-ltb, le-leb, lt-leb}
-use Rattle.orchestra_syntax.specs.inside.Program.{opClassOf}
-use Rattle.orchestra_syntax.specs.inside.Placed.{rateOf}
+use Rattle.orchestra_syntax.specs.inside.Program.{op_class_of}
+use Rattle.orchestra_syntax.specs.inside.Placed.{rate_of}
 use Rattle.orchestra_syntax.specs.declared.OpClass.{OpClass}
 use Rattle.orchestra_syntax.specs.declared.OpClass.TheVariants.{Value, Name, Store, Output, If, Else, End, Declare, Instr}
-use Rattle.orchestra_rate_rules.specs.Change.{rates, guard, entered, left, ratesValid, ratesAfter}
+use Rattle.orchestra_rate_rules.specs.Change.{rates, guard, entered, left, rates_valid, rates_after}
 use Rattle.orchestra_rate_rules.specs.declared.Rates.{Rates}
 
 module _ (q : Rates) where
@@ -39,9 +39,9 @@ module _ (q : Rates) where
   pub left_is : (k a : ℕ) → k ≡ q.kdeep - 1 → a ≡ q.adeep - 1 → rates q.fastest k a ≡ left q
   left_is k a e f = rw (e, f)
 
-module _ (o n : ℕ) (q : Rates) {a : OpClass} (act : a ≡ opClassOf o) where
+module _ (o n : ℕ) (q : Rates) {a : OpClass} (act : a ≡ op_class_of o) where
   abbrev Valid : Bool → Type 0
-  Valid b = b ≡ ratesValid (opClassOf o) n q
+  Valid b = b ≡ rates_valid (op_class_of o) n q
 
   pub l-value : a ≡ Value → Valid true
   l-value f = rw (sym act ∙ f)
@@ -49,7 +49,7 @@ module _ (o n : ℕ) (q : Rates) {a : OpClass} (act : a ≡ opClassOf o) where
   pub l-name : a ≡ Name → Valid true
   l-name f = rw (sym act ∙ f)
 
-  pub l-store : {b : Bool} {r : ℕ} → a ≡ Store → r ≡ rateOf n → b ≡ (leb q.fastest r && leb (guard q) r) → Valid b
+  pub l-store : {b : Bool} {r : ℕ} → a ≡ Store → r ≡ rate_of n → b ≡ (leb q.fastest r && leb (guard q) r) → Valid b
   l-store f e d = rw (sym act ∙ f, ← e) d
 
   pub l-output : a ≡ Output → Valid true
@@ -71,12 +71,12 @@ module _ (o n : ℕ) (q : Rates) {a : OpClass} (act : a ≡ opClassOf o) where
   l-instr f = rw (sym act ∙ f)
 
   abbrev After : Rates → Type 0
-  After r = r ≡ ratesAfter (opClassOf o) n q
+  After r = r ≡ rates_after (op_class_of o) n q
 
   pub a-value : a ≡ Value → After q
   a-value f = rw (sym act ∙ f)
 
-  pub a-name : {x m : ℕ} {r : Rates} → a ≡ Name → x ≡ rateOf n → m ≡ max q.fastest x → r ≡ rates m q.kdeep q.adeep → After r
+  pub a-name : {x m : ℕ} {r : Rates} → a ≡ Name → x ≡ rate_of n → m ≡ max q.fastest x → r ≡ rates m q.kdeep q.adeep → After r
   a-name f e d g = rw (sym act ∙ f, ← e, ← d) g
 
   pub a-store : {r : Rates} → a ≡ Store → r ≡ rates 0 q.kdeep q.adeep → After r

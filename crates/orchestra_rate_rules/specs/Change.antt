@@ -1,6 +1,6 @@
 -- The rate rules of one instruction whose name is put by its place: whether it keeps them, and the rates after it.
 use Rattle.std.specs.Prelude.{ℕ, ◌+◌, ◌-◌, max, Bool, true, ◌&&◌, cond, leb, ltb}
-use Rattle.orchestra_syntax.specs.inside.Placed.{rateOf}
+use Rattle.orchestra_syntax.specs.inside.Placed.{rate_of}
 use Rattle.orchestra_syntax.specs.declared.OpClass.{OpClass}
 use Rattle.orchestra_syntax.specs.declared.OpClass.TheVariants.{Value, Name, Store, Output, If, Else, End, Declare, Instr}
 use Rattle.orchestra_rate_rules.specs.declared.Rates.{Rates}
@@ -22,24 +22,24 @@ left q = rates q.fastest (q.kdeep - 1) (q.adeep - 1)
 
 -- whether an instruction keeps the rules: an assignment is slower neither than its expression nor than a guard around it; an output has
 -- rate a, and no guard is faster
-abbrev pub ratesValid : OpClass → ℕ → Rates → Bool
-ratesValid Value n q = true
-ratesValid Name n q = true
-ratesValid Store n q = leb q.fastest (rateOf n) && leb (guard q) (rateOf n)
-ratesValid Output n q = true
-ratesValid If n q = true
-ratesValid Else n q = true
-ratesValid End n q = true
-ratesValid Declare n q = true
-ratesValid Instr n q = true
+abbrev pub rates_valid : OpClass → ℕ → Rates → Bool
+rates_valid Value n q = true
+rates_valid Name n q = true
+rates_valid Store n q = leb q.fastest (rate_of n) && leb (guard q) (rate_of n)
+rates_valid Output n q = true
+rates_valid If n q = true
+rates_valid Else n q = true
+rates_valid End n q = true
+rates_valid Declare n q = true
+rates_valid Instr n q = true
 
-abbrev pub ratesAfter : OpClass → ℕ → Rates → Rates
-ratesAfter Value n q = q
-ratesAfter Name n q = rates (max q.fastest (rateOf n)) q.kdeep q.adeep
-ratesAfter Store n q = rates 0 q.kdeep q.adeep
-ratesAfter Output n q = rates 0 q.kdeep q.adeep
-ratesAfter If n q = entered (max (guard q) q.fastest) q
-ratesAfter Else n q = q
-ratesAfter End n q = left q
-ratesAfter Declare n q = q
-ratesAfter Instr n q = q
+abbrev pub rates_after : OpClass → ℕ → Rates → Rates
+rates_after Value n q = q
+rates_after Name n q = rates (max q.fastest (rate_of n)) q.kdeep q.adeep
+rates_after Store n q = rates 0 q.kdeep q.adeep
+rates_after Output n q = rates 0 q.kdeep q.adeep
+rates_after If n q = entered (max (guard q) q.fastest) q
+rates_after Else n q = q
+rates_after End n q = left q
+rates_after Declare n q = q
+rates_after Instr n q = q

@@ -1,7 +1,7 @@
 // The rate rules of one instruction whose name is put by its place, and the rates after it.
 ghost use Rattle.std.specs.Prelude.{◌≡◌, ◌&&◌, ◌-◌, ◌<◌, max, leb};
-ghost use Rattle.orchestra_syntax.specs.inside.Program.{opClassOf};
-ghost use Rattle.orchestra_rate_rules.specs.Change.{rates, guard as guard_of, entered as entered_of, left as left_of, ratesValid, ratesAfter};
+ghost use Rattle.orchestra_syntax.specs.inside.Program.{op_class_of};
+ghost use Rattle.orchestra_rate_rules.specs.Change.{rates, guard as guard_of, entered as entered_of, left as left_of, rates_valid, rates_after};
 
 use orchestra_syntax::{A_RATE, I_RATE, K_RATE, OpClass};
 
@@ -90,7 +90,7 @@ fn assigns(q: Rates, r: u16) -> bool
 }
 
 pub fn rate_valid(op: u8, arg: u16, q: Rates) -> bool
-    ensures { result ≡ ratesValid (opClassOf op) arg q }
+    ensures { result ≡ rates_valid (op_class_of op) arg q }
 {
     match orchestra_syntax::op_class(op) {
         OpClass::Value => true,
@@ -107,7 +107,7 @@ pub fn rate_valid(op: u8, arg: u16, q: Rates) -> bool
 
 pub fn rates_after(op: u8, arg: u16, q: Rates) -> Rates
     requires { (q.kdeep < 9223372036854775807) × (q.adeep < 9223372036854775807) }
-    ensures { result ≡ ratesAfter (opClassOf op) arg q }
+    ensures { result ≡ rates_after (op_class_of op) arg q }
 {
     match orchestra_syntax::op_class(op) {
         OpClass::Value => q,

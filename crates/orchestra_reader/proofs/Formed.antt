@@ -4,12 +4,12 @@ use mathlib.Core.Path.{◌≡◌, refl}
 use mathlib.Core.List.{List}
 use Rattle.orchestra_tokens.specs.declared.Token.{Token}
 use Rattle.orchestra_syntax.specs.Tree.{Declaration, Instrument}
-use Rattle.orchestra_syntax.specs.inside.Program.{opClassOf}
+use Rattle.orchestra_syntax.specs.inside.Program.{op_class_of}
 use Rattle.orchestra_syntax.specs.declared.OpClass.TheVariants.{Declare}
 use Rattle.orchestra_syntax.specs.Grammar.{Kinds, ivar, ksig, asig, imports, Decls, none as no·decls, some as some·decls, is, Orchestra, last, next}
 use Rattle.orchestra_rules.specs.Formed.{FormedKinds, FormedAll}
 
-kind-declares : {k : ℕ} {ks : List Token} → Kinds k ks → opClassOf k ≡ Declare
+kind-declares : {k : ℕ} {ks : List Token} → Kinds k ks → op_class_of k ≡ Declare
 kind-declares ivar = refl
 kind-declares ksig = refl
 kind-declares asig = refl

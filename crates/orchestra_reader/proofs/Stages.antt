@@ -9,7 +9,7 @@ use Rattle.orchestra_grammar.proofs.Complete.{complete}
 use Rattle.orchestra_grammar.proofs.Sound.{sound}
 use Rattle.orchestra_grammar.proofs.Unique.{unique}
 use Rattle.orchestra_rules.specs.Formed.{ops_of, args_of}
-use Rattle.orchestra_rules.specs.Rating.{ratesPass}
+use Rattle.orchestra_rules.specs.Rating.{rates_pass}
 use Rattle.orchestra_rules.proofs.NamesLaw.{names-law}
 use Rattle.orchestra_rules.proofs.PlacesLaw.{places-law, ops-stay}
 use Rattle.orchestra_rules.proofs.RatesLaw.{rates-law}
@@ -30,7 +30,7 @@ names-judged is ts d = names-law is (formed d)
 
 pub rates-judged : RatesJudged
 rates-judged is ts d n =
-    ap (ratesPass (ops_of (program is))) (places-law is (formed d) n)
-    ∙ ap (λ l. ratesPass l (args_of (program (map placed is)))) (sym (ops-stay is))
+    ap (rates_pass (ops_of (program is))) (places-law is (formed d) n)
+    ∙ ap (λ l. rates_pass l (args_of (program (map placed is)))) (sym (ops-stay is))
     ∙ rates-law is (formed d) n
     ∙ rates-agree is n

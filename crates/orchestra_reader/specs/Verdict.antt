@@ -7,7 +7,7 @@ use Rattle.orchestra_tokens.specs.Encoding.{Bytes, Encodes}
 use Rattle.orchestra_tokens.specs.Measures.{longest, measured}
 use Rattle.orchestra_syntax.specs.Tree.{Instrument}
 use Rattle.orchestra_syntax.specs.Names.{name_rules}
-use Rattle.orchestra_syntax.specs.Rates.{rateRules}
+use Rattle.orchestra_syntax.specs.Rates.{rate_rules}
 use Rattle.orchestra_syntax.specs.Grammar.{Orchestra}
 use Rattle.orchestra_reader.specs.inside.Compiled.{compile, blank}
 use Rattle.orchestra_reader.specs.inside.Reading.{taken, refused, read_of}
@@ -25,22 +25,22 @@ pub record Accepted (bs : List ℕ) (is : List Instrument) : Type 0 where
   pub sized : Sized bs tokens
   pub derived : Orchestra is tokens
   pub named : name_rules is ≡ true
-  pub rated : rateRules is ≡ true
+  pub rated : rate_rules is ≡ true
 
 -- what each orchestra is given
 pub data Verdict (bs : List ℕ) : OrchestraRead → Type 0 where
   -- 16: length over 16,384 bytes
-  tooLong : longest < length bs → Verdict bs (refused TooLarge)
+  too_long : longest < length bs → Verdict bs (refused TooLarge)
   -- 12: not the bytes of any tokens
-  noTokens : length bs ≤ longest → ((ts : List Token) → Encodes bs ts → ⊥) → Verdict bs (refused BadToken)
+  no_tokens : length bs ≤ longest → ((ts : List Token) → Encodes bs ts → ⊥) → Verdict bs (refused BadToken)
   -- 16: tokens that break the measures
-  tooLarge : (ts : List Token) → length bs ≤ longest → Encodes bs ts → measured ts ≡ false → Verdict bs (refused TooLarge)
+  too_large : (ts : List Token) → length bs ≤ longest → Encodes bs ts → measured ts ≡ false → Verdict bs (refused TooLarge)
   -- 13: no tree derives them
   outside : (ts : List Token) → Sized bs ts → ((is : List Instrument) → Orchestra is ts → ⊥) → Verdict bs (refused BadGrammar)
   -- 14: the tree breaks the name rules
   misnamed : (ts : List Token) (is : List Instrument) → Sized bs ts → Orchestra is ts → name_rules is ≡ false → Verdict bs (refused BadNames)
   -- 15: it keeps those and breaks the rate rules
-  misrated : (ts : List Token) (is : List Instrument) → Sized bs ts → Orchestra is ts → name_rules is ≡ true → rateRules is ≡ false
+  misrated : (ts : List Token) (is : List Instrument) → Sized bs ts → Orchestra is ts → name_rules is ≡ true → rate_rules is ≡ false
       → Verdict bs (refused BadRates)
   -- 0: it keeps both
   accepted : (is : List Instrument) → Accepted bs is → Verdict bs (taken (compile is))

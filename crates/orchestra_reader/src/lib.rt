@@ -2,8 +2,8 @@
 ghost use Rattle.std.specs.Prelude.{◌≡◌, ◌≤◌, length, take};
 ghost use Rattle.orchestra_tokens.specs.inside.Token.{toks};
 ghost use Rattle.orchestra_grammar.specs.Reader.{orchestra};
-ghost use Rattle.orchestra_reader.specs.inside.Reading.{refused, startsFrom, byGrammar, read_of};
-ghost use Rattle.orchestra_reader.specs.inside.Arrays.{starting, startsIn, markedAt, Fits, judgement, placedIf, keptIn, finishedIn};
+ghost use Rattle.orchestra_reader.specs.inside.Reading.{refused, starts_from, by_grammar, read_of};
+ghost use Rattle.orchestra_reader.specs.inside.Arrays.{starting, starts_in, marked_at, Fits, judgement, placed_if, kept_in, finished_in};
 
 use base_answer::Answer;
 use orchestra_expressions::ParseState;
@@ -55,7 +55,7 @@ struct Starts {
 // With the place of one more operation: an instrument starts at instr, where there is room for it. Gives how many there are then.
 fn with_start(places: &mut [u16], count: usize, op: u8, at: u16) -> usize
     requires { Fits (starting count places.old) }
-    ensures { starting result places.new ≡ markedAt (starting count places.old) op at }
+    ensures { starting result places.new ≡ marked_at (starting count places.old) op at }
 {
     if op == orchestra_signs::INSTR {
         if count < MOST_INSTRUMENTS {
@@ -68,7 +68,7 @@ fn with_start(places: &mut [u16], count: usize, op: u8, at: u16) -> usize
 
 fn starts_of(ops: &[u8]) -> Starts
     requires { length ops.now ≤ 2048 }
-    ensures { result ≡ startsIn (take 8 (startsFrom 0 ops.now)) }
+    ensures { result ≡ starts_in (take 8 (starts_from 0 ops.now)) }
 {
     let mut places = [0u16; 8];
     let mut count: usize = 0;
@@ -86,7 +86,7 @@ fn starts_of(ops: &[u8]) -> Starts
 // The name rules, then the rate rules. Where the first are kept, names are put by their places.
 fn rules_answer(ops: &[u8], args: &mut [u16]) -> Answer
     ensures answer { result ≡ judgement ops.now args.old }
-    ensures names { args.new ≡ placedIf ops.now args.old }
+    ensures names { args.new ≡ placed_if ops.now args.old }
 {
     if orchestra_rules::obeys_name_rules(ops, args) {
         orchestra_rules::place_names(ops, args);
@@ -103,7 +103,7 @@ fn rules_answer(ops: &[u8], args: &mut [u16]) -> Answer
 // An accepted orchestra, whose program stands in the first cells of three arrays.
 fn accepted(ops: [u8; 2048], args: [u16; 2048], vals: [f32; 2048], length: usize) -> OrchestraRead
     requires { length ≤ 2048 }
-    ensures { result ≡ keptIn ops args vals length }
+    ensures { result ≡ kept_in ops args vals length }
 {
     let s = starts_of(&ops[..length]);
     let heads = s.places;
@@ -123,7 +123,7 @@ fn accepted(ops: [u8; 2048], args: [u16; 2048], vals: [f32; 2048], length: usize
 // The rules, of a program in the first cells of three arrays.
 fn finished(ops: [u8; 2048], args: [u16; 2048], vals: [f32; 2048], length: usize) -> OrchestraRead
     requires { length ≤ 2048 }
-    ensures { result ≡ finishedIn ops args vals length }
+    ensures { result ≡ finished_in ops args vals length }
 {
     let mut places = args;
     let a = rules_answer(&ops[..length], &mut places[..length]);
@@ -137,7 +137,7 @@ fn finished(ops: [u8; 2048], args: [u16; 2048], vals: [f32; 2048], length: usize
 // The grammar, then the rules, of tokens within the measures.
 fn parsed(kinds: &[u8], words: &[u32], reals: &[f32]) -> OrchestraRead
     requires { length kinds.now ≤ 2048 }
-    ensures { result ≡ byGrammar (orchestra (toks kinds.now words.now reals.now)) }
+    ensures { result ≡ by_grammar (orchestra (toks kinds.now words.now reals.now)) }
 {
     let mut ops = [0u8; 2048];
     let mut args = [0u16; 2048];

@@ -9,28 +9,28 @@ use lib.Dec.{ltb, eqb}
 use borrow.Author.Tests.{le-leb, lt-ltb}
 use Rattle.base_laws.proofs.Choice.{both_true}
 use Rattle.orchestra_syntax.specs.Tree.{Expr, number, name, unary, binary, choose, Statements, done, assign, output, branch, Instrument}
-use Rattle.orchestra_syntax.specs.inside.Program.{Ins, ins, insArg, opClassOf, chooseOp, ifOp, elseOp, endOp, instrOp, compile, code, program, unaryOp, binaryOp}
-use Rattle.orchestra_syntax.specs.Names.{Named, names_of, obeysNameRules, allObeyNameRules, name_rules}
-use Rattle.orchestra_syntax.specs.inside.Placed.{placeFrom, put_in, put, placed, speed, speedOfKind, rateOf, rate, obeysRateRules, rateRules}
-use Rattle.orchestra_syntax.specs.Rates.{Rate, iRate, kRate, aRate, rateOfKind}
+use Rattle.orchestra_syntax.specs.inside.Program.{Ins, ins, ins_arg, op_class_of, choose_op, if_op, else_op, end_op, instr_op, compile, code, program, unary_op, binary_op}
+use Rattle.orchestra_syntax.specs.Names.{Named, names_of, obeys_name_rules, all_obey_name_rules, name_rules}
+use Rattle.orchestra_syntax.specs.inside.Placed.{place_from, put_in, put, placed, speed, speed_of_kind, rate_of, rate, obeys_rate_rules, rate_rules}
+use Rattle.orchestra_syntax.specs.Rates.{Rate, i_rate, k_rate, a_rate, rate_of_kind}
 use Rattle.orchestra_syntax.specs.declared.OpClass.{OpClass}
 use Rattle.orchestra_syntax.specs.declared.OpClass.TheVariants.{Value, Declare, Instr}
-use Rattle.orchestra_rate_rules.specs.Change.{rates, entered, ratesValid, ratesAfter}
-use Rattle.orchestra_rules.specs.Rating.{ratesFrom, ratesPass}
+use Rattle.orchestra_rate_rules.specs.Change.{rates, entered, rates_valid, rates_after}
+use Rattle.orchestra_rules.specs.Rating.{rates_from, rates_pass}
 use Rattle.orchestra_syntax.proofs.Operations.{unary-value, binary-value}
 use Rattle.orchestra_rules.specs.Formed.{FormedAll, ops_of, args_of}
 use Rattle.orchestra_rate_rules.specs.declared.Rates.{Rates}
-use Rattle.orchestra_rules.proofs.Declaring.{declareAll, Kinds, instrument-is, kinds-of}
+use Rattle.orchestra_rules.proofs.Declaring.{declare_all, Kinds, instrument-is, kinds-of}
 use Rattle.orchestra_rules.proofs.PlacesLaw.{at-most-16, each-kept}
 
 abbrev on : List Ins → Rates → Bool
-on c q = ratesFrom (ops_of c) (args_of c) q
+on c q = rates_from (ops_of c) (args_of c) q
 
-rates-next : (i : Ins) (c : List Ins) (q : Rates) (a : OpClass) → opClassOf i.op ≡ a → on (i ∷ c) q ≡ (ratesValid a i.arg q && on c (ratesAfter a i.arg q))
-unfolding ratesFrom
-rates-next i c q a e = ap (λ (x : OpClass). ratesValid x i.arg q && on c (ratesAfter x i.arg q)) e
+rates-next : (i : Ins) (c : List Ins) (q : Rates) (a : OpClass) → op_class_of i.op ≡ a → on (i ∷ c) q ≡ (rates_valid a i.arg q && on c (rates_after a i.arg q))
+unfolding rates_from
+rates-next i c q a e = ap (λ (x : OpClass). rates_valid x i.arg q && on c (rates_after x i.arg q)) e
 
-rates-op : (o : ℕ) (c : List Ins) (q : Rates) → opClassOf o ≡ Value → on (ins o ∷ c) q ≡ on c q
+rates-op : (o : ℕ) (c : List Ins) (q : Rates) → op_class_of o ≡ Value → on (ins o ∷ c) q ≡ on c q
 rates-op o c q e = rates-next (ins o) c q Value e
 
 -- ---- an expression has the rate of its fastest part
@@ -40,16 +40,16 @@ module _ (k a : ℕ) where
   at c m = on c (rates m k a)
 
   rates-expr : (e : Expr) (c : List Ins) (m : ℕ) → at (compile e ++ c) m ≡ at c (max m (rate e))
-  unfolding compile rate ratesFrom
+  unfolding compile rate rates_from
   rates-expr (number x) c m = let z : m ≡ max m 0 = omega arith in ap (at c) z
   rates-expr (name n) c m = refl
-  rates-expr (unary o e) c m = simp (append_assoc, rates-expr e, rates-op (unaryOp o) c (rates (max m (rate e)) k a) (unary-value o))
+  rates-expr (unary o e) c m = simp (append_assoc, rates-expr e, rates-op (unary_op o) c (rates (max m (rate e)) k a) (unary-value o))
   rates-expr (binary o x y) c m =
       let z : max (max m (rate x)) (rate y) ≡ max m (max (rate x) (rate y)) = omega arith in
-      simp (append_assoc, rates-expr x, rates-expr y, rates-op (binaryOp o) c (rates (max (max m (rate x)) (rate y)) k a) (binary-value o)) (ap (at c) z)
+      simp (append_assoc, rates-expr x, rates-expr y, rates-op (binary_op o) c (rates (max (max m (rate x)) (rate y)) k a) (binary-value o)) (ap (at c) z)
   rates-expr (choose t x y) c m =
       let z : max (max (max m (rate t)) (rate x)) (rate y) ≡ max m (max (rate t) (max (rate x) (rate y))) = omega arith in
-      simp (append_assoc, rates-expr t, rates-expr x, rates-expr y, rates-op chooseOp c (rates (max (max (max m (rate t)) (rate x)) (rate y)) k a) refl) (ap (at c) z)
+      simp (append_assoc, rates-expr t, rates-expr x, rates-expr y, rates-op choose_op c (rates (max (max (max m (rate t)) (rate x)) (rate y)) k a) refl) (ap (at c) z)
 
   rates-whole : (e : Expr) (c : List Ins) → at (compile e ++ c) 0 ≡ at c (rate e)
   rates-whole e c = let z : max 0 (rate e) ≡ rate e = omega arith in rates-expr e c 0 ∙ ap (at c) z
@@ -95,46 +95,46 @@ Slow (branch e a b r) = (rate e ≤ 2) × (Slow a × (Slow b × Slow r))
 
 -- ---- statements
 
-rates-code : (t : Statements) (c : List Ins) (k a : ℕ) → Slow t → a ≤ k → on (code t ++ c) (rates 0 k a) ≡ (obeysRateRules (around k a) t && on c (rates 0 k a))
-unfolding code obeysRateRules Slow ratesFrom
+rates-code : (t : Statements) (c : List Ins) (k a : ℕ) → Slow t → a ≤ k → on (code t ++ c) (rates 0 k a) ≡ (obeys_rate_rules (around k a) t && on c (rates 0 k a))
+unfolding code obeys_rate_rules Slow rates_from
 rates-code done c k a s le = refl
 rates-code (assign n e t) c k a s le = simp (append_assoc, rates-whole k a e, rates-code t c k a s le, and_assoc)
 rates-code (output e t) c k a s le = simp (append_assoc, rates-whole k a e, rates-code t c k a s le, le-leb (around k a) 2 (around-low k a))
 rates-code (branch e x y t) c k a s le =
     let C = code t ++ c in
-    let B = code y ++ ins endOp ∷ C in
-    let A = code x ++ ins elseOp ∷ B in
+    let B = code y ++ ins end_op ∷ C in
+    let A = code x ++ ins else_op ∷ B in
     let m = max (around k a) (rate e) in
     let low = around-low k a in
     let r = s.0 in
     let i = inside k a m le (omega arith) (omega arith) in
-    let u = obeysRateRules m x in
-    let v = obeysRateRules m y in
-    let w = obeysRateRules (around k a) t in
+    let u = obeys_rate_rules m x in
+    let v = obeys_rate_rules m y in
+    let w = obeys_rate_rules (around k a) t in
     simp append_assoc
-    (rates-whole k a e (ins ifOp ∷ A) ∙ ap (on A) (i.opens (rate e)) ∙ rates-code x (ins elseOp ∷ B) i.kin i.ain s.1.0 i.least
-    ∙ ap₂ (λ (g : ℕ) b. obeysRateRules g x && b) i.guards
-    (rates-code y (ins endOp ∷ C) i.kin i.ain s.1.1.0 i.least
-    ∙ ap₂ (λ (g : ℕ) b. obeysRateRules g y && b) i.guards
+    (rates-whole k a e (ins if_op ∷ A) ∙ ap (on A) (i.opens (rate e)) ∙ rates-code x (ins else_op ∷ B) i.kin i.ain s.1.0 i.least
+    ∙ ap₂ (λ (g : ℕ) b. obeys_rate_rules g x && b) i.guards
+    (rates-code y (ins end_op ∷ C) i.kin i.ain s.1.1.0 i.least
+    ∙ ap₂ (λ (g : ℕ) b. obeys_rate_rules g y && b) i.guards
     (ap₂ (λ (f g : ℕ). on C (rates 0 f g)) i.back-k i.back_a ∙ rates-code t c k a s.1.1.1 le))
     ∙ sym (and_assoc u v (w && on c (rates 0 k a))) ∙ sym (and_assoc (u && v) w (on c (rates 0 k a))))
 
 -- ---- placed trees
 
-rate-of-kind-low : (k : ℕ) → speedOfKind k ≤ 2
-rate-of-kind-low k = go (rateOfKind k)
+rate-of-kind-low : (k : ℕ) → speed_of_kind k ≤ 2
+rate-of-kind-low k = go (rate_of_kind k)
   where
     go : (r : Rate) → speed r ≤ 2
-    go iRate = omega arith
-    go kRate = omega arith
-    go aRate = omega arith
+    go i_rate = omega arith
+    go k_rate = omega arith
+    go a_rate = omega arith
 
-place-low : (ms : List Named) (n p : ℕ) → p + length ms ≤ 16 → rateOf (placeFrom p n ms) ≤ 2
-unfolding placeFrom
+place-low : (ms : List Named) (n p : ℕ) → p + length ms ≤ 16 → rate_of (place_from p n ms) ≤ 2
+unfolding place_from
 place-low [] n p h = omega arith
 place-low (m ∷ ms) n p h = go (eqb m.name n) (place-low ms n (suc p) (omega arith))
   where
-    go : (b : Bool) → rateOf (placeFrom (suc p) n ms) ≤ 2 → rateOf (cond b (16 * speedOfKind m.kind + p) (placeFrom (suc p) n ms)) ≤ 2
+    go : (b : Bool) → rate_of (place_from (suc p) n ms) ≤ 2 → rate_of (cond b (16 * speed_of_kind m.kind + p) (place_from (suc p) n ms)) ≤ 2
     go true ih = let k = rate-of-kind-low m.kind in omega (arith, k)
     go false ih = ih
 
@@ -154,25 +154,25 @@ module _ (ms : List Named) (h : length ms ≤ 16) where
   slow-put (output e t) = slow-put t
   slow-put (branch e a b t) = (rate-low e, (slow-put a, (slow-put b, slow-put t)))
 
-rates-declare : (ns : List Named) (c : List Ins) (q : Rates) → Kinds ns → on (declareAll ns ++ c) q ≡ on c q
+rates-declare : (ns : List Named) (c : List Ins) (q : Rates) → Kinds ns → on (declare_all ns ++ c) q ≡ on c q
 unfolding Kinds
 rates-declare [] c q k = refl
-rates-declare (n ∷ ns) c q k = rates-next (insArg n.kind n.name) (declareAll ns ++ c) q Declare k.0 ∙ rates-declare ns c q k.1
+rates-declare (n ∷ ns) c q k = rates-next (ins_arg n.kind n.name) (declare_all ns ++ c) q Declare k.0 ∙ rates-declare ns c q k.1
 
-rates-program : (is : List Instrument) → FormedAll is → allObeyNameRules is ≡ true → on (program (map placed is)) (rates 0 0 0) ≡ rateRules is
-unfolding program FormedAll allObeyNameRules rateRules ratesFrom
+rates-program : (is : List Instrument) → FormedAll is → all_obey_name_rules is ≡ true → on (program (map placed is)) (rates 0 0 0) ≡ rate_rules is
+unfolding program FormedAll all_obey_name_rules rate_rules rates_from
 rates-program [] f e = refl
 rates-program (i ∷ is) f e =
     let ms = names_of i in
     let r = program (map placed is) in
-    let (p, q) = both_true (obeysNameRules i) (allObeyNameRules is) e in
+    let (p, q) = both_true (obeys_name_rules i) (all_obey_name_rules is) e in
     ap (λ l. on l (rates 0 0 0)) (instrument-is (placed i) r)
-    ∙ rates-next (insArg instrOp i.name) (declareAll ms ++ (code (put ms i.body) ++ r)) (rates 0 0 0) Instr refl
+    ∙ rates-next (ins_arg instr_op i.name) (declare_all ms ++ (code (put ms i.body) ++ r)) (rates 0 0 0) Instr refl
     ∙ rates-declare ms (code (put ms i.body) ++ r) (rates 0 0 0) (kinds-of i f.0)
     ∙ rates-code (put ms i.body) r 0 0 (slow-put ms (at-most-16 i p) i.body) (omega arith)
-    ∙ ap (λ b. obeysRateRules 0 (put ms i.body) && b) (rates-program is f.1 q)
+    ∙ ap (λ b. obeys_rate_rules 0 (put ms i.body) && b) (rates-program is f.1 q)
 
 -- the pass over a placed tree's program is the tree's rate rules
 pub rates-law : (is : List Instrument) → FormedAll is → name_rules is ≡ true
-    → ratesPass (ops_of (program (map placed is))) (args_of (program (map placed is))) ≡ rateRules is
+    → rates_pass (ops_of (program (map placed is))) (args_of (program (map placed is))) ≡ rate_rules is
 rates-law is f e = rates-program is f (each-kept is e)

@@ -1,14 +1,14 @@
 // The name rules and the rate rules as passes over a program, and its names put by their places. A program is given as two slices: an
 // operation for each instruction, and the name (or the place) that it has.
 ghost use Rattle.std.specs.Prelude.{◌≡◌};
-ghost use Rattle.orchestra_rules.specs.Naming.{namesPass, placesPass};
-ghost use Rattle.orchestra_rules.specs.Rating.{ratesPass};
+ghost use Rattle.orchestra_rules.specs.Naming.{names_pass, places_pass};
+ghost use Rattle.orchestra_rules.specs.Rating.{rates_pass};
 
 use orchestra_rate_rules::Rates;
 
 // Whether a program keeps the name rules.
 pub fn obeys_name_rules(ops: &[u8], args: &[u16]) -> bool
-    ensures { result ≡ namesPass ops.now args.now }
+    ensures { result ≡ names_pass ops.now args.now }
 {
     let mut titles = [0u16; 8];
     let mut symbols = [0u16; 16];
@@ -37,7 +37,7 @@ pub fn obeys_name_rules(ops: &[u8], args: &[u16]) -> bool
 
 // Puts the names that a program uses by their places.
 pub fn place_names(ops: &[u8], args: &mut [u16])
-    ensures { args.new ≡ placesPass ops.now args.old }
+    ensures { args.new ≡ places_pass ops.now args.old }
 {
     let mut symbols = [0u16; 16];
     let mut kinds = [0u8; 16];
@@ -58,7 +58,7 @@ pub fn place_names(ops: &[u8], args: &mut [u16])
 
 // Whether a program whose names are put by their places keeps the rate rules.
 pub fn obeys_rate_rules(ops: &[u8], args: &[u16]) -> bool
-    ensures { result ≡ ratesPass ops.now args.now }
+    ensures { result ≡ rates_pass ops.now args.now }
 {
     let mut q = Rates {
         fastest: orchestra_syntax::I_RATE,

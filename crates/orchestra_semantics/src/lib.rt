@@ -1,1 +1,1 @@
-// What an instrument's statements do to a note: specs/Meaning.antt, by symbol, and specs/Placed.antt, by place. There is no code here.
+// What an instrument's statements do to a note: specs/meaning.antt, by symbol, and specs/placed.antt, by place. There is no code here.

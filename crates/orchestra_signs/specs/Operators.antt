@@ -2,65 +2,65 @@
 use Rattle.std.specs.Prelude.{Float}
 use Rattle.std.specs.Float.{binary32}
 use Rattle.std.specs.Float.Ieee.{neg, add, sub, mul, div, lt, le, eq, ne}
-use Rattle.base_float32.specs.Builtins.{absOf, sgnOf, int_of, fracOf, minOf, max_of, flagOf, either_of, bothOf, notOf}
+use Rattle.base_float32.specs.Builtins.{abs_of, sgn_of, int_of, frac_of, min_of, max_of, flag_of, either_of, both_of, not_of}
 use Rattle.orchestra_signs.specs.Signs as S
 use Rattle.orchestra_signs.specs.Signs.{Sign}
 
 -- with one operand
 pub data Unary : Type 0 where
   absolute signum whole fraction not negative : Unary
-  deriving Discrete as sameUnary
+  deriving Discrete as same_unary
 
 -- with two
 pub data Binary : Type 0 where
   least greatest or and equal unequal less greater at_most at_least plus minus times over : Binary
-  deriving Discrete as sameBinary
+  deriving Discrete as same_binary
 
-abbrev pub unarySign : Unary → Sign
-unarySign absolute = S.abs
-unarySign signum = S.sgn
-unarySign whole = S.int
-unarySign fraction = S.frac
-unarySign not = S.!
-unarySign negative = S.-
+abbrev pub unary_sign : Unary → Sign
+unary_sign absolute = S.abs
+unary_sign signum = S.sgn
+unary_sign whole = S.int
+unary_sign fraction = S.frac
+unary_sign not = S.!
+unary_sign negative = S.-
 
-abbrev pub binarySign : Binary → Sign
-binarySign least = S.min
-binarySign greatest = S.max
-binarySign or = S.||
-binarySign and = S.&&
-binarySign equal = S.==
-binarySign unequal = S.!=
-binarySign less = S.<
-binarySign greater = S.>
-binarySign at_most = S.<=
-binarySign at_least = S.>=
-binarySign plus = S.+
-binarySign minus = S.-
-binarySign times = S.*
-binarySign over = S./
+abbrev pub binary_sign : Binary → Sign
+binary_sign least = S.min
+binary_sign greatest = S.max
+binary_sign or = S.||
+binary_sign and = S.&&
+binary_sign equal = S.==
+binary_sign unequal = S.!=
+binary_sign less = S.<
+binary_sign greater = S.>
+binary_sign at_most = S.<=
+binary_sign at_least = S.>=
+binary_sign plus = S.+
+binary_sign minus = S.-
+binary_sign times = S.*
+binary_sign over = S./
 
 -- "What the code does": each operation rounded once
-abbrev pub unaryDoes : Unary → Float → Float
-unaryDoes absolute x = absOf x
-unaryDoes signum x = sgnOf x
-unaryDoes whole x = int_of x
-unaryDoes fraction x = fracOf x
-unaryDoes not x = notOf x
-unaryDoes negative x = neg x
+abbrev pub unary_does : Unary → Float → Float
+unary_does absolute x = abs_of x
+unary_does signum x = sgn_of x
+unary_does whole x = int_of x
+unary_does fraction x = frac_of x
+unary_does not x = not_of x
+unary_does negative x = neg x
 
-abbrev pub binaryDoes : Binary → Float → Float → Float
-binaryDoes least x y = minOf x y
-binaryDoes greatest x y = max_of x y
-binaryDoes or x y = either_of x y
-binaryDoes and x y = bothOf x y
-binaryDoes equal x y = flagOf (eq x y)
-binaryDoes unequal x y = flagOf (ne x y)
-binaryDoes less x y = flagOf (lt x y)
-binaryDoes greater x y = flagOf (lt y x)
-binaryDoes at_most x y = flagOf (le x y)
-binaryDoes at_least x y = flagOf (le y x)
-binaryDoes plus x y = add binary32 x y
-binaryDoes minus x y = sub binary32 x y
-binaryDoes times x y = mul binary32 x y
-binaryDoes over x y = div binary32 x y
+abbrev pub binary_does : Binary → Float → Float → Float
+binary_does least x y = min_of x y
+binary_does greatest x y = max_of x y
+binary_does or x y = either_of x y
+binary_does and x y = both_of x y
+binary_does equal x y = flag_of (eq x y)
+binary_does unequal x y = flag_of (ne x y)
+binary_does less x y = flag_of (lt x y)
+binary_does greater x y = flag_of (lt y x)
+binary_does at_most x y = flag_of (le x y)
+binary_does at_least x y = flag_of (le y x)
+binary_does plus x y = add binary32 x y
+binary_does minus x y = sub binary32 x y
+binary_does times x y = mul binary32 x y
+binary_does over x y = div binary32 x y

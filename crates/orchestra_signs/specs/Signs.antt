@@ -5,7 +5,7 @@ pub data Sign : Type 0 where
   instr ivar ksig asig imports output if else : Sign
   abs sgn int frac min max : Sign
   -- ( ) { } , ; = ? :
-  roundOpen roundClose curlyOpen curlyClose comma semicolon becomes question colon : Sign
+  round_open round_close curly_open curly_close comma semicolon becomes question colon : Sign
   || && == != < > <= >= + - * / ! : Sign
   deriving Discrete as same
 
@@ -13,7 +13,7 @@ pub data Sign : Type 0 where
 abbrev pub signs : List Sign
 signs =
     instr ∷ ivar ∷ ksig ∷ asig ∷ imports ∷ output ∷ if ∷ else ∷ abs ∷ sgn ∷ int ∷ frac ∷ min ∷ max
-    ∷ roundOpen ∷ roundClose ∷ curlyOpen ∷ curlyClose ∷ comma ∷ semicolon ∷ becomes ∷ question ∷ colon
+    ∷ round_open ∷ round_close ∷ curly_open ∷ curly_close ∷ comma ∷ semicolon ∷ becomes ∷ question ∷ colon
     ∷ || ∷ && ∷ == ∷ != ∷ < ∷ > ∷ <= ∷ >= ∷ + ∷ - ∷ * ∷ / ∷ ! ∷ []
 
 -- how many of a list stand before a sign

@@ -9,20 +9,20 @@ use Rattle.orchestra_semantics.specs.Meaning.{Environment, value}
 
 -- ---- floats by their bits
 
-abbrev plusZero : Float
-plusZero = of_bits binary32 0
+abbrev plus_zero : Float
+plus_zero = of_bits binary32 0
 
-abbrev minusZero : Float
-minusZero = of_bits binary32 0x8000_0000
+abbrev minus_zero : Float
+minus_zero = of_bits binary32 0x8000_0000
 
 abbrev one : Float
 one = of_bits binary32 0x3f80_0000
 
-abbrev minusOne : Float
-minusOne = of_bits binary32 0xbf80_0000
+abbrev minus_one : Float
+minus_one = of_bits binary32 0xbf80_0000
 
-abbrev minusHalf : Float
-minusHalf = of_bits binary32 0xbf00_0000
+abbrev minus_half : Float
+minus_half = of_bits binary32 0xbf00_0000
 
 -- 3.4028235 * 10 ^ 38
 abbrev largest : Float
@@ -31,8 +31,8 @@ largest = of_bits binary32 0x7f7f_ffff
 abbrev infinity : Float
 infinity = of_bits binary32 0x7f80_0000
 
-abbrev minusInfinity : Float
-minusInfinity = of_bits binary32 0xff80_0000
+abbrev minus_infinity : Float
+minus_infinity = of_bits binary32 0xff80_0000
 
 -- ---- the table
 
@@ -49,72 +49,72 @@ abbrev of : O.Binary → Float → Float → Float → Row
 of o x y z = record { asked = binary o (number x) (number y); said = z }
 
 abbrev by : Float → Float → Row
-by x y = record { asked = choose (number x) (number one) (number minusOne); said = y }
+by x y = record { asked = choose (number x) (number one) (number minus_one); said = y }
 
 abbrev pub table : List Row
 table =
     -- anything not equal to 0 counts as true, not-a-number included
-    on O.not nan plusZero
-    ∷ on O.not minusZero one
+    on O.not nan plus_zero
+    ∷ on O.not minus_zero one
     ∷ of O.and nan one one
-    ∷ of O.and one minusZero plusZero
-    ∷ of O.or nan plusZero one
-    ∷ of O.or minusZero minusZero plusZero
+    ∷ of O.and one minus_zero plus_zero
+    ∷ of O.or nan plus_zero one
+    ∷ of O.or minus_zero minus_zero plus_zero
     ∷ by nan one
-    ∷ by minusZero minusOne
+    ∷ by minus_zero minus_one
     -- not-a-number is unequal to everything and in no order; the zeros are equal
-    ∷ of O.equal nan nan plusZero
+    ∷ of O.equal nan nan plus_zero
     ∷ of O.unequal nan nan one
-    ∷ of O.less nan one plusZero
-    ∷ of O.greater nan one plusZero
-    ∷ of O.at_most nan nan plusZero
-    ∷ of O.at_least nan nan plusZero
-    ∷ of O.equal plusZero minusZero one
-    ∷ of O.less minusZero plusZero plusZero
+    ∷ of O.less nan one plus_zero
+    ∷ of O.greater nan one plus_zero
+    ∷ of O.at_most nan nan plus_zero
+    ∷ of O.at_least nan nan plus_zero
+    ∷ of O.equal plus_zero minus_zero one
+    ∷ of O.less minus_zero plus_zero plus_zero
     -- min is y if y < x, else x; max is y if x < y, else x
     ∷ of O.least nan one nan
     ∷ of O.least one nan one
     ∷ of O.greatest nan one nan
     ∷ of O.greatest one nan one
-    ∷ of O.least plusZero minusZero plusZero
-    ∷ of O.greatest minusZero plusZero minusZero
+    ∷ of O.least plus_zero minus_zero plus_zero
+    ∷ of O.greatest minus_zero plus_zero minus_zero
     -- abs clears the sign
-    ∷ on O.absolute minusZero plusZero
-    ∷ on O.absolute minusInfinity infinity
+    ∷ on O.absolute minus_zero plus_zero
+    ∷ on O.absolute minus_infinity infinity
     ∷ on O.absolute nan nan
     -- sgn gives 1, -1 or +0, and +0 for not-a-number
-    ∷ on O.signum nan plusZero
-    ∷ on O.signum minusZero plusZero
-    ∷ on O.signum minusInfinity minusOne
+    ∷ on O.signum nan plus_zero
+    ∷ on O.signum minus_zero plus_zero
+    ∷ on O.signum minus_infinity minus_one
     -- int drops the fraction; a zero answer is +0, infinities and not-a-number stay
-    ∷ on O.whole minusHalf plusZero
-    ∷ on O.whole minusZero plusZero
+    ∷ on O.whole minus_half plus_zero
+    ∷ on O.whole minus_zero plus_zero
     ∷ on O.whole infinity infinity
-    ∷ on O.whole minusInfinity minusInfinity
+    ∷ on O.whole minus_infinity minus_infinity
     ∷ on O.whole nan nan
     -- frac(x) is x minus int(x)
     ∷ on O.fraction infinity nan
-    ∷ on O.fraction minusZero minusZero
-    ∷ on O.fraction minusHalf minusHalf
+    ∷ on O.fraction minus_zero minus_zero
+    ∷ on O.fraction minus_half minus_half
     -- division by zero, and what else IEEE 754 gives
-    ∷ of O.over plusZero plusZero nan
-    ∷ of O.over one plusZero infinity
-    ∷ of O.over one minusZero minusInfinity
-    ∷ of O.over one minusInfinity minusZero
+    ∷ of O.over plus_zero plus_zero nan
+    ∷ of O.over one plus_zero infinity
+    ∷ of O.over one minus_zero minus_infinity
+    ∷ of O.over one minus_infinity minus_zero
     ∷ of O.minus infinity infinity nan
-    ∷ of O.times plusZero infinity nan
+    ∷ of O.times plus_zero infinity nan
     ∷ of O.plus largest largest infinity
-    ∷ of O.plus minusZero plusZero plusZero
+    ∷ of O.plus minus_zero plus_zero plus_zero
     -- unary minus turns the sign
-    ∷ on O.negative plusZero minusZero
-    ∷ on O.negative minusZero plusZero
-    ∷ on O.negative infinity minusInfinity
+    ∷ on O.negative plus_zero minus_zero
+    ∷ on O.negative minus_zero plus_zero
+    ∷ on O.negative infinity minus_infinity
     ∷ on O.negative nan nan
     ∷ []
 
 -- no expression of the table has a name
 abbrev nameless : Environment
-nameless = record { values = λ n. plusZero }
+nameless = record { values = λ n. plus_zero }
 
 -- every row's expression is worth what is said
 abbrev pub EveryValueHolds : Type 0

@@ -6,10 +6,10 @@ use mathlib.Core.List.{List}
 use mathlib.Core.Bool.{Bool, true, false}
 use lib.ListN.{length, drop}
 use Rattle.orchestra_tokens.specs.declared.Token.{Token}
-use Rattle.orchestra_syntax.specs.inside.Program.{ins, endOp}
+use Rattle.orchestra_syntax.specs.inside.Program.{ins, end_op}
 use Rattle.orchestra_expressions.specs.declared.ParseState.{ParseState}
 use Rattle.orchestra_expressions.specs.declared.ParseState.TheVariants.{Next}
-use Rattle.orchestra_expressions.specs.Roles.{signL}
+use Rattle.orchestra_expressions.specs.Roles.{sign_l}
 use Rattle.orchestra_expressions.specs.Reader.{Res, seq, sign, emit, reader}
 use Rattle.orchestra_expressions.specs.Areas.{Areas, left, Ready, gone, come, Runs}
 use Rattle.orchestra_expressions.proofs.ReaderSteps.{All}
@@ -17,8 +17,8 @@ use Rattle.orchestra_expressions.proofs.Moves.{in-tokens}
 use Rattle.orchestra_expressions.proofs.Runs.{runs_as, runs_after, runs_by, stays, ready-less, Past, past-start, Took, ready-took}
 use Rattle.orchestra_grammar.specs.declared.StatementStart.{StatementStart}
 use Rattle.orchestra_grammar.specs.declared.StatementStart.TheVariants.{Name, Output, If, Stop}
-use Rattle.orchestra_grammar.specs.Starts.{statementStartL}
-use Rattle.orchestra_grammar.specs.Reader.{close, otherwise, byStatementStart, statements, stepStatements}
+use Rattle.orchestra_grammar.specs.Starts.{statement_start_l}
+use Rattle.orchestra_grammar.specs.Reader.{close, otherwise, by_statement_start, statements, step_statements}
 use Rattle.orchestra_grammar.proofs.Results.{expr-took}
 use Rattle.orchestra_grammar.proofs.Steady.{whole-took}
 use Rattle.orchestra_grammar.proofs.Steps.{steady-statements, statements·law}
@@ -30,15 +30,15 @@ Goes Output = Unit {0}
 Goes If = Unit {0}
 Goes Stop = ⊥
 
-pub start-in : (ts : List Token) (at : ℕ) {k h : StatementStart} → k ≡ statementStartL (drop at ts) → k ≡ h → Goes h → at < length ts
-start-in ts at {h = h} e q f = in-tokens statementStartL ts at (λ n. let z : h ≡ Stop = cc in rw z at f)
+pub start-in : (ts : List Token) (at : ℕ) {k h : StatementStart} → k ≡ statement_start_l (drop at ts) → k ≡ h → Goes h → at < length ts
+start-in ts at {h = h} e q f = in-tokens statement_start_l ts at (λ n. let z : h ≡ Stop = cc in rw z at f)
 
 pub start-past : (ts : List Token) {t : ℕ} {g : ParseState} {m : Areas} (at : ℕ) {out : ℕ} {k h : StatementStart} → Ready ts 0 g m → left ts g ≡ t → g ≡ Next at out
-    → k ≡ statementStartL (drop at ts) → k ≡ h → Goes h → Past ts t 1 (Next (at + 1) out) m
+    → k ≡ statement_start_l (drop at ts) → k ≡ h → Goes h → Past ts t 1 (Next (at + 1) out) m
 start-past ts at r e q x y f = past-start r q e (start-in ts at x y f)
 
 pub statements-took : (ts : List Token) → All (Took 0 ts) (statements ts)
-statements-took ts = whole-took stepStatements steady-statements ts
+statements-took ts = whole-took step_statements steady-statements ts
 
 pub ready-expr : {ts : List Token} {k : ℕ} {g h : ParseState} {m n : Areas} (j : ℕ) → Ready ts k g m → Runs ts (reader.expr j) g m h n → Ready ts k h n
 ready-expr j r x = ready-less (omega arith) (ready-took 0 (expr-took j) r x)
@@ -50,25 +50,25 @@ ready_at q (come at out e le r) = come at out (sym q ∙ e) le r
 
 -- a statement, and those that follow it
 pub statements-as : (ts : List Token) (at : ℕ) {out : ℕ} {g r : ParseState} {m n : Areas} {k : StatementStart} (h : StatementStart) (f : List Token → Res)
-    → ((z : List Token) → byStatementStart statements h z ≡ f (drop 1 z)) → g ≡ Next at out → k ≡ statementStartL (drop at ts) → k ≡ h
+    → ((z : List Token) → by_statement_start statements h z ≡ f (drop 1 z)) → g ≡ Next at out → k ≡ statement_start_l (drop at ts) → k ≡ h
     → Runs ts f (Next (at + 1) out) m r n → Runs ts statements g m r n
-statements-as ts at h f = runs_by ts at statements statementStartL (byStatementStart statements) h f statements·law
+statements-as ts at h f = runs_by ts at statements statement_start_l (by_statement_start statements) h f statements·law
 
 pub statements-stop : (ts : List Token) (at : ℕ) {out : ℕ} {g : ParseState} {m : Areas} {k : StatementStart} → Ready ts 0 g m → g ≡ Next at out
-    → k ≡ statementStartL (drop at ts) → k ≡ Stop → Runs ts statements g m (Next at out) m
+    → k ≡ statement_start_l (drop at ts) → k ≡ Stop → Runs ts statements g m (Next at out) m
 statements-stop ts at r q x y =
-    let z : statementStartL (drop at ts) ≡ Stop = sym x ∙ y in
+    let z : statement_start_l (drop at ts) ≡ Stop = sym x ∙ y in
     stays r q (statements·law (drop at ts) ∙ rw z)
 
 -- with else and without
-module _ (ts : List Token) (at : ℕ) {out : ℕ} {g r : ParseState} {m n : Areas} {b : Bool} (q : g ≡ Next at out) (x : b ≡ signL (drop at ts) 8) where
-  pub else-on : b ≡ true → Runs ts (λ z. seq (sign 17 z) (λ p. seq (statements p) (close endOp))) (Next (at + 1) out) m r n
+module _ (ts : List Token) (at : ℕ) {out : ℕ} {g r : ParseState} {m n : Areas} {b : Bool} (q : g ≡ Next at out) (x : b ≡ sign_l (drop at ts) 8) where
+  pub else-on : b ≡ true → Runs ts (λ z. seq (sign 17 z) (λ p. seq (statements p) (close end_op))) (Next (at + 1) out) m r n
       → Runs ts (otherwise statements) g m r n
   else-on y w =
-      let z : signL (drop at ts) 8 ≡ true = sym x ∙ y in
+      let z : sign_l (drop at ts) 8 ≡ true = sym x ∙ y in
       rw q (runs_as (otherwise statements) refl (rw z) (runs_after w))
 
-  pub else-off : b ≡ false → Runs ts (emit (ins endOp)) (Next at out) m r n → Runs ts (otherwise statements) g m r n
+  pub else-off : b ≡ false → Runs ts (emit (ins end_op)) (Next at out) m r n → Runs ts (otherwise statements) g m r n
   else-off y w =
-      let z : signL (drop at ts) 8 ≡ false = sym x ∙ y in
+      let z : sign_l (drop at ts) 8 ≡ false = sym x ∙ y in
       rw q (runs_as (otherwise statements) refl (rw z) w)

@@ -1,10 +1,10 @@
 -- Every operator's operation is a value to the passes over a program.
 use mathlib.Core.Path.{◌≡◌, refl}
 use Rattle.orchestra_signs.specs.Operators.{Unary, Binary}
-use Rattle.orchestra_syntax.specs.inside.Program.{opClassOf, unaryOp, binaryOp}
+use Rattle.orchestra_syntax.specs.inside.Program.{op_class_of, unary_op, binary_op}
 use Rattle.orchestra_syntax.specs.declared.OpClass.TheVariants.{Value}
 
-pub unary-value : (o : Unary) → opClassOf (unaryOp o) ≡ Value
+pub unary-value : (o : Unary) → op_class_of (unary_op o) ≡ Value
 unary-value Unary.absolute = refl
 unary-value Unary.signum = refl
 unary-value Unary.whole = refl
@@ -12,7 +12,7 @@ unary-value Unary.fraction = refl
 unary-value Unary.not = refl
 unary-value Unary.negative = refl
 
-pub binary-value : (o : Binary) → opClassOf (binaryOp o) ≡ Value
+pub binary-value : (o : Binary) → op_class_of (binary_op o) ≡ Value
 binary-value Binary.least = refl
 binary-value Binary.greatest = refl
 binary-value Binary.or = refl

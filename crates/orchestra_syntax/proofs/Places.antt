@@ -9,10 +9,10 @@ use lib.Dec.{eqb, leb}
 use borrow.Author.Tests.{eqb-true, leb-true, eq-eqb, not-true}
 use Rattle.base_laws.proofs.Choice.{both_true}
 use Rattle.orchestra_syntax.specs.Tree.{Instrument}
-use Rattle.orchestra_syntax.specs.Names.{Named, names_of, symbols, has, apart, distinct, known, obeysNameRules}
-use Rattle.orchestra_syntax.specs.Rates.{Rate, iRate, kRate, aRate, rateOfKind, rateOf}
+use Rattle.orchestra_syntax.specs.Names.{Named, names_of, symbols, has, apart, distinct, known, obeys_name_rules}
+use Rattle.orchestra_syntax.specs.Rates.{Rate, i_rate, k_rate, a_rate, rate_of_kind, rate_of}
 use Rattle.orchestra_syntax.specs.inside.Placed as placed
-use Rattle.orchestra_syntax.specs.inside.Placed.{speed, placeFrom, place}
+use Rattle.orchestra_syntax.specs.inside.Placed.{speed, place_from, place}
 use Rattle.orchestra_syntax.specs.inside.Translation.{DeclaredPlaces, PlacesApart}
 
 -- an instrument's names: at most 16, each once, and every name used is declared
@@ -21,7 +21,7 @@ pub record Kept (x : Instrument) : Type 0 where
   pub once : distinct (symbols (names_of x)) ≡ true
   pub declared : known (symbols (names_of x)) x.body ≡ true
 
-pub kept : (x : Instrument) → obeysNameRules x ≡ true → Kept x
+pub kept : (x : Instrument) → obeys_name_rules x ≡ true → Kept x
 kept x e =
     let p = both_true (leb (length (names_of x)) 16) (distinct (symbols (names_of x)) && known (symbols (names_of x)) x.body) e in
     let q = both_true (distinct (symbols (names_of x))) (known (symbols (names_of x)) x.body) p.1 in
@@ -34,20 +34,20 @@ index n (m ∷ ms) = cond (eqb m.name n) 0 (suc (index n ms))
 
 -- the parts of a placed name
 speed-low : (r : Rate) → speed r ≤ 2
-speed-low iRate = omega arith
-speed-low kRate = omega arith
-speed-low aRate = omega arith
+speed-low i_rate = omega arith
+speed-low k_rate = omega arith
+speed-low a_rate = omega arith
 
 abbrev Coded : ℕ → ℕ → List Named → Type 0
-Coded p n ms = (placeFrom p n ms ≡ 16 * speed (rateOf ms n) + (p + index n ms)) × (index n ms < length ms)
+Coded p n ms = (place_from p n ms ≡ 16 * speed (rate_of ms n) + (p + index n ms)) × (index n ms < length ms)
 
 coded-at : (p n : ℕ) (ms : List Named) → has n (symbols ms) ≡ true → Coded p n ms
-unfolding has placeFrom rateOf index
+unfolding has place_from rate_of index
 coded-at p n [] e = absurd (true≢false (sym e))
 coded-at p n (m ∷ ms) e = go (eqb m.name n) (λ h. coded-at (suc p) n ms h) e
   where
     go : (b : Bool) → (has n (symbols ms) ≡ true → Coded (suc p) n ms) → (b || has n (symbols ms)) ≡ true
-        → (cond b (16 * speed (rateOfKind m.kind) + p) (placeFrom (suc p) n ms) ≡ 16 * speed (cond b (rateOfKind m.kind) (rateOf ms n)) + (p + cond b 0 (suc (index n ms))))
+        → (cond b (16 * speed (rate_of_kind m.kind) + p) (place_from (suc p) n ms) ≡ 16 * speed (cond b (rate_of_kind m.kind) (rate_of ms n)) + (p + cond b 0 (suc (index n ms))))
         × (cond b 0 (suc (index n ms)) < suc (length ms))
     go true h e = (omega arith, omega arith)
     go false h e = (omega (arith, (h e).0), omega (arith, (h e).1))
@@ -60,14 +60,14 @@ pub place-low : (n : ℕ) (ms : List Named) → length ms ≤ 16 → has n (symb
 place-low n ms l h = let c = coded-at 0 n ms h in omega (arith, c.0, c.1)
 
 -- the rate of any name
-pub rate-is : (p n : ℕ) (ms : List Named) → p + length ms ≤ 16 → placed.rateOf (placeFrom p n ms) ≡ speed (rateOf ms n)
-unfolding placeFrom rateOf
+pub rate-is : (p n : ℕ) (ms : List Named) → p + length ms ≤ 16 → placed.rate_of (place_from p n ms) ≡ speed (rate_of ms n)
+unfolding place_from rate_of
 rate-is p n [] l = refl
 rate-is p n (m ∷ ms) l = go (eqb m.name n) (rate-is (suc p) n ms (omega arith))
   where
-    go : (b : Bool) → placed.rateOf (placeFrom (suc p) n ms) ≡ speed (rateOf ms n)
-        → placed.rateOf (cond b (16 * speed (rateOfKind m.kind) + p) (placeFrom (suc p) n ms)) ≡ speed (cond b (rateOfKind m.kind) (rateOf ms n))
-    go true h = omega (arith, speed-low (rateOfKind m.kind))
+    go : (b : Bool) → placed.rate_of (place_from (suc p) n ms) ≡ speed (rate_of ms n)
+        → placed.rate_of (cond b (16 * speed (rate_of_kind m.kind) + p) (place_from (suc p) n ms)) ≡ speed (cond b (rate_of_kind m.kind) (rate_of ms n))
+    go true h = omega (arith, speed-low (rate_of_kind m.kind))
     go false h = h
 
 -- ---- each name once
@@ -102,11 +102,11 @@ refl-eqb n = eq-eqb n n refl
 
 record At (us : List Named) (m : Named) (vs : List Named) : Type 0 where
   place : index m.name (us ++ m ∷ vs) ≡ length us
-  rate : rateOf (us ++ m ∷ vs) m.name ≡ rateOfKind m.kind
+  rate : rate_of (us ++ m ∷ vs) m.name ≡ rate_of_kind m.kind
   there : has m.name (symbols (us ++ m ∷ vs)) ≡ true
 
 at_split : (before : List ℕ) (us : List Named) (m : Named) (vs : List Named) → apart before (symbols us ++ m.name ∷ symbols vs) ≡ true → At us m vs
-unfolding apart index rateOf has
+unfolding apart index rate_of has
 at_split before [] m vs e = let r = refl-eqb m.name in record { place = rw r; rate = rw r; there = rw r }
 at_split before (u ∷ us) m vs e =
     let rest = (both_true (not (has u.name before)) (apart (before ++ u.name ∷ []) (symbols us ++ m.name ∷ symbols vs)) e).1 in
@@ -121,7 +121,7 @@ declared-places x us m vs e s =
     let o : distinct (symbols us ++ m.name ∷ symbols vs) ≡ true = ap distinct (sym (symbols-append us (m ∷ vs))) ∙ ap (λ l. distinct (symbols l)) (sym s) ∙ q.once in
     let h = at_split [] us m vs o in
     let l : length ms ≤ 16 = subst (λ (z : List Named). length z ≤ 16) s q.few in
-    let c : (placed.place_of (place ms m.name) ≡ length us) × (placed.rateOf (place ms m.name) ≡ speed (rateOfKind m.kind)) =
+    let c : (placed.place_of (place ms m.name) ≡ length us) × (placed.rate_of (place ms m.name) ≡ speed (rate_of_kind m.kind)) =
     (place_is m.name ms l h.there ∙ h.place, rate-is 0 m.name ms (omega arith) ∙ ap speed h.rate) in
     rw s c
 

@@ -3,10 +3,10 @@ use Rattle.std.specs.Prelude.{ℕ, suc, ◌≤◌, List, [], ◌∷◌, ◌++◌
 use Rattle.std.specs.Float.{binary32}
 use Rattle.std.specs.Float.Ieee.{of_int}
 use Rattle.orchestra_signs.specs.Signs as S
-use Rattle.orchestra_signs.specs.Operators.{Unary, Binary, unarySign, binarySign}
+use Rattle.orchestra_signs.specs.Operators.{Unary, Binary, unary_sign, binary_sign}
 use Rattle.orchestra_tokens.specs.declared.Token.{Token}
 use Rattle.orchestra_tokens.specs.declared.Token.TheVariants.{Number, Symbol, Whole, Sign}
-use Rattle.orchestra_syntax.specs.Tree.{Expr, number, name, unary, binary, choose, Statements, done, assign, output, branch, Declaration, Instrument, ivarKind, ksigKind, asigKind, importsKind}
+use Rattle.orchestra_syntax.specs.Tree.{Expr, number, name, unary, binary, choose, Statements, done, assign, output, branch, Declaration, Instrument, ivar_kind, ksig_kind, asig_kind, imports_kind}
 
 -- the token of a sign
 abbrev pub sign : S.Sign → Token
@@ -51,18 +51,18 @@ pub data Derives : ℕ → Expr → List Token → Type 0 where
   whole : {m : ℕ} (w : ℕ) → Derives m (number (of_int binary32 (pos w))) (Whole w ∷ [])
   named : {m : ℕ} (n : ℕ) → Derives m (name n) (Symbol n ∷ [])
   -- ! or - and what it works on
-  prefixed : {m : ℕ} {o : Unary} {e : Expr} {ts : List Token} → Prefix o → Derives 7 e ts → Derives m (unary o e) (sign (unarySign o) ∷ ts)
+  prefixed : {m : ℕ} {o : Unary} {e : Expr} {ts : List Token} → Prefix o → Derives 7 e ts → Derives m (unary o e) (sign (unary_sign o) ∷ ts)
   -- ( expression )
-  bracketed : {m : ℕ} {e : Expr} {ts : List Token} → Derives 0 e ts → Derives m e (sign S.roundOpen ∷ (ts ++ sign S.roundClose ∷ []))
+  bracketed : {m : ℕ} {e : Expr} {ts : List Token} → Derives 0 e ts → Derives m e (sign S.round_open ∷ (ts ++ sign S.round_close ∷ []))
   -- call ( expression )
   called : {m : ℕ} {o : Unary} {e : Expr} {ts : List Token} → Call o → Derives 0 e ts
-      → Derives m (unary o e) (sign (unarySign o) ∷ sign S.roundOpen ∷ (ts ++ sign S.roundClose ∷ []))
+      → Derives m (unary o e) (sign (unary_sign o) ∷ sign S.round_open ∷ (ts ++ sign S.round_close ∷ []))
   -- call ( expression , expression )
   called2 : {m : ℕ} {o : Binary} {a b : Expr} {ts us : List Token} → Call2 o → Derives 0 a ts → Derives 0 b us
-      → Derives m (binary o a b) (sign (binarySign o) ∷ sign S.roundOpen ∷ (ts ++ sign S.comma ∷ (us ++ sign S.roundClose ∷ [])))
+      → Derives m (binary o a b) (sign (binary_sign o) ∷ sign S.round_open ∷ (ts ++ sign S.comma ∷ (us ++ sign S.round_close ∷ [])))
   -- left side, operator, right side: from the left, so that the right side is tighter
   sides : {m l : ℕ} {o : Binary} {a b : Expr} {ts us : List Token} → Binds o l → m ≤ l → Derives l a ts → Derives (suc l) b us
-      → Derives m (binary o a b) (ts ++ sign (binarySign o) ∷ us)
+      → Derives m (binary o a b) (ts ++ sign (binary_sign o) ∷ us)
   -- guard ? first : second, from the right
   chosen : {c a b : Expr} {ts us vs : List Token} → Derives 1 c ts → Derives 0 a us → Derives 0 b vs
       → Derives 0 (choose c a b) (ts ++ sign S.question ∷ (us ++ sign S.colon ∷ vs))
@@ -79,14 +79,14 @@ pub data Stmts : Statements → List Token → Type 0 where
       → Stmts (assign n e r) (Symbol n ∷ sign S.becomes ∷ (ts ++ sign S.semicolon ∷ us))
   -- output ( expression ) ;
   out : {e : Expr} {ts : List Token} {r : Statements} {us : List Token} → IsExpr e ts → Stmts r us
-      → Stmts (output e r) (sign S.output ∷ sign S.roundOpen ∷ (ts ++ sign S.roundClose ∷ sign S.semicolon ∷ us))
+      → Stmts (output e r) (sign S.output ∷ sign S.round_open ∷ (ts ++ sign S.round_close ∷ sign S.semicolon ∷ us))
   -- if ( expression ) { statements }
   when : {e : Expr} {ts : List Token} {a : Statements} {xs : List Token} {r : Statements} {us : List Token} → IsExpr e ts → Stmts a xs → Stmts r us
-      → Stmts (branch e a done r) (sign S.if ∷ sign S.roundOpen ∷ (ts ++ sign S.roundClose ∷ sign S.curlyOpen ∷ (xs ++ sign S.curlyClose ∷ us)))
+      → Stmts (branch e a done r) (sign S.if ∷ sign S.round_open ∷ (ts ++ sign S.round_close ∷ sign S.curly_open ∷ (xs ++ sign S.curly_close ∷ us)))
   -- if ( expression ) { statements } else { statements }
   either : {e : Expr} {ts : List Token} {a : Statements} {xs : List Token} {b : Statements} {ys : List Token} {r : Statements} {us : List Token}
       → IsExpr e ts → Stmts a xs → Stmts b ys → Stmts r us
-      → Stmts (branch e a b r) (sign S.if ∷ sign S.roundOpen ∷ (ts ++ sign S.roundClose ∷ sign S.curlyOpen ∷ (xs ++ sign S.curlyClose ∷ sign S.else ∷ sign S.curlyOpen ∷ (ys ++ sign S.curlyClose ∷ us))))
+      → Stmts (branch e a b r) (sign S.if ∷ sign S.round_open ∷ (ts ++ sign S.round_close ∷ sign S.curly_open ∷ (xs ++ sign S.curly_close ∷ sign S.else ∷ sign S.curly_open ∷ (ys ++ sign S.curly_close ∷ us))))
 
 -- one or more names parted by commas
 pub data Names : List ℕ → List Token → Type 0 where
@@ -100,10 +100,10 @@ pub data Fields : List ℕ → List Token → Type 0 where
 
 -- ivar, ksig, asig or imports ksig
 pub data Kinds : ℕ → List Token → Type 0 where
-  ivar : Kinds ivarKind (sign S.ivar ∷ [])
-  ksig : Kinds ksigKind (sign S.ksig ∷ [])
-  asig : Kinds asigKind (sign S.asig ∷ [])
-  imports : Kinds importsKind (sign S.imports ∷ sign S.ksig ∷ [])
+  ivar : Kinds ivar_kind (sign S.ivar ∷ [])
+  ksig : Kinds ksig_kind (sign S.ksig ∷ [])
+  asig : Kinds asig_kind (sign S.asig ∷ [])
+  imports : Kinds imports_kind (sign S.imports ∷ sign S.ksig ∷ [])
 
 -- declarations, none or more
 pub data Decls : List Declaration → List Token → Type 0 where
@@ -117,7 +117,7 @@ pub data Instr : Instrument → List Token → Type 0 where
   is : (n : ℕ) {fs : List ℕ} {ts : List Token} {ds : List Declaration} {us : List Token} {b : Statements} {vs : List Token}
       → Fields fs ts → Decls ds us → Stmts b vs
       → Instr (record { name = n; fields = fs; declarations = ds; body = b })
-      (sign S.instr ∷ Symbol n ∷ sign S.roundOpen ∷ (ts ++ sign S.roundClose ∷ sign S.curlyOpen ∷ (us ++ (vs ++ sign S.curlyClose ∷ []))))
+      (sign S.instr ∷ Symbol n ∷ sign S.round_open ∷ (ts ++ sign S.round_close ∷ sign S.curly_open ∷ (us ++ (vs ++ sign S.curly_close ∷ []))))
 
 -- one or more instruments
 pub data Orchestra : List Instrument → List Token → Type 0 where

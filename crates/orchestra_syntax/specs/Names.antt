@@ -1,13 +1,13 @@
 -- Document 01's name rules.
 use Rattle.std.specs.Prelude.{ℕ, Bool, true, false, not, ◌&&◌, ◌||◌, List, [], ◌∷◌, ◌++◌, map, length, eqb, leb}
-use Rattle.orchestra_syntax.specs.Tree.{Expr, number, name, unary, binary, choose, Statements, done, assign, output, branch, Declaration, Instrument, fieldKind}
+use Rattle.orchestra_syntax.specs.Tree.{Expr, number, name, unary, binary, choose, Statements, done, assign, output, branch, Declaration, Instrument, field_kind}
 
 -- how many names an instrument has at most, fields included, and how many instruments there are at most
-abbrev pub mostNames : ℕ
-mostNames = 16
+abbrev pub most_names : ℕ
+most_names = 16
 
-abbrev pub mostInstruments : ℕ
-mostInstruments = 8
+abbrev pub most_instruments : ℕ
+most_instruments = 8
 
 -- a name that is declared, and its kind
 pub record Named : Type 0 where
@@ -24,7 +24,7 @@ named_by (d ∷ ds) = named d.kind d.names ++ named_by ds
 
 -- an instrument's names, fields first, in written order
 abbrev pub names_of : Instrument → List Named
-names_of i = named fieldKind i.fields ++ named_by i.declarations
+names_of i = named field_kind i.fields ++ named_by i.declarations
 
 abbrev pub symbol_of : Named → ℕ
 symbol_of n = n.name
@@ -60,16 +60,16 @@ known ns (output e r) = known_in ns e && known ns r
 known ns (branch e a b r) = known_in ns e && (known ns a && (known ns b && known ns r))
 
 -- at most 16 names, each declared once, and every name used is declared there
-abbrev pub obeysNameRules : Instrument → Bool
-obeysNameRules i = leb (length (names_of i)) mostNames && (distinct (symbols (names_of i)) && known (symbols (names_of i)) i.body)
+abbrev pub obeys_name_rules : Instrument → Bool
+obeys_name_rules i = leb (length (names_of i)) most_names && (distinct (symbols (names_of i)) && known (symbols (names_of i)) i.body)
 
-unfoldable pub allObeyNameRules : List Instrument → Bool
-allObeyNameRules [] = true
-allObeyNameRules (i ∷ is) = obeysNameRules i && allObeyNameRules is
+unfoldable pub all_obey_name_rules : List Instrument → Bool
+all_obey_name_rules [] = true
+all_obey_name_rules (i ∷ is) = obeys_name_rules i && all_obey_name_rules is
 
-abbrev pub titleOf : Instrument → ℕ
-titleOf i = i.name
+abbrev pub title_of : Instrument → ℕ
+title_of i = i.name
 
 -- at most 8 instruments, all named differently, each of which keeps the rules of its own names
 abbrev pub name_rules : List Instrument → Bool
-name_rules is = leb (length is) mostInstruments && (distinct (map titleOf is) && allObeyNameRules is)
+name_rules is = leb (length is) most_instruments && (distinct (map title_of is) && all_obey_name_rules is)

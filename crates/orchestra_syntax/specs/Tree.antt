@@ -22,20 +22,20 @@ pub data Statements : Type 0 where
   branch : Expr → Statements → Statements → Statements → Statements
 
 -- a declaration's kind is the number of its first sign; a field has no sign
-abbrev pub fieldKind : ℕ
-fieldKind = 0
+abbrev pub field_kind : ℕ
+field_kind = 0
 
-abbrev pub ivarKind : ℕ
-ivarKind = S.number S.ivar
+abbrev pub ivar_kind : ℕ
+ivar_kind = S.number S.ivar
 
-abbrev pub ksigKind : ℕ
-ksigKind = S.number S.ksig
+abbrev pub ksig_kind : ℕ
+ksig_kind = S.number S.ksig
 
-abbrev pub asigKind : ℕ
-asigKind = S.number S.asig
+abbrev pub asig_kind : ℕ
+asig_kind = S.number S.asig
 
-abbrev pub importsKind : ℕ
-importsKind = S.number S.imports
+abbrev pub imports_kind : ℕ
+imports_kind = S.number S.imports
 
 pub record Declaration : Type 0 where
   pub kind : ℕ

@@ -1,7 +1,7 @@
 // The kinds of instruction in an orchestra's program, and its names by their places; the trees and rules themselves stand in specs/.
 ghost use Rattle.std.specs.Prelude.{◌≡◌, ◌≤◌};
-ghost use Rattle.orchestra_syntax.specs.inside.Program.{opClassOf};
-ghost use Rattle.orchestra_syntax.specs.inside.Placed.{placedAs, rateOf, place_of};
+ghost use Rattle.orchestra_syntax.specs.inside.Program.{op_class_of};
+ghost use Rattle.orchestra_syntax.specs.inside.Placed.{placed_as, rate_of, place_of};
 
 // What an operation is to the passes over a program.
 #[derive(Drop)]
@@ -43,13 +43,13 @@ const PLACES: u16 = MOST_NAMES as u16;
 // A name by its place: its rate and its place among the instrument's names, as one number.
 pub fn placed_as(rate: u16, place: u16) -> u16
     requires { (rate ≤ 2) × (place ≤ 15) }
-    ensures { result ≡ placedAs rate place }
+    ensures { result ≡ placed_as rate place }
 {
     PLACES * rate + place
 }
 
 pub fn rate_of(name: u16) -> u16
-    ensures { result ≡ rateOf name }
+    ensures { result ≡ rate_of name }
 {
     name / PLACES % 4
 }
@@ -61,7 +61,7 @@ pub fn place_of(name: u16) -> u16
 }
 
 pub fn op_class(op: u8) -> OpClass
-    ensures { result ≡ opClassOf op }
+    ensures { result ≡ op_class_of op }
 {
     if op == NAME {
         return OpClass::Name;

@@ -7,8 +7,8 @@ use mathlib.Core.Bool.{Bool, true, false, ◌&&◌, ◌||◌, cond, and-true, an
 use lib.Dec.{eqb, leb}
 use borrow.Author.Tests.{ne_eqb, le-leb, lt-leb}
 use Rattle.base_answer.specs.declared.Answer.TheVariants.{Taken, BadToken, TooLarge}
-use Rattle.orchestra_tokens.specs.Measures.{opened, since, bracketsWithin, stretchesWithin}
-use Rattle.orchestra_tokens.specs.inside.Passes.{found, measure, next, closedOf}
+use Rattle.orchestra_tokens.specs.Measures.{opened, since, brackets_within, stretches_within}
+use Rattle.orchestra_tokens.specs.inside.Passes.{found, measure, next, closed_of}
 use Rattle.orchestra_tokens.specs.declared.Measure.{Measure}
 use Rattle.orchestra_tokens.specs.declared.ScanResult.{ScanResult}
 
@@ -73,18 +73,18 @@ unfolding next
 next-is m k d r f p q s = rw (s, p, q)
 
 module _ (m : Measure) (left : ℕ) where
-  pub closed-late : {f : ScanResult} → (left ≡ 1 → ⊥) → f ≡ found BadToken 0 → f ≡ closedOf m left
+  pub closed-late : {f : ScanResult} → (left ≡ 1 → ⊥) → f ≡ found BadToken 0 → f ≡ closed_of m left
   closed-late a e = rw (e, ne_eqb left 1 a)
 
-  closed-by : (f l : Bool) → m.fits ≡ f → leb m.count 2048 ≡ l → left ≡ 1 → cond (f && l) (found Taken m.count) (found TooLarge 0) ≡ closedOf m left
-  unfolding bracketsWithin stretchesWithin
+  closed-by : (f l : Bool) → m.fits ≡ f → leb m.count 2048 ≡ l → left ≡ 1 → cond (f && l) (found Taken m.count) (found TooLarge 0) ≡ closed_of m left
+  unfolding brackets_within stretches_within
   closed-by f l p q e = rw (e, add-zero, p, q) (sym (rw (and-true l)))
 
-  pub closed-taken : left ≡ 1 → m.fits ≡ true → m.count ≤ 2048 → found Taken m.count ≡ closedOf m left
+  pub closed-taken : left ≡ 1 → m.fits ≡ true → m.count ≤ 2048 → found Taken m.count ≡ closed_of m left
   closed-taken e p q = closed-by true true p (le-leb m.count 2048 q) e
 
-  pub closed-many : left ≡ 1 → m.fits ≡ true → 2048 < m.count → found TooLarge 0 ≡ closedOf m left
+  pub closed-many : left ≡ 1 → m.fits ≡ true → 2048 < m.count → found TooLarge 0 ≡ closed_of m left
   closed-many e p q = closed-by true false p (lt-leb m.count 2048 q) e
 
-  pub closed-large : left ≡ 1 → m.fits ≡ false → found TooLarge 0 ≡ closedOf m left
+  pub closed-large : left ≡ 1 → m.fits ≡ false → found TooLarge 0 ≡ closed_of m left
   closed-large e p = closed-by false (leb m.count 2048) p refl e

@@ -16,11 +16,11 @@ use lib.Ieee.Scale.{finite}
 use borrow.Author.Tests.{ltb-true, leb-true, eqb-true, ne_eqb}
 use Rattle.base_timebase.proofs.RangesAndTicks.{finite-no-nan}
 use Rattle.base_laws.proofs.Choice.{both_true}
-use Rattle.orchestra_tokens.specs.inside.Token.{zeroF, tokenOf, toks}
-use Rattle.orchestra_tokens.specs.Encoding.{valid, allValid, two, four, encoded, bytes_of, Bytes, Encodes, OneDecoding}
-use Rattle.orchestra_tokens.specs.inside.Scanning.{more, tokenFrom, Scanned, none, some, with, ended, tokensAfter, tokensOf, EveryScan}
+use Rattle.orchestra_tokens.specs.inside.Token.{zero_f, token_of, toks}
+use Rattle.orchestra_tokens.specs.Encoding.{valid, all_valid, two, four, encoded, bytes_of, Bytes, Encodes, OneDecoding}
+use Rattle.orchestra_tokens.specs.inside.Scanning.{more, token_from, Scanned, none, some, with, ended, tokens_after, tokens_of, EveryScan}
 use Rattle.orchestra_tokens.specs.Measures.{kind_of}
-use Rattle.orchestra_tokens.specs.inside.Reading.{word_of, realOf, padded}
+use Rattle.orchestra_tokens.specs.inside.Reading.{word_of, real_of, padded}
 use Rattle.orchestra_tokens.specs.declared.Token.{Token}
 use Rattle.orchestra_tokens.specs.declared.Token.TheVariants.{Number, Symbol, Whole, Sign}
 
@@ -35,8 +35,8 @@ pub with_rest : (u : Token) (g : Scanned) (t : Token) (ts : List Token) → with
 with_rest u none t ts e = impossible (cc)
 with_rest u (some us) t ts e = let z : us ≡ ts = cc in ap some z
 
-pub after-drop : (n : ℕ) (bs : List ℕ) → tokensAfter n bs ≡ tokensAfter 0 (drop n bs)
-unfolding tokensAfter
+pub after-drop : (n : ℕ) (bs : List ℕ) → tokens_after n bs ≡ tokens_after 0 (drop n bs)
+unfolding tokens_after
 after-drop zero [] = refl
 after-drop (suc n) [] = refl
 after-drop zero (b ∷ bs) = refl
@@ -52,10 +52,10 @@ two_back s h = omega arith
 
 module _ (rest : List ℕ) where
   abbrev reads : Token → Type 0
-  reads t = tokensAfter 0 (encoded t ++ rest) ≡ with t (tokensAfter 0 rest)
+  reads t = tokens_after 0 (encoded t ++ rest) ≡ with t (tokens_after 0 rest)
 
   pub token_back : (t : Token) → valid t ≡ true → reads t
-  unfolding tokensAfter encoded tokenFrom
+  unfolding tokens_after encoded token_from
   token_back (Number x) e =
       let f = passes (fits binary32 x) (both_true (finite x) (fits binary32 x) e).1 in
       rw (four-back (to_bits binary32 x) (to_bits-lt binary32 x f), of_bits-to_bits binary32 x f, e)
@@ -67,11 +67,11 @@ module _ (rest : List ℕ) where
       rw (ne_eqb k 0xff (λ q. omega arith), ne_eqb k 0xf0 (λ q. omega arith), ne_eqb k 0xf1 (λ q. omega arith), ne_eqb k 0xf2 (λ q. omega arith), e)
 
 -- the tokens of the bytes of valid tokens are those tokens
-pub tokens-bytes : (ts : List Token) → allValid ts ≡ true → tokensOf (bytes_of ts) ≡ some ts
-unfolding bytes_of allValid tokensAfter
+pub tokens-bytes : (ts : List Token) → all_valid ts ≡ true → tokens_of (bytes_of ts) ≡ some ts
+unfolding bytes_of all_valid tokens_after
 tokens-bytes [] e = refl
 tokens-bytes (t ∷ ts) e =
-    token_back (bytes_of ts) t (both_true (valid t) (allValid ts) e).0 ∙ ap (with t) (tokens-bytes ts (both_true (valid t) (allValid ts) e).1)
+    token_back (bytes_of ts) t (both_true (valid t) (all_valid ts) e).0 ∙ ap (with t) (tokens-bytes ts (both_true (valid t) (all_valid ts) e).1)
 
 -- ---- from bytes to tokens and back
 
@@ -99,19 +99,19 @@ four-encoded a b c d p q r s =
     rw (e, f, g, h)
 
 -- bytes that are left start with as many as belong to the token before
-after_none : (n : ℕ) (ts : List Token) → tokensAfter n [] ≡ some ts → ◌≡◌ {A = ℕ} 0 1
-unfolding tokensAfter
+after_none : (n : ℕ) (ts : List Token) → tokens_after n [] ≡ some ts → ◌≡◌ {A = ℕ} 0 1
+unfolding tokens_after
 after_none n ts e = cc
 
 module _ (ts : List Token) where
-  symbol-encoded : (bs : List ℕ) → Bytes bs → tokensAfter 2 bs ≡ some ts → encoded (tokenFrom 0xf0 bs) ++ drop 2 bs ≡ 0xf0 ∷ bs
-  unfolding tokensAfter tokenFrom encoded Bytes
+  symbol-encoded : (bs : List ℕ) → Bytes bs → tokens_after 2 bs ≡ some ts → encoded (token_from 0xf0 bs) ++ drop 2 bs ≡ 0xf0 ∷ bs
+  unfolding tokens_after token_from encoded Bytes
   symbol-encoded [] p e = impossible (after_none 2 ts e)
   symbol-encoded (h ∷ []) p e = impossible (after_none 1 ts e)
   symbol-encoded (h ∷ l ∷ bs) p e = ap (λ m. 0xf0 ∷ (m ++ bs)) (two-encoded h l p.0 p.1.0)
 
-  number-encoded : (bs : List ℕ) → Bytes bs → valid (tokenFrom 0xf1 bs) ≡ true → tokensAfter 4 bs ≡ some ts → encoded (tokenFrom 0xf1 bs) ++ drop 4 bs ≡ 0xf1 ∷ bs
-  unfolding tokensAfter tokenFrom encoded Bytes
+  number-encoded : (bs : List ℕ) → Bytes bs → valid (token_from 0xf1 bs) ≡ true → tokens_after 4 bs ≡ some ts → encoded (token_from 0xf1 bs) ++ drop 4 bs ≡ 0xf1 ∷ bs
+  unfolding tokens_after token_from encoded Bytes
   number-encoded [] p l e = impossible (after_none 4 ts e)
   number-encoded (a ∷ []) p l e = impossible (after_none 3 ts e)
   number-encoded (a ∷ b ∷ []) p l e = impossible (after_none 2 ts e)
@@ -122,8 +122,8 @@ module _ (ts : List Token) where
       let n = finite-no-nan (of_bits binary32 w) (both_true (finite (of_bits binary32 w)) (fits binary32 (of_bits binary32 w)) l).0 in
       rw (to_bits-of_bits binary32 w h n) (ap (λ m. 0xf1 ∷ (m ++ bs)) (four-encoded a b c d p.0 p.1.0 p.1.1.0 p.1.1.1.0))
 
-  whole-encoded : (bs : List ℕ) → Bytes bs → tokensAfter 4 bs ≡ some ts → encoded (tokenFrom 0xf2 bs) ++ drop 4 bs ≡ 0xf2 ∷ bs
-  unfolding tokensAfter tokenFrom encoded Bytes
+  whole-encoded : (bs : List ℕ) → Bytes bs → tokens_after 4 bs ≡ some ts → encoded (token_from 0xf2 bs) ++ drop 4 bs ≡ 0xf2 ∷ bs
+  unfolding tokens_after token_from encoded Bytes
   whole-encoded [] p e = impossible (after_none 4 ts e)
   whole-encoded (a ∷ []) p e = impossible (after_none 3 ts e)
   whole-encoded (a ∷ b ∷ []) p e = impossible (after_none 2 ts e)
@@ -132,10 +132,10 @@ module _ (ts : List Token) where
 
   -- the token that the first byte starts, encoded, and the bytes after it
   abbrev Encoded·on : List ℕ → ℕ → Type 0
-  Encoded·on bs b = valid (tokenFrom b bs) ≡ true → tokensAfter (more b) bs ≡ some ts → encoded (tokenFrom b bs) ++ drop (more b) bs ≡ b ∷ bs
+  Encoded·on bs b = valid (token_from b bs) ≡ true → tokens_after (more b) bs ≡ some ts → encoded (token_from b bs) ++ drop (more b) bs ≡ b ∷ bs
 
   first-encoded : (b : ℕ) (bs : List ℕ) (x y z : Bool) → eqb b 0xf0 ≡ x → eqb b 0xf1 ≡ y → eqb b 0xf2 ≡ z → Bytes bs → Encoded·on bs b
-  unfolding tokenFrom encoded
+  unfolding token_from encoded
   first-encoded b bs true y z i j k p = subst (Encoded·on bs) (sym (eqb-true b 0xf0 i)) (λ l e. symbol-encoded bs p e)
   first-encoded b bs false true z i j k p = subst (Encoded·on bs) (sym (eqb-true b 0xf1 j)) (λ l e. number-encoded bs p l e)
   first-encoded b bs false false true i j k p = subst (Encoded·on bs) (sym (eqb-true b 0xf2 k)) (λ l e. whole-encoded bs p e)
@@ -155,53 +155,53 @@ with_none t (some ts) e = cc
 
 -- the first byte is no end token, and starts a valid token
 record Starts (b : ℕ) (bs : List ℕ) (t : Token) (ts : List Token) : Type 0 where
-  fine : valid (tokenFrom b bs) ≡ true
-  first : tokenFrom b bs ≡ t
-  rest : tokensAfter (more b) bs ≡ some ts
+  fine : valid (token_from b bs) ≡ true
+  first : token_from b bs ≡ t
+  rest : tokens_after (more b) bs ≡ some ts
 
-starts : (b : ℕ) (bs : List ℕ) (t : Token) (ts : List Token) → tokensAfter 0 (b ∷ bs) ≡ some (t ∷ ts) → Starts b bs t ts
-unfolding tokensAfter
+starts : (b : ℕ) (bs : List ℕ) (t : Token) (ts : List Token) → tokens_after 0 (b ∷ bs) ≡ some (t ∷ ts) → Starts b bs t ts
+unfolding tokens_after
 starts b bs t ts e =
     cases (eqb b 0xff) (λ x. impossible (ended_some bs t ts (rw x at e)))
     (λ x.
-    cases (valid (tokenFrom b bs))
+    cases (valid (token_from b bs))
     (λ l.
     let f = rw (x, l) at e in
-    let g = tokensAfter (more b) bs in
-    record { fine = l; first = with_first (tokenFrom b bs) g t ts f; rest = with_rest (tokenFrom b bs) g t ts f })
+    let g = tokens_after (more b) bs in
+    record { fine = l; first = with_first (token_from b bs) g t ts f; rest = with_rest (token_from b bs) g t ts f })
     (λ l. let f = rw (x, l) at e in impossible (cc)))
 
 -- only the end token, alone, is no tokens
-ends : (b : ℕ) (bs : List ℕ) → tokensAfter 0 (b ∷ bs) ≡ some [] → 0xff ∷ [] ≡ b ∷ bs
-unfolding tokensAfter
+ends : (b : ℕ) (bs : List ℕ) → tokens_after 0 (b ∷ bs) ≡ some [] → 0xff ∷ [] ≡ b ∷ bs
+unfolding tokens_after
 ends b bs e =
     cases (eqb b 0xff) (λ x. rw (eqb-true b 0xff x, ended-none bs (rw x at e)))
     (λ x.
-    cases (valid (tokenFrom b bs)) (λ l. impossible (with_none (tokenFrom b bs) (tokensAfter (more b) bs) (rw (x, l) at e)))
+    cases (valid (token_from b bs)) (λ l. impossible (with_none (token_from b bs) (tokens_after (more b) bs) (rw (x, l) at e)))
     (λ l. let f = rw (x, l) at e in impossible (cc)))
 
-none-back : (bs : List ℕ) → tokensOf bs ≡ some [] → 0xff ∷ [] ≡ bs
+none-back : (bs : List ℕ) → tokens_of bs ≡ some [] → 0xff ∷ [] ≡ bs
 none-back [] e = impossible (after_none 0 [] e)
 none-back (b ∷ bs) e = ends b bs e
 
-more-back : (t : Token) (ts : List Token) (bs : List ℕ) → ((cs : List ℕ) → Bytes cs → tokensOf cs ≡ some ts → bytes_of ts ≡ cs)
-    → Bytes bs → tokensOf bs ≡ some (t ∷ ts) → encoded t ++ bytes_of ts ≡ bs
+more-back : (t : Token) (ts : List Token) (bs : List ℕ) → ((cs : List ℕ) → Bytes cs → tokens_of cs ≡ some ts → bytes_of ts ≡ cs)
+    → Bytes bs → tokens_of bs ≡ some (t ∷ ts) → encoded t ++ bytes_of ts ≡ bs
 unfolding Bytes
 more-back t ts [] ih p e = impossible (after_none 0 (t ∷ ts) e)
 more-back t ts (b ∷ bs) ih p e =
     let s = starts b bs t ts e in
     ap (λ u. encoded u ++ bytes_of ts) (sym s.first)
-    ∙ ap (λ l. encoded (tokenFrom b bs) ++ l) (ih (drop (more b) bs) (bytes_drop (more b) bs p.1) (sym (after-drop (more b) bs) ∙ s.rest))
+    ∙ ap (λ l. encoded (token_from b bs) ++ l) (ih (drop (more b) bs) (bytes_drop (more b) bs p.1) (sym (after-drop (more b) bs) ∙ s.rest))
     ∙ first-encoded ts b bs (eqb b 0xf0) (eqb b 0xf1) (eqb b 0xf2) refl refl refl p.1 s.fine s.rest
 
 -- the bytes of the tokens of bytes are those bytes
-pub bytes-tokens : (ts : List Token) (bs : List ℕ) → Bytes bs → tokensOf bs ≡ some ts → bytes_of ts ≡ bs
+pub bytes-tokens : (ts : List Token) (bs : List ℕ) → Bytes bs → tokens_of bs ≡ some ts → bytes_of ts ≡ bs
 unfolding bytes_of
 bytes-tokens [] bs p e = none-back bs e
 bytes-tokens (t ∷ ts) bs p e = more-back t ts bs (λ cs q f. bytes-tokens ts cs q f) p e
 
-more-valid : (t : Token) (ts : List Token) (bs : List ℕ) → ((cs : List ℕ) → tokensOf cs ≡ some ts → allValid ts ≡ true)
-    → tokensOf bs ≡ some (t ∷ ts) → (valid t && allValid ts) ≡ true
+more-valid : (t : Token) (ts : List Token) (bs : List ℕ) → ((cs : List ℕ) → tokens_of cs ≡ some ts → all_valid ts ≡ true)
+    → tokens_of bs ≡ some (t ∷ ts) → (valid t && all_valid ts) ≡ true
 more-valid t ts [] ih e = impossible (after_none 0 (t ∷ ts) e)
 more-valid t ts (b ∷ bs) ih e =
     let s = starts b bs t ts e in
@@ -209,18 +209,18 @@ more-valid t ts (b ∷ bs) ih e =
     rw l (ih (drop (more b) bs) (sym (after-drop (more b) bs) ∙ s.rest))
 
 -- and those tokens are valid
-pub tokens_valid : (ts : List Token) (bs : List ℕ) → tokensOf bs ≡ some ts → allValid ts ≡ true
-unfolding allValid
+pub tokens_valid : (ts : List Token) (bs : List ℕ) → tokens_of bs ≡ some ts → all_valid ts ≡ true
+unfolding all_valid
 tokens_valid [] bs e = refl
 tokens_valid (t ∷ ts) bs e = more-valid t ts bs (λ cs f. tokens_valid ts cs f) e
 
 -- ---- what is found is what is encoded
 
-found-encoded : (bs : List ℕ) (ts : List Token) → Bytes bs → tokensOf bs ≡ some ts → Encodes bs ts
+found-encoded : (bs : List ℕ) (ts : List Token) → Bytes bs → tokens_of bs ≡ some ts → Encodes bs ts
 found-encoded bs ts b e = record { listed = tokens_valid ts bs e; encoded = bytes-tokens ts bs b e }
 
-pub encoded-found : (bs : List ℕ) (ts : List Token) → Encodes bs ts → tokensOf bs ≡ some ts
-encoded-found bs ts s = ap tokensOf (sym s.encoded) ∙ tokens-bytes ts s.listed
+pub encoded-found : (bs : List ℕ) (ts : List Token) → Encodes bs ts → tokens_of bs ≡ some ts
+encoded-found bs ts s = ap tokens_of (sym s.encoded) ∙ tokens-bytes ts s.listed
 
 pub every-scan : EveryScan
 every-scan bs b =
@@ -228,10 +228,10 @@ every-scan bs b =
       found = λ ts e. found-encoded bs ts b e;
       finds = encoded-found bs;
       unspelt = λ n ts s. impossible (let f = sym n ∙ encoded-found bs ts s in cc);
-      nothing = λ h. go h (tokensOf bs) refl;
+      nothing = λ h. go h (tokens_of bs) refl;
     }
   where
-    go : ((ts : List Token) → Encodes bs ts → ⊥) → (g : Scanned) → tokensOf bs ≡ g → tokensOf bs ≡ none
+    go : ((ts : List Token) → Encodes bs ts → ⊥) → (g : Scanned) → tokens_of bs ≡ g → tokens_of bs ≡ none
     go h none e = e
     go h (some ts) e = absurd (h ts (found-encoded bs ts b e))
 
@@ -240,7 +240,7 @@ one-decoding bs ts us s u = let z = sym (encoded-found bs ts s) ∙ encoded-foun
 
 -- ---- what is stored
 
-stored_one : (t : Token) → valid t ≡ true → tokenOf (kind_of t) (word_of t) (realOf t) ≡ t
+stored_one : (t : Token) → valid t ≡ true → token_of (kind_of t) (word_of t) (real_of t) ≡ t
 stored_one (Number x) e = refl
 stored_one (Symbol s) e = ap Symbol (mod-eq_of_lt (ltb-true s 65536 e))
 stored_one (Whole w) e = refl
@@ -248,15 +248,15 @@ stored_one (Sign k) e =
     let hi = leb-true k 36 (both_true (ltb 0 k) (leb k 36) e).1 in
     rw (ne_eqb k 0xf0 (λ q. omega arith), ne_eqb k 0xf1 (λ q. omega arith), ne_eqb k 0xf2 (λ q. omega arith))
 
-stored-all : (ts : List Token) (ws : List ℕ) (xs : List Float) → allValid ts ≡ true → toks (map kind_of ts) (map word_of ts ++ ws) (map realOf ts ++ xs) ≡ ts
-unfolding toks allValid
+stored-all : (ts : List Token) (ws : List ℕ) (xs : List Float) → all_valid ts ≡ true → toks (map kind_of ts) (map word_of ts ++ ws) (map real_of ts ++ xs) ≡ ts
+unfolding toks all_valid
 stored-all [] ws xs e = refl
 stored-all (t ∷ ts) ws xs e =
-    rw (stored_one t (both_true (valid t) (allValid ts) e).0) (ap (λ l. t ∷ l) (stored-all ts ws xs (both_true (valid t) (allValid ts) e).1))
+    rw (stored_one t (both_true (valid t) (all_valid ts) e).0) (ap (λ l. t ∷ l) (stored-all ts ws xs (both_true (valid t) (all_valid ts) e).1))
 
 -- the three arrays hold the tokens that were put in
-pub stored-tokens : (ts : List Token) → allValid ts ≡ true
-    → toks (take (length ts) (padded 0 (map kind_of ts))) (padded 0 (map word_of ts)) (padded zeroF (map realOf ts)) ≡ ts
+pub stored-tokens : (ts : List Token) → all_valid ts ≡ true
+    → toks (take (length ts) (padded 0 (map kind_of ts))) (padded 0 (map word_of ts)) (padded zero_f (map real_of ts)) ≡ ts
 stored-tokens ts e =
     let k = take_at (map kind_of ts) (drop (length (map kind_of ts)) (replicate 2048 0)) (length ts) (length-map ts kind_of) in
-    rw k (stored-all ts (drop (length (map word_of ts)) (replicate 2048 0)) (drop (length (map realOf ts)) (replicate 2048 zeroF)) e)
+    rw k (stored-all ts (drop (length (map word_of ts)) (replicate 2048 0)) (drop (length (map real_of ts)) (replicate 2048 zero_f)) e)

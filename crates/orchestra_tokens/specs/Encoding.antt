@@ -14,9 +14,9 @@ valid (Symbol s) = ltb s 65536
 valid (Whole w) = ltb w 16777217
 valid (Sign k) = ltb 0 k && leb k (length signs)
 
-unfoldable pub allValid : List Token → Bool
-allValid [] = true
-allValid (t ∷ ts) = valid t && allValid ts
+unfoldable pub all_valid : List Token → Bool
+all_valid [] = true
+all_valid (t ∷ ts) = valid t && all_valid ts
 
 -- 16 and 32 bits as bytes, the highest first
 abbrev pub two : ℕ → List ℕ
@@ -44,7 +44,7 @@ Bytes (b ∷ bs) = (b < 256) × Bytes bs
 
 -- the bytes are these tokens, each a token listed in document 01
 pub record Encodes (bs : List ℕ) (ts : List Token) : Type 0 where
-  pub listed : allValid ts ≡ true
+  pub listed : all_valid ts ≡ true
   pub encoded : bytes_of ts ≡ bs
 
 -- At most one list of tokens encodes given bytes.

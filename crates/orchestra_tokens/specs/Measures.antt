@@ -8,14 +8,14 @@ use Rattle.orchestra_tokens.specs.declared.Token.TheVariants.{Number, Symbol, Wh
 abbrev pub longest : ℕ
 longest = 16384
 
-abbrev pub mostTokens : ℕ
-mostTokens = 2048
+abbrev pub most_tokens : ℕ
+most_tokens = 2048
 
-abbrev pub mostBrackets : ℕ
-mostBrackets = 24
+abbrev pub most_brackets : ℕ
+most_brackets = 24
 
-abbrev pub longestStretch : ℕ
-longestStretch = 128
+abbrev pub longest_stretch : ℕ
+longest_stretch = 128
 
 -- the kind k is that of a sign
 abbrev is : ℕ → S.Sign → Bool
@@ -30,22 +30,22 @@ kind_of (Sign k) = k
 
 -- the brackets open after a token of the kind k, of those open before it: each ( or { adds one, each ) or } takes one off, never below 0
 unfoldable pub opened : ℕ → ℕ → ℕ
-opened n k = cond (is k S.roundOpen || is k S.curlyOpen) (suc n) (cond (is k S.roundClose || is k S.curlyClose) (n - 1) n)
+opened n k = cond (is k S.round_open || is k S.curly_open) (suc n) (cond (is k S.round_close || is k S.curly_close) (n - 1) n)
 
 -- never more than 24 brackets open, where n are open before
-unfoldable pub bracketsWithin : ℕ → List Token → Bool
-bracketsWithin n [] = true
-bracketsWithin n (t ∷ ts) = leb (opened n (kind_of t)) mostBrackets && bracketsWithin (opened n (kind_of t)) ts
+unfoldable pub brackets_within : ℕ → List Token → Bool
+brackets_within n [] = true
+brackets_within n (t ∷ ts) = leb (opened n (kind_of t)) most_brackets && brackets_within (opened n (kind_of t)) ts
 
 -- the tokens since the last of ; { } or the start, after a token of the kind k
 unfoldable pub since : ℕ → ℕ → ℕ
-since n k = cond (is k S.semicolon || (is k S.curlyOpen || is k S.curlyClose)) 0 (suc n)
+since n k = cond (is k S.semicolon || (is k S.curly_open || is k S.curly_close)) 0 (suc n)
 
 -- at most 128 tokens between two neighbours among ; { } and the ends, where n came since the last of them
-unfoldable pub stretchesWithin : ℕ → List Token → Bool
-stretchesWithin n [] = true
-stretchesWithin n (t ∷ ts) = leb (since n (kind_of t)) longestStretch && stretchesWithin (since n (kind_of t)) ts
+unfoldable pub stretches_within : ℕ → List Token → Bool
+stretches_within n [] = true
+stretches_within n (t ∷ ts) = leb (since n (kind_of t)) longest_stretch && stretches_within (since n (kind_of t)) ts
 
 -- within the token measures
 abbrev pub measured : List Token → Bool
-measured ts = leb (length ts) mostTokens && (bracketsWithin 0 ts && stretchesWithin 0 ts)
+measured ts = leb (length ts) most_tokens && (brackets_within 0 ts && stretches_within 0 ts)

@@ -1,9 +1,9 @@
 // Tokens of the orchestra, kept as three parallel slices: the kind, a word and a float for each token; and the token measures.
 ghost use Rattle.std.specs.Prelude.{◌≡◌, ◌&&◌, ◌+◌, ◌≤◌, leb, get_or};
 ghost use Rattle.base_answer.specs.declared.Answer.TheVariants.{BadToken};
-ghost use Rattle.orchestra_tokens.specs.inside.Token.{tokenAt, zeroF};
-ghost use Rattle.orchestra_tokens.specs.Measures.{longest, opened as opened_of, since as sinceOf};
-ghost use Rattle.orchestra_tokens.specs.inside.Passes.{found, next as next_of, closedOf};
+ghost use Rattle.orchestra_tokens.specs.inside.Token.{token_at, zero_f};
+ghost use Rattle.orchestra_tokens.specs.Measures.{longest, opened as opened_of, since as since_of};
+ghost use Rattle.orchestra_tokens.specs.inside.Passes.{found, next as next_of, closed_of};
 
 use base_answer::Answer;
 
@@ -52,13 +52,13 @@ pub fn word_at(s: &[u32], i: usize) -> u32
 }
 
 pub fn real_at(s: &[f32], i: usize) -> f32
-    ensures { result ≡ get_or s.now i zeroF }
+    ensures { result ≡ get_or s.now i zero_f }
 {
     if i < s.len() { s[i] } else { 0.0 }
 }
 
 pub fn token_at(kinds: &[u8], words: &[u32], reals: &[f32], at: usize) -> Token
-    ensures { result ≡ tokenAt kinds.now words.now reals.now at }
+    ensures { result ≡ token_at kinds.now words.now reals.now at }
 {
     let k = byte_at(kinds, at);
     if k == SYMBOL {
@@ -112,7 +112,7 @@ fn opened(n: usize, k: u8) -> usize
 fn since(n: usize, k: u8) -> usize
     requires { n ≤ longest }
     ensures low { result ≤ n + 1 }
-    ensures is { result ≡ sinceOf n k }
+    ensures is { result ≡ since_of n k }
 {
     if k == orchestra_signs::SEMICOLON {
         return 0;
@@ -172,7 +172,7 @@ pub fn bad() -> ScanResult
 
 // At the end token, with as many bytes left as it and those after it are.
 pub fn closed(m: Measure, left: usize) -> ScanResult
-    ensures { result ≡ closedOf m left }
+    ensures { result ≡ closed_of m left }
 {
     if left != 1 {
         return bad();

@@ -10,14 +10,14 @@ use Rattle.settings_records.specs.Changes as records
 use Rattle.settings_records.specs.declared.InUse.{InUse}
 use Rattle.settings_records.specs.declared.Changed.{Changed}
 use Rattle.player_model.proofs.Lists.{cond-true, cond-false}
-use Rattle.player_model.specs.Calls.{Entrance, mustBeTimed, reads}
-use Rattle.player_start.specs.Starting.{startingOf}
+use Rattle.player_model.specs.Calls.{Entrance, must_be_timed, reads}
+use Rattle.player_start.specs.Starting.{starting_of}
 use Rattle.player_start.specs.declared.Start.{Start}
-use Rattle.entrance_readers.specs.Entrances.{entranceReadOf, scoreIn}
+use Rattle.entrance_readers.specs.Entrances.{entrance_read_of, score_in}
 use Rattle.entrance_readers.specs.declared.EntranceRead.{EntranceRead}
 use Rattle.entrance_admission.proofs.Pushing.{handed-timed, handed-brings}
-use Rattle.panel.specs.State.{instrumentsOf, voicesWith, settingsIn, inState, inSettings, panelOf, panelAt}
-use Rattle.panel.specs.Calls.{fresh_of, submittedOf, submitOf, receiveOf, playKeysOf, changedIn, areaIn, undoneIn, changeOf, undoOf, cycleOf}
+use Rattle.panel.specs.State.{instruments_of, voices_with, settings_in, in_state, in_settings, panel_of, panel_at}
+use Rattle.panel.specs.Calls.{fresh_of, submitted_of, submit_of, receive_of, play_keys_of, changed_in, area_in, undone_in, change_of, undo_of, cycle_of}
 use Rattle.panel.specs.declared.Core.{Core}
 use Rattle.entrance_admission.specs.declared.AdmissionResult.{AdmissionResult}
 use Rattle.panel.specs.declared.CoreEntranceResult.{CoreEntranceResult}
@@ -26,93 +26,93 @@ use Rattle.panel.specs.declared.CoreResult.{CoreResult}
 use Rattle.panel.specs.declared.EntranceResult.{EntranceResult}
 use Rattle.panel.specs.declared.BurstResult.{BurstResult}
 use Rattle.panel.specs.declared.PanelResult.{PanelResult}
-use Rattle.score_bursts.specs.inside.Reading.{burstOf}
-use Rattle.player_calls.specs.OnState as onState
-use Rattle.player_cycle.specs.CycleCall.{cycledOf}
-use Rattle.player_calls.specs.OnState.{burstSubmittedOf, keyboardCallOf}
+use Rattle.score_bursts.specs.inside.Reading.{burst_of}
+use Rattle.player_calls.specs.OnState as on_state
+use Rattle.player_cycle.specs.CycleCall.{cycled_of}
+use Rattle.player_calls.specs.OnState.{burst_submitted_of, keyboard_call_of}
 use Rattle.player_calls.specs.declared.EntranceResult.{EntranceResult as BroughtIn}
 use Rattle.player_calls.specs.declared.BurstResult.{BurstResult as ReceivedIn}
 use Rattle.player_calls.specs.declared.CallResult.{CallResult}
 
 -- a fresh start, from what it starts with
-pub starts : (orchestra area first : List ℕ) (chosen : ℕ) (s : Start) → s ≡ startingOf orchestra area first chosen
-    → record { panel = panelAt s; answer = s.answer } ≡ fresh_of orchestra area first chosen
+pub starts : (orchestra area first : List ℕ) (chosen : ℕ) (s : Start) → s ≡ starting_of orchestra area first chosen
+    → record { panel = panel_at s; answer = s.answer } ≡ fresh_of orchestra area first chosen
 unfolding fresh_of
-starts orchestra area first chosen s e = ap (λ (x : Start). record { panel = panelAt x; answer = x.answer }) e
+starts orchestra area first chosen s e = ap (λ (x : Start). record { panel = panel_at x; answer = x.answer }) e
 
 -- a change and an undo, 9 first
 module _ {ended : Bool} (k : InUse) (area : List ℕ) where
-  pub change-over : (handed : List ℕ) → ended ≡ true → (records.changed k Ended ≡ changedIn ended k area handed) × (area ≡ areaIn ended k area handed)
-  unfolding changedIn areaIn
+  pub change-over : (handed : List ℕ) → ended ≡ true → (records.changed k Ended ≡ changed_in ended k area handed) × (area ≡ area_in ended k area handed)
+  unfolding changed_in area_in
   change-over handed e = (sym (cond-true _ _ e), sym (cond-true _ _ e))
 
-  pub change-open : (handed : List ℕ) → ended ≡ false → {r : Changed} {left : List ℕ} → (r ≡ records.changeOf k area handed) × (left ≡ records.areaChanged k.count area handed)
-      → (r ≡ changedIn ended k area handed) × (left ≡ areaIn ended k area handed)
-  unfolding changedIn areaIn
+  pub change-open : (handed : List ℕ) → ended ≡ false → {r : Changed} {left : List ℕ} → (r ≡ records.change_of k area handed) × (left ≡ records.area_changed k.count area handed)
+      → (r ≡ changed_in ended k area handed) × (left ≡ area_in ended k area handed)
+  unfolding changed_in area_in
   change-open handed e q = (q.0 ∙ sym (cond-false _ _ e), q.1 ∙ sym (cond-false _ _ e))
 
-  pub undo-over : ended ≡ true → records.changed k Ended ≡ undoneIn ended k area
-  unfolding undoneIn
+  pub undo-over : ended ≡ true → records.changed k Ended ≡ undone_in ended k area
+  unfolding undone_in
   undo-over e = sym (cond-true _ _ e)
 
-  pub undo-open : ended ≡ false → {r : Changed} → r ≡ records.undoOf k area → r ≡ undoneIn ended k area
-  unfolding undoneIn
+  pub undo-open : ended ≡ false → {r : Changed} → r ≡ records.undo_of k area → r ≡ undone_in ended k area
+  unfolding undone_in
   undo-open e q = q ∙ sym (cond-false _ _ e)
 
 -- a call on the core, from the call on its state or its settings
 module _ (c : Core) where
-  pub brings-in : (timed : Bool) (s : Score) (r : BroughtIn) → r ≡ onState.submittedOf (instrumentsOf c) c.state timed s
-      → record { core = inState c r.state; answer = r.answer; line = r.line } ≡ submittedOf c timed s
-  unfolding submittedOf
-  brings-in timed s r e = ap (λ (x : BroughtIn). record { core = inState c x.state; answer = x.answer; line = x.line }) e
+  pub brings-in : (timed : Bool) (s : Score) (r : BroughtIn) → r ≡ on_state.submitted_of (instruments_of c) c.state timed s
+      → record { core = in_state c r.state; answer = r.answer; line = r.line } ≡ submitted_of c timed s
+  unfolding submitted_of
+  brings-in timed s r e = ap (λ (x : BroughtIn). record { core = in_state c x.state; answer = x.answer; line = x.line }) e
 
-  pub receives : (bytes : List ℕ) (places : ℕ) (r : ReceivedIn) → r ≡ burstSubmittedOf (instrumentsOf c) c.state places (burstOf bytes)
-      → record { core = inState c r.state; answer = r.answer; units = r.units } ≡ receiveOf c bytes places
-  unfolding receiveOf
-  receives bytes places r e = ap (λ (x : ReceivedIn). record { core = inState c x.state; answer = x.answer; units = x.units }) e
+  pub receives : (bytes : List ℕ) (places : ℕ) (r : ReceivedIn) → r ≡ burst_submitted_of (instruments_of c) c.state places (burst_of bytes)
+      → record { core = in_state c r.state; answer = r.answer; units = r.units } ≡ receive_of c bytes places
+  unfolding receive_of
+  receives bytes places r e = ap (λ (x : ReceivedIn). record { core = in_state c x.state; answer = x.answer; units = x.units }) e
 
-  pub presses : (bytes : List ℕ) (r : CallResult) → r ≡ keyboardCallOf c.state bytes → record { core = inState c r.state; answer = r.answer } ≡ playKeysOf c bytes
-  unfolding playKeysOf
-  presses bytes r e = ap (λ (x : CallResult). record { core = inState c x.state; answer = x.answer }) e
+  pub presses : (bytes : List ℕ) (r : CallResult) → r ≡ keyboard_call_of c.state bytes → record { core = in_state c r.state; answer = r.answer } ≡ play_keys_of c bytes
+  unfolding play_keys_of
+  presses bytes r e = ap (λ (x : CallResult). record { core = in_state c x.state; answer = x.answer }) e
 
-  pub changes : (area handed : List ℕ) (r : Changed) → r ≡ changedIn c.state.playing.ended c.settings area handed
-      → record { core = inSettings c r.settings; answer = r.answer } ≡ changeOf c area handed
-  unfolding changeOf
-  changes area handed r e = ap (λ (x : Changed). record { core = inSettings c x.settings; answer = x.answer }) e
+  pub changes : (area handed : List ℕ) (r : Changed) → r ≡ changed_in c.state.playing.ended c.settings area handed
+      → record { core = in_settings c r.settings; answer = r.answer } ≡ change_of c area handed
+  unfolding change_of
+  changes area handed r e = ap (λ (x : Changed). record { core = in_settings c x.settings; answer = x.answer }) e
 
-  pub undoes : (area : List ℕ) (r : Changed) → r ≡ undoneIn c.state.playing.ended c.settings area
-      → record { core = inSettings c r.settings; answer = r.answer } ≡ undoOf c area
-  unfolding undoOf
-  undoes area r e = ap (λ (x : Changed). record { core = inSettings c x.settings; answer = x.answer }) e
+  pub undoes : (area : List ℕ) (r : Changed) → r ≡ undone_in c.state.playing.ended c.settings area
+      → record { core = in_settings c r.settings; answer = r.answer } ≡ undo_of c area
+  unfolding undo_of
+  undoes area r e = ap (λ (x : Changed). record { core = in_settings c x.settings; answer = x.answer }) e
 
-  pub cycles : (code : List ℕ) (vals : List Float) (n : ℕ) (r : CallResult) → r ≡ cycledOf (voicesWith code vals c) (settingsIn c) c.state n
-      → record { core = inState c r.state; answer = r.answer } ≡ cycleOf code vals c n
-  unfolding cycleOf
-  cycles code vals n r e = ap (λ (x : CallResult). record { core = inState c x.state; answer = x.answer }) e
+  pub cycles : (code : List ℕ) (vals : List Float) (n : ℕ) (r : CallResult) → r ≡ cycled_of (voices_with code vals c) (settings_in c) c.state n
+      → record { core = in_state c r.state; answer = r.answer } ≡ cycle_of code vals c n
+  unfolding cycle_of
+  cycles code vals n r e = ap (λ (x : CallResult). record { core = in_state c x.state; answer = x.answer }) e
 
 -- what is handed over at an entrance does what the whole reading does
 module _ (c : Core) (d : Entrance) (handed : List ℕ) where
   abbrev given : EntranceRead
-  given = entranceReadOf (mustBeTimed d) (reads d handed)
+  given = entrance_read_of (must_be_timed d) (reads d handed)
 
-  pub by-entrance : (h : EntranceRead) → h ≡ given → (x : CoreEntranceResult) → x ≡ submittedOf c h.timed (scoreIn h) → x ≡ submitOf c d handed
-  unfolding submitOf submittedOf onState.submittedOf
+  pub by-entrance : (h : EntranceRead) → h ≡ given → (x : CoreEntranceResult) → x ≡ submitted_of c h.timed (score_in h) → x ≡ submit_of c d handed
+  unfolding submit_of submitted_of on_state.submitted_of
   by-entrance h e x q =
-      q ∙ ap (λ (y : EntranceRead). submittedOf c y.timed (scoreIn y)) e
-      ∙ ap (λ (t : Bool). submittedOf c t (scoreIn given)) (handed-timed (mustBeTimed d) (reads d handed))
-      ∙ ap (λ (r : AdmissionResult). record { core = inState c (onState.withQueue c.state r.queue); answer = r.answer; line = r.line })
-      (handed-brings c.state.playing.ended (mustBeTimed d) (instrumentsOf c) c.state.queue (reads d handed))
+      q ∙ ap (λ (y : EntranceRead). submitted_of c y.timed (score_in y)) e
+      ∙ ap (λ (t : Bool). submitted_of c t (score_in given)) (handed-timed (must_be_timed d) (reads d handed))
+      ∙ ap (λ (r : AdmissionResult). record { core = in_state c (on_state.with_queue c.state r.queue); answer = r.answer; line = r.line })
+      (handed-brings c.state.playing.ended (must_be_timed d) (instruments_of c) c.state.queue (reads d handed))
 
 -- a panel's call is its core's
 module _ {code : List ℕ} {vals : List Float} where
-  pub enters_on : {r : EntranceResult} {x y : CoreEntranceResult} → r ≡ record { panel = panelOf x.core code vals; answer = x.answer; line = x.line } → x ≡ y
-      → r ≡ record { panel = panelOf y.core code vals; answer = y.answer; line = y.line }
-  enters_on e q = e ∙ ap (λ (x : CoreEntranceResult). record { panel = panelOf x.core code vals; answer = x.answer; line = x.line }) q
+  pub enters_on : {r : EntranceResult} {x y : CoreEntranceResult} → r ≡ record { panel = panel_of x.core code vals; answer = x.answer; line = x.line } → x ≡ y
+      → r ≡ record { panel = panel_of y.core code vals; answer = y.answer; line = y.line }
+  enters_on e q = e ∙ ap (λ (x : CoreEntranceResult). record { panel = panel_of x.core code vals; answer = x.answer; line = x.line }) q
 
   pub receives-on : {x y : CoreBurstResult} → x ≡ y
-      → ◌≡◌ {A = BurstResult} (record { panel = panelOf x.core code vals; answer = x.answer; units = x.units }) (record { panel = panelOf y.core code vals; answer = y.answer; units = y.units })
-  receives-on q = ap (λ (x : CoreBurstResult). record { panel = panelOf x.core code vals; answer = x.answer; units = x.units }) q
+      → ◌≡◌ {A = BurstResult} (record { panel = panel_of x.core code vals; answer = x.answer; units = x.units }) (record { panel = panel_of y.core code vals; answer = y.answer; units = y.units })
+  receives-on q = ap (λ (x : CoreBurstResult). record { panel = panel_of x.core code vals; answer = x.answer; units = x.units }) q
 
-  pub leaves-on : {r : PanelResult} {x y : CoreResult} → r ≡ record { panel = panelOf x.core code vals; answer = x.answer } → x ≡ y
-      → r ≡ record { panel = panelOf y.core code vals; answer = y.answer }
-  leaves-on e q = e ∙ ap (λ (x : CoreResult). record { panel = panelOf x.core code vals; answer = x.answer }) q
+  pub leaves-on : {r : PanelResult} {x y : CoreResult} → r ≡ record { panel = panel_of x.core code vals; answer = x.answer } → x ≡ y
+      → r ≡ record { panel = panel_of y.core code vals; answer = y.answer }
+  leaves-on e q = e ∙ ap (λ (x : CoreResult). record { panel = panel_of x.core code vals; answer = x.answer }) q

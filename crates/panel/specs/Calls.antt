@@ -1,19 +1,19 @@
 -- What each call of a core gives, for every core and every input, and what a fresh start gives.
 use Rattle.std.specs.Prelude.{Bool, cond, List, ℕ, ℤ, Float}
 use Rattle.score_reader.specs.Score.{Score}
-use Rattle.score_bursts.specs.inside.Reading.{burstOf}
+use Rattle.score_bursts.specs.inside.Reading.{burst_of}
 use Rattle.base_answer.specs.declared.Answer.TheVariants.{Ended}
 use Rattle.settings_records.specs.Changes as records
 use Rattle.settings_records.specs.declared.InUse.{InUse}
 use Rattle.settings_records.specs.declared.Changed.{Changed}
-use Rattle.player_model.specs.Calls.{Entrance, mustBeTimed, reads}
-use Rattle.entrance_burst.specs.Singly.{areaIn as burstArea}
-use Rattle.player_calls.specs.OnState as onState
-use Rattle.player_cycle.specs.CycleCall.{cycledOf, blockLeft}
-use Rattle.player_calls.specs.OnState.{burstSubmittedOf, keyboardCallOf}
-use Rattle.panel.specs.State.{instrumentsOf, voicesWith, settingsIn, inState, inSettings, panelAt}
+use Rattle.player_model.specs.Calls.{Entrance, must_be_timed, reads}
+use Rattle.entrance_burst.specs.Singly.{area_in as burst_area}
+use Rattle.player_calls.specs.OnState as on_state
+use Rattle.player_cycle.specs.CycleCall.{cycled_of, block_left}
+use Rattle.player_calls.specs.OnState.{burst_submitted_of, keyboard_call_of}
+use Rattle.panel.specs.State.{instruments_of, voices_with, settings_in, in_state, in_settings, panel_at}
 use Rattle.panel.specs.declared.Core.{Core}
-use Rattle.player_start.specs.Starting.{startingOf, areaStarted}
+use Rattle.player_start.specs.Starting.{starting_of, area_started}
 use Rattle.panel.specs.declared.Fresh.{Fresh}
 use Rattle.panel.specs.declared.CoreEntranceResult.{CoreEntranceResult}
 use Rattle.panel.specs.declared.CoreBurstResult.{CoreBurstResult}
@@ -22,71 +22,71 @@ use Rattle.panel.specs.declared.CoreResult.{CoreResult}
 -- a fresh start
 unfoldable pub fresh_of : List ℕ → List ℕ → List ℕ → ℕ → Fresh
 fresh_of orchestra area first chosen =
-    let s = startingOf orchestra area first chosen in
-    record { panel = panelAt s; answer = s.answer }
+    let s = starting_of orchestra area first chosen in
+    record { panel = panel_at s; answer = s.answer }
 
 -- the lent area afterwards
-abbrev pub areaFresh : List ℕ → List ℕ → List ℕ → ℕ → List ℕ
-areaFresh orchestra area first chosen = areaStarted orchestra area first chosen
+abbrev pub area_fresh : List ℕ → List ℕ → List ℕ → ℕ → List ℕ
+area_fresh orchestra area first chosen = area_started orchestra area first chosen
 
 -- ---- a call on a core is the call on its state, or on its settings: nothing else of the core changes
 
 -- what was read goes in, all of it or none
-unfoldable pub submittedOf : Core → Bool → Score → CoreEntranceResult
-submittedOf c timed s =
-    let r = onState.submittedOf (instrumentsOf c) c.state timed s in
-    record { core = inState c r.state; answer = r.answer; line = r.line }
+unfoldable pub submitted_of : Core → Bool → Score → CoreEntranceResult
+submitted_of c timed s =
+    let r = on_state.submitted_of (instruments_of c) c.state timed s in
+    record { core = in_state c r.state; answer = r.answer; line = r.line }
 
 -- bytes or numbers at an entrance
-unfoldable pub submitOf : Core → Entrance → List ℕ → CoreEntranceResult
-submitOf c d handed = submittedOf c (mustBeTimed d) (reads d handed)
+unfoldable pub submit_of : Core → Entrance → List ℕ → CoreEntranceResult
+submit_of c d handed = submitted_of c (must_be_timed d) (reads d handed)
 
 -- a burst's units, as if they came singly
-unfoldable pub receiveOf : Core → List ℕ → ℕ → CoreBurstResult
-receiveOf c bytes places =
-    let r = burstSubmittedOf (instrumentsOf c) c.state places (burstOf bytes) in
-    record { core = inState c r.state; answer = r.answer; units = r.units }
+unfoldable pub receive_of : Core → List ℕ → ℕ → CoreBurstResult
+receive_of c bytes places =
+    let r = burst_submitted_of (instruments_of c) c.state places (burst_of bytes) in
+    record { core = in_state c r.state; answer = r.answer; units = r.units }
 
 -- the lent answer area afterwards
-unfoldable pub areaAfter : Core → List ℕ → List ℕ → List ℕ
-areaAfter c bytes area = burstArea c.state.playing.ended (instrumentsOf c) c.state.queue area (burstOf bytes)
+unfoldable pub area_after : Core → List ℕ → List ℕ → List ℕ
+area_after c bytes area = burst_area c.state.playing.ended (instruments_of c) c.state.queue area (burst_of bytes)
 
 -- bytes at the keyboard
-unfoldable pub playKeysOf : Core → List ℕ → CoreResult
-playKeysOf c bytes =
-    let r = keyboardCallOf c.state bytes in
-    record { core = inState c r.state; answer = r.answer }
+unfoldable pub play_keys_of : Core → List ℕ → CoreResult
+play_keys_of c bytes =
+    let r = keyboard_call_of c.state bytes in
+    record { core = in_state c r.state; answer = r.answer }
 
 -- a change and an undo: 9, then the checks of the area and the records
-unfoldable pub changedIn : Bool → InUse → List ℕ → List ℕ → Changed
-changedIn ended k area handed = cond ended (records.changed k Ended) (records.changeOf k area handed)
+unfoldable pub changed_in : Bool → InUse → List ℕ → List ℕ → Changed
+changed_in ended k area handed = cond ended (records.changed k Ended) (records.change_of k area handed)
 
-unfoldable pub areaIn : Bool → InUse → List ℕ → List ℕ → List ℕ
-areaIn ended k area handed = cond ended area (records.areaChanged k.count area handed)
+unfoldable pub area_in : Bool → InUse → List ℕ → List ℕ → List ℕ
+area_in ended k area handed = cond ended area (records.area_changed k.count area handed)
 
-unfoldable pub undoneIn : Bool → InUse → List ℕ → Changed
-undoneIn ended k area = cond ended (records.changed k Ended) (records.undoOf k area)
+unfoldable pub undone_in : Bool → InUse → List ℕ → Changed
+undone_in ended k area = cond ended (records.changed k Ended) (records.undo_of k area)
 
-unfoldable pub changeOf : Core → List ℕ → List ℕ → CoreResult
-changeOf c area handed =
-    let r = changedIn c.state.playing.ended c.settings area handed in
-    record { core = inSettings c r.settings; answer = r.answer }
+unfoldable pub change_of : Core → List ℕ → List ℕ → CoreResult
+change_of c area handed =
+    let r = changed_in c.state.playing.ended c.settings area handed in
+    record { core = in_settings c r.settings; answer = r.answer }
 
 -- the lent area afterwards
-abbrev pub areaChanged : Core → List ℕ → List ℕ → List ℕ
-areaChanged c area handed = areaIn c.state.playing.ended c.settings area handed
+abbrev pub area_changed : Core → List ℕ → List ℕ → List ℕ
+area_changed c area handed = area_in c.state.playing.ended c.settings area handed
 
-unfoldable pub undoOf : Core → List ℕ → CoreResult
-undoOf c area =
-    let r = undoneIn c.state.playing.ended c.settings area in
-    record { core = inSettings c r.settings; answer = r.answer }
+unfoldable pub undo_of : Core → List ℕ → CoreResult
+undo_of c area =
+    let r = undone_in c.state.playing.ended c.settings area in
+    record { core = in_settings c r.settings; answer = r.answer }
 
 -- a cycle, by the code and the numbers that it is lent
-unfoldable pub cycleOf : List ℕ → List Float → Core → ℕ → CoreResult
-cycleOf code vals c lent =
-    let r = cycledOf (voicesWith code vals c) (settingsIn c) c.state lent in
-    record { core = inState c r.state; answer = r.answer }
+unfoldable pub cycle_of : List ℕ → List Float → Core → ℕ → CoreResult
+cycle_of code vals c lent =
+    let r = cycled_of (voices_with code vals c) (settings_in c) c.state lent in
+    record { core = in_state c r.state; answer = r.answer }
 
 -- the lent block afterwards
-unfoldable pub blockAfter : List ℕ → List Float → Core → List ℤ → List ℤ
-blockAfter code vals c block = blockLeft (voicesWith code vals c) (settingsIn c) c.state block
+unfoldable pub block_after : List ℕ → List Float → Core → List ℤ → List ℤ
+block_after code vals c block = block_left (voices_with code vals c) (settings_in c) c.state block

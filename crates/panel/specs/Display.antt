@@ -14,8 +14,8 @@ pub record Display : Type 0 where
   -- in ticks
   pub position : ℕ
 
-abbrev pub displayOf : Core → Display
-displayOf c =
+abbrev pub display_of : Core → Display
+display_of c =
     let s = c.state in
     record {
       missed = s.playing.missed;

@@ -11,7 +11,7 @@ use Rattle.player_state.specs.Playing as playing
 use Rattle.player_state.specs.declared.Settings.{Settings as Now}
 use Rattle.player_state.specs.States as states
 use Rattle.player_state.specs.declared.State.{State}
-use Rattle.player_calls.specs.OnState as onState
+use Rattle.player_calls.specs.OnState as on_state
 use Rattle.code_program.specs.declared.Program.{Program}
 use Rattle.player_start.specs.declared.Start.{Start}
 use Rattle.panel.specs.declared.Core.{Core}
@@ -26,32 +26,32 @@ use Rattle.panel.specs.declared.PanelResult.{PanelResult}
 -- ---- a core
 
 -- the instruments of the accepted orchestra
-abbrev pub instrumentsOf : Core → List Instrument
-instrumentsOf c = take c.count c.table
+abbrev pub instruments_of : Core → List Instrument
+instruments_of c = take c.count c.table
 
 -- what its notes do, by the code and the numbers that it is lent
-abbrev pub voicesWith : List ℕ → List Float → Core → Voices VoiceState
-voicesWith code vals c = voices (instrumentsOf c) code vals
+abbrev pub voices_with : List ℕ → List Float → Core → Voices VoiceState
+voices_with code vals c = voices (instruments_of c) code vals
 
 -- what a cycle goes by, for settings in use and a chosen instrument
-abbrev pub settingsNow : InUse → ℕ → Now
-settingsNow k chosen = record { ceiling = k.last.ceiling; notes = k.last.notes; chosen = chosen }
+abbrev pub settings_now : InUse → ℕ → Now
+settings_now k chosen = record { ceiling = k.last.ceiling; notes = k.last.notes; chosen = chosen }
 
-abbrev pub settingsIn : Core → Settings
-settingsIn c = playing.settingsIn (settingsNow c.settings c.chosen)
+abbrev pub settings_in : Core → Settings
+settings_in c = playing.settings_in (settings_now c.settings c.chosen)
 
 -- the core in another state: its settings, its chosen instrument and its instruments stay
-abbrev pub inState : Core → State → Core
-inState c s = record { state = s; settings = c.settings; chosen = c.chosen; table = c.table; count = c.count }
+abbrev pub in_state : Core → State → Core
+in_state c s = record { state = s; settings = c.settings; chosen = c.chosen; table = c.table; count = c.count }
 
 -- the core with other settings in use
-abbrev pub inSettings : Core → InUse → Core
-inSettings c k = record { state = c.state; settings = k; chosen = c.chosen; table = c.table; count = c.count }
+abbrev pub in_settings : Core → InUse → Core
+in_settings c k = record { state = c.state; settings = k; chosen = c.chosen; table = c.table; count = c.count }
 
 -- ---- a panel: a core, with the code and the numbers that it is lent
 
-abbrev pub panelOf : Core → List ℕ → List Float → Panel
-panelOf c code vals = record { core = c; code = code; vals = vals }
+abbrev pub panel_of : Core → List ℕ → List Float → Panel
+panel_of c code vals = record { core = c; code = code; vals = vals }
 
 abbrev pub program_of : Panel → Program
 program_of p = record { table = p.core.table; count = p.core.count; code = p.code; vals = p.vals }
@@ -60,49 +60,49 @@ program_of p = record { table = p.core.table; count = p.core.count; code = p.cod
 abbrev pub table_of : Program → List Instrument
 table_of g = take g.count g.table
 
-abbrev pub voicesOf : Program → Voices VoiceState
-voicesOf g = voices (table_of g) g.code g.vals
+abbrev pub voices_of : Program → Voices VoiceState
+voices_of g = voices (table_of g) g.code g.vals
 
 -- what waits and what plays
-abbrev pub playerStateOf : Panel → PlayerState VoiceState
-playerStateOf p = states.playerStateOf p.core.state
+abbrev pub player_state_of : Panel → PlayerState VoiceState
+player_state_of p = states.player_state_of p.core.state
 
 -- the panel with another core: its code stays
-abbrev pub withCore : Panel → Core → Panel
-withCore p c = panelOf c p.code p.vals
+abbrev pub with_core : Panel → Core → Panel
+with_core p c = panel_of c p.code p.vals
 
-abbrev pub withState : Panel → State → Panel
-withState p s = withCore p (inState p.core s)
+abbrev pub with_state : Panel → State → Panel
+with_state p s = with_core p (in_state p.core s)
 
-abbrev pub withInUse : Panel → InUse → Panel
-withInUse p k = withCore p (inSettings p.core k)
+abbrev pub with_in_use : Panel → InUse → Panel
+with_in_use p k = with_core p (in_settings p.core k)
 
 -- the panel with other waiting lines
-unfoldable pub withQueue : Panel → Queue → Panel
-withQueue p q = withState p (onState.withQueue p.core.state q)
+unfoldable pub with_queue : Panel → Queue → Panel
+with_queue p q = with_state p (on_state.with_queue p.core.state q)
 
 -- the panel with other waiting note messages
-unfoldable pub withMessages : Panel → MessageQueue → Panel
-withMessages p m = withState p (onState.withMessages p.core.state m)
+unfoldable pub with_messages : Panel → MessageQueue → Panel
+with_messages p m = with_state p (on_state.with_messages p.core.state m)
 
 -- the panel marked as ended
 unfoldable pub ended_of : Panel → Panel
 ended_of p =
     let s = p.core.state in
-    withState p (record { queue = s.queue; messages = s.messages; playing = states.stopped s.playing })
+    with_state p (record { queue = s.queue; messages = s.messages; playing = states.stopped s.playing })
 
 -- the panel that a fresh start gives
-abbrev pub panelAt : Start → Panel
-panelAt s =
+abbrev pub panel_at : Start → Panel
+panel_at s =
     let g = s.program in
-    panelOf (record { state = s.state; settings = s.settings; chosen = s.chosen; table = g.table; count = g.count }) g.code g.vals
+    panel_of (record { state = s.state; settings = s.settings; chosen = s.chosen; table = g.table; count = g.count }) g.code g.vals
 
 -- what a call on its core leaves of a panel
-abbrev pub entranceOn : Panel → CoreEntranceResult → EntranceResult
-entranceOn p r = record { panel = withCore p r.core; answer = r.answer; line = r.line }
+abbrev pub entrance_on : Panel → CoreEntranceResult → EntranceResult
+entrance_on p r = record { panel = with_core p r.core; answer = r.answer; line = r.line }
 
-abbrev pub burstOn : Panel → CoreBurstResult → BurstResult
-burstOn p r = record { panel = withCore p r.core; answer = r.answer; units = r.units }
+abbrev pub burst_on : Panel → CoreBurstResult → BurstResult
+burst_on p r = record { panel = with_core p r.core; answer = r.answer; units = r.units }
 
-abbrev pub resultOn : Panel → CoreResult → PanelResult
-resultOn p r = record { panel = withCore p r.core; answer = r.answer }
+abbrev pub result_on : Panel → CoreResult → PanelResult
+result_on p r = record { panel = with_core p r.core; answer = r.answer }

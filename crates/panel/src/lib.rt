@@ -1,10 +1,10 @@
 // The panel: its state by value, the fresh start, the entrances and the cycle (documents 01 and 02).
 ghost use Rattle.std.specs.Prelude.{◌≡◌, length};
 ghost use Rattle.player_model.specs.Calls.{stick, unit, keypad, text};
-ghost use Rattle.entrance_readers.specs.Entrances.{scoreIn};
-ghost use Rattle.panel.specs.State.{panelOf, entranceOn, burstOn, resultOn};
-ghost use Rattle.panel.specs.Display.{displayOf};
-ghost use Rattle.panel.specs.Calls.{fresh_of, areaFresh, submittedOf, submitOf, receiveOf, areaAfter, playKeysOf, changedIn, areaIn, undoneIn, changeOf, areaChanged, undoOf, cycleOf, blockAfter};
+ghost use Rattle.entrance_readers.specs.Entrances.{score_in};
+ghost use Rattle.panel.specs.State.{panel_of, entrance_on, burst_on, result_on};
+ghost use Rattle.panel.specs.Display.{display_of};
+ghost use Rattle.panel.specs.Calls.{fresh_of, area_fresh, submitted_of, submit_of, receive_of, area_after, play_keys_of, changed_in, area_in, undone_in, change_of, area_changed, undo_of, cycle_of, block_after};
 
 use base_answer::Answer;
 use code_operations::{CODE, PROGRAM};
@@ -96,8 +96,8 @@ fn change_unless_ended(
     area: &mut [u8],
     handed: &[u8],
 ) -> settings_records::Changed
-    ensures settings { result ≡ changedIn ended settings area.old handed.now }
-    ensures area { area.new ≡ areaIn ended settings area.old handed.now }
+    ensures settings { result ≡ changed_in ended settings area.old handed.now }
+    ensures area { area.new ≡ area_in ended settings area.old handed.now }
 {
     if ended {
         return settings_records::Changed {
@@ -110,7 +110,7 @@ fn change_unless_ended(
 
 // An undo: 9 first.
 fn undo_unless_ended(ended: bool, settings: InUse, area: &[u8]) -> settings_records::Changed
-    ensures { result ≡ undoneIn ended settings area.now }
+    ensures { result ≡ undone_in ended settings area.now }
 {
     if ended {
         return settings_records::Changed {
@@ -123,7 +123,7 @@ fn undo_unless_ended(ended: bool, settings: InUse, area: &[u8]) -> settings_reco
 
 // What was handed in at an entrance, read, into the waiting lines.
 fn submit(mut c: Core, h: EntranceRead) -> CoreEntranceResult
-    ensures { result ≡ submittedOf c h.timed (scoreIn h) }
+    ensures { result ≡ submitted_of c h.timed (score_in h) }
 {
     let table = c.table;
     let instruments = Instruments {
@@ -145,28 +145,28 @@ fn submit(mut c: Core, h: EntranceRead) -> CoreEntranceResult
 impl Core {
     // A stick: the whole score, or nothing of it.
     pub fn load_score(self, s: &[u8]) -> CoreEntranceResult
-        ensures { result ≡ submitOf self stick s.now }
+        ensures { result ≡ submit_of self stick s.now }
     {
         submit(self, entrance_readers::stick(s))
     }
 
     // An access unit.
     pub fn receive_unit(self, s: &[u8]) -> CoreEntranceResult
-        ensures { result ≡ submitOf self unit s.now }
+        ensures { result ≡ submit_of self unit s.now }
     {
         submit(self, entrance_readers::unit(s))
     }
 
     // A keypad line.
     pub fn enter_line(self, words: &[u32]) -> CoreEntranceResult
-        ensures { result ≡ submitOf self keypad words.now }
+        ensures { result ≡ submit_of self keypad words.now }
     {
         submit(self, entrance_readers::keypad(words))
     }
 
     // A score as text: the whole of it, or nothing, as a stick.
     pub fn load_text(self, s: &[u8]) -> CoreEntranceResult
-        ensures { result ≡ submitOf self text s.now }
+        ensures { result ≡ submit_of self text s.now }
     {
         submit(self, entrance_readers::text(s))
     }
@@ -174,8 +174,8 @@ impl Core {
     // A burst of access units: each as if it came singly, in order, with its answer's number in the lent area; or a refusal, and nothing is
     // taken or written.
     pub fn receive_burst(mut self, s: &[u8], answers: &mut [u8]) -> CoreBurstResult
-        ensures panel { result ≡ receiveOf self s.now (length answers.old) }
-        ensures area { answers.new ≡ areaAfter self s.now answers.old }
+        ensures panel { result ≡ receive_of self s.now (length answers.old) }
+        ensures area { answers.new ≡ area_after self s.now answers.old }
     {
         let table = self.table;
         let instruments = Instruments {
@@ -196,7 +196,7 @@ impl Core {
 
     // Bytes at the keyboard: all its note messages, or none of them.
     pub fn play_keys(mut self, bytes: &[u8]) -> CoreResult
-        ensures { result ≡ playKeysOf self bytes.now }
+        ensures { result ≡ play_keys_of self bytes.now }
     {
         let state = self.state;
         let r = player_calls::play_keys(state, bytes);
@@ -211,8 +211,8 @@ impl Core {
 
     // A settings record behind those in use, in the lent area.
     pub fn change(mut self, area: &mut [u8], handed: &[u8]) -> CoreResult
-        ensures panel { result ≡ changeOf self area.old handed.now }
-        ensures area { area.new ≡ areaChanged self area.old handed.now }
+        ensures panel { result ≡ change_of self area.old handed.now }
+        ensures area { area.new ≡ area_changed self area.old handed.now }
     {
         let settings = self.settings;
         let r = change_unless_ended(self.state.playing.ended, settings, area, handed);
@@ -227,7 +227,7 @@ impl Core {
 
     // The last settings record out of use; its bytes stay.
     pub fn undo(mut self, area: &[u8]) -> CoreResult
-        ensures { result ≡ undoOf self area.now }
+        ensures { result ≡ undo_of self area.now }
     {
         let settings = self.settings;
         let r = undo_unless_ended(self.state.playing.ended, settings, area);
@@ -242,8 +242,8 @@ impl Core {
 
     // A cycle of sound into a block of 320 samples, by the code that is lent.
     pub fn cycle<'a>(mut self, code: &'a [u64], vals: &'a [f32], block: &mut [i16]) -> CoreResult
-        ensures panel { result ≡ cycleOf code.now vals.now self (length block.old) }
-        ensures block { block.new ≡ blockAfter code.now vals.now self block.old }
+        ensures panel { result ≡ cycle_of code.now vals.now self (length block.old) }
+        ensures block { block.new ≡ block_after code.now vals.now self block.old }
     {
         let table = self.table;
         let instruments = Instruments {
@@ -267,37 +267,37 @@ impl Core {
     }
 
     pub fn missed_notes(self) -> u64
-        ensures { result ≡ (displayOf self).missed }
+        ensures { result ≡ (display_of self).missed }
     {
         self.state.playing.missed
     }
 
     pub fn waiting_lines(self) -> usize
-        ensures { result ≡ (displayOf self).lines }
+        ensures { result ≡ (display_of self).lines }
     {
         self.state.queue.count
     }
 
     pub fn waiting_messages(self) -> usize
-        ensures { result ≡ (displayOf self).messages }
+        ensures { result ≡ (display_of self).messages }
     {
         self.state.messages.count
     }
 
     pub fn sounding_notes(self) -> usize
-        ensures { result ≡ (displayOf self).notes }
+        ensures { result ≡ (display_of self).notes }
     {
         self.state.playing.notes.count
     }
 
     pub fn has_ended(self) -> bool
-        ensures { result ≡ (displayOf self).ended }
+        ensures { result ≡ (display_of self).ended }
     {
         self.state.playing.ended
     }
 
     pub fn position_in_ticks(self) -> u64
-        ensures { result ≡ (displayOf self).position }
+        ensures { result ≡ (display_of self).position }
     {
         self.state.playing.position
     }
@@ -319,7 +319,7 @@ impl Core {
 
 // A panel with its core as a call has left it.
 fn entrance_on(mut p: Panel, c: CoreEntranceResult) -> EntranceResult
-    ensures { result ≡ entranceOn p c }
+    ensures { result ≡ entrance_on p c }
 {
     let core = c.core;
     let answer = c.answer;
@@ -332,7 +332,7 @@ fn entrance_on(mut p: Panel, c: CoreEntranceResult) -> EntranceResult
 }
 
 fn result_on(mut p: Panel, c: CoreResult) -> PanelResult
-    ensures { result ≡ resultOn p c }
+    ensures { result ≡ result_on p c }
 {
     let core = c.core;
     let answer = c.answer;
@@ -352,7 +352,7 @@ impl Panel {
     // the keyboard. A refusal, of the record, of the orchestra or of the choice, gives a panel that has ended and leaves the area.
     pub fn fresh(orchestra: &[u8], area: &mut [u8], first: &[u8], chosen: u16) -> Fresh
         ensures panel { result ≡ fresh_of orchestra.now area.old first.now chosen }
-        ensures area { area.new ≡ areaFresh orchestra.now area.old first.now chosen }
+        ensures area { area.new ≡ area_fresh orchestra.now area.old first.now chosen }
     {
         let s = player_start::fresh_start(orchestra, area, first, chosen);
         let state = s.state;
@@ -379,36 +379,36 @@ impl Panel {
     }
 
     pub fn load_score(self, s: &[u8]) -> EntranceResult
-        ensures { result ≡ entranceOn self (submitOf self.core stick s.now) }
+        ensures { result ≡ entrance_on self (submit_of self.core stick s.now) }
     {
         let core = self.core;
         entrance_on(self, Core::load_score(core, s))
     }
 
     pub fn receive_unit(self, s: &[u8]) -> EntranceResult
-        ensures { result ≡ entranceOn self (submitOf self.core unit s.now) }
+        ensures { result ≡ entrance_on self (submit_of self.core unit s.now) }
     {
         let core = self.core;
         entrance_on(self, Core::receive_unit(core, s))
     }
 
     pub fn enter_line(self, words: &[u32]) -> EntranceResult
-        ensures { result ≡ entranceOn self (submitOf self.core keypad words.now) }
+        ensures { result ≡ entrance_on self (submit_of self.core keypad words.now) }
     {
         let core = self.core;
         entrance_on(self, Core::enter_line(core, words))
     }
 
     pub fn load_text(self, s: &[u8]) -> EntranceResult
-        ensures { result ≡ entranceOn self (submitOf self.core text s.now) }
+        ensures { result ≡ entrance_on self (submit_of self.core text s.now) }
     {
         let core = self.core;
         entrance_on(self, Core::load_text(core, s))
     }
 
     pub fn receive_burst(mut self, s: &[u8], answers: &mut [u8]) -> BurstResult
-        ensures panel { result ≡ burstOn self (receiveOf self.core s.now (length answers.old)) }
-        ensures area { answers.new ≡ areaAfter self.core s.now answers.old }
+        ensures panel { result ≡ burst_on self (receive_of self.core s.now (length answers.old)) }
+        ensures area { answers.new ≡ area_after self.core s.now answers.old }
     {
         let core = self.core;
         let r = Core::receive_burst(core, s, answers);
@@ -423,30 +423,30 @@ impl Panel {
     }
 
     pub fn play_keys(self, bytes: &[u8]) -> PanelResult
-        ensures { result ≡ resultOn self (playKeysOf self.core bytes.now) }
+        ensures { result ≡ result_on self (play_keys_of self.core bytes.now) }
     {
         let core = self.core;
         result_on(self, Core::play_keys(core, bytes))
     }
 
     pub fn change(self, area: &mut [u8], handed: &[u8]) -> PanelResult
-        ensures panel { result ≡ resultOn self (changeOf self.core area.old handed.now) }
-        ensures area { area.new ≡ areaChanged self.core area.old handed.now }
+        ensures panel { result ≡ result_on self (change_of self.core area.old handed.now) }
+        ensures area { area.new ≡ area_changed self.core area.old handed.now }
     {
         let core = self.core;
         result_on(self, Core::change(core, area, handed))
     }
 
     pub fn undo(self, area: &[u8]) -> PanelResult
-        ensures { result ≡ resultOn self (undoOf self.core area.now) }
+        ensures { result ≡ result_on self (undo_of self.core area.now) }
     {
         let core = self.core;
         result_on(self, Core::undo(core, area))
     }
 
     pub fn cycle(self, block: &mut [i16]) -> PanelResult
-        ensures panel { result ≡ resultOn self (cycleOf self.code self.vals self.core (length block.old)) }
-        ensures block { block.new ≡ blockAfter self.code self.vals self.core block.old }
+        ensures panel { result ≡ result_on self (cycle_of self.code self.vals self.core (length block.old)) }
+        ensures block { block.new ≡ block_after self.code self.vals self.core block.old }
     {
         let core = self.core;
         let r = Core::cycle(core, &self.code, &self.vals, block);
@@ -455,7 +455,7 @@ impl Panel {
 
     // The panel in two, for a host that lends its code.
     pub fn split(self) -> SplitPanel
-        ensures { panelOf result.core result.code result.vals ≡ self }
+        ensures { panel_of result.core result.code result.vals ≡ self }
     {
         let core = self.core;
         let code = self.code;
@@ -468,42 +468,42 @@ impl Panel {
     }
 
     pub fn missed_notes(self) -> u64
-        ensures { result ≡ (displayOf self.core).missed }
+        ensures { result ≡ (display_of self.core).missed }
     {
         let core = self.core;
         Core::missed_notes(core)
     }
 
     pub fn waiting_lines(self) -> usize
-        ensures { result ≡ (displayOf self.core).lines }
+        ensures { result ≡ (display_of self.core).lines }
     {
         let core = self.core;
         Core::waiting_lines(core)
     }
 
     pub fn waiting_messages(self) -> usize
-        ensures { result ≡ (displayOf self.core).messages }
+        ensures { result ≡ (display_of self.core).messages }
     {
         let core = self.core;
         Core::waiting_messages(core)
     }
 
     pub fn sounding_notes(self) -> usize
-        ensures { result ≡ (displayOf self.core).notes }
+        ensures { result ≡ (display_of self.core).notes }
     {
         let core = self.core;
         Core::sounding_notes(core)
     }
 
     pub fn has_ended(self) -> bool
-        ensures { result ≡ (displayOf self.core).ended }
+        ensures { result ≡ (display_of self.core).ended }
     {
         let core = self.core;
         Core::has_ended(core)
     }
 
     pub fn position_in_ticks(self) -> u64
-        ensures { result ≡ (displayOf self.core).position }
+        ensures { result ≡ (display_of self.core).position }
     {
         let core = self.core;
         Core::position_in_ticks(core)

@@ -10,36 +10,36 @@ use borrow.Author.Tests.{eqb-true}
 use Rattle.base_answer.specs.Numbers.{number_of, is_taken}
 use Rattle.score_line.specs.declared.Line.{Line}
 use Rattle.score_reader.specs.Score.{Score}
-use Rattle.player_queue.specs.Admission.{admitted, pushed, waitingIn}
+use Rattle.player_queue.specs.Admission.{admitted, pushed, waiting_in}
 use Rattle.player_queue.specs.declared.Queue.{Queue}
 use Rattle.player_queue.specs.declared.Admitted.{Admitted}
 use Rattle.code_program.specs.declared.FieldCount.{FieldCount}
 use Rattle.player_queue.proofs.Admission.{taken-pushed, taken-room, waiting-pushed, length-pushed}
-use Rattle.code_program.specs.InstrumentTable.{fieldCountIn}
+use Rattle.code_program.specs.InstrumentTable.{field_count_in}
 use Rattle.code_program.specs.declared.Instrument.{Instrument}
-use Rattle.player_model.specs.Calls.{Entrance, mustBeTimed, hasTime, reads, submit, one, noBuffers, After}
+use Rattle.player_model.specs.Calls.{Entrance, must_be_timed, has_time, reads, submit, one, no_buffers, After}
 use Rattle.player_model.proofs.Lists.{by-test, either_way}
-use Rattle.entrance_admission.specs.Submission.{lineAdmitted, admittedAll, submittedIn}
+use Rattle.entrance_admission.specs.Submission.{line_admitted, admitted_all, submitted_in}
 use Rattle.entrance_admission.specs.declared.AdmissionResult.{AdmissionResult}
-use Rattle.player_calls.specs.OnState as onState
-use Rattle.panel.specs.State.{program_of, table_of, withQueue}
-use Rattle.panel.specs.Calls.{submittedOf, submitOf}
+use Rattle.player_calls.specs.OnState as on_state
+use Rattle.panel.specs.State.{program_of, table_of, with_queue}
+use Rattle.panel.specs.Calls.{submitted_of, submit_of}
 use Rattle.panel.specs.declared.Panel.{Panel}
-use Rattle.panel_claims.specs.Claims.{coreAfter, after_of, Takes, TakenCalls}
+use Rattle.panel_claims.specs.Claims.{core_after, after_of, Takes, TakenCalls}
 
 -- ---- lines behind those that wait
 
 pub record Behind (q : Queue) (ls : List Line) (q' : Queue) : Type 0 where
-  pub waits : waitingIn q' ≡ waitingIn q ++ ls
+  pub waits : waiting_in q' ≡ waiting_in q ++ ls
   pub long : length q'.lines ≡ 64
   pub ran : q'.ran ≡ q.ran
   pub last : q'.last ≡ q.last
   -- the count is how many wait
-  pub counted : q.count ≡ length (waitingIn q) → q'.count ≡ length (waitingIn q')
+  pub counted : q.count ≡ length (waiting_in q) → q'.count ≡ length (waiting_in q')
 
 pub behind_more : {q : Queue} {ls ms : List Line} {q' q'' : Queue} → Behind q ls q' → Behind q' ms q'' → Behind q (ls ++ ms) q''
 behind_more {q} {ls} {ms} x y =
-    record { waits = cc (x.waits, y.waits, append_assoc (waitingIn q) ls ms); long = y.long; ran = y.ran ∙ x.ran; last = y.last ∙ x.last; counted = λ e. y.counted (x.counted e) }
+    record { waits = cc (x.waits, y.waits, append_assoc (waiting_in q) ls ms); long = y.long; ran = y.ran ∙ x.ran; last = y.last ∙ x.last; counted = λ e. y.counted (x.counted e) }
 
 module _ (timed : Bool) (table : List Instrument) where
   admits : (q : Queue) (l : Line) (f : FieldCount) → length q.lines ≡ 64 → is_taken (admitted q l f).answer ≡ true → Behind q (l ∷ []) (admitted q l f).queue
@@ -52,60 +52,60 @@ module _ (timed : Bool) (table : List Instrument) where
         long = length-pushed q l f ∙ long;
         ran = refl;
         last = refl;
-        counted = λ e. omega (arith, e, ap length waits, length-append (waitingIn q) (l ∷ []));
+        counted = λ e. omega (arith, e, ap length waits, length-append (waiting_in q) (l ∷ []));
       })
 
-  line-took : (q : Queue) (l : Line) → length q.lines ≡ 64 → is_taken (lineAdmitted timed table q l).answer ≡ true → Behind q (l ∷ []) (lineAdmitted timed table q l).queue
-  unfolding lineAdmitted
+  line-took : (q : Queue) (l : Line) → length q.lines ≡ 64 → is_taken (line_admitted timed table q l).answer ≡ true → Behind q (l ∷ []) (line_admitted timed table q l).queue
+  unfolding line_admitted
   line-took q l long =
-      either_way (λ (a : Admitted). is_taken a.answer ≡ true → Behind q (l ∷ []) a.queue) (timed && not (hasTime l.when))
-      (λ t. absurd (false≢true t)) (admits q l (fieldCountIn table l.event) long)
+      either_way (λ (a : Admitted). is_taken a.answer ≡ true → Behind q (l ∷ []) a.queue) (timed && not (has_time l.when))
+      (λ t. absurd (false≢true t)) (admits q l (field_count_in table l.event) long)
 
   -- what pushed lines leave: they all wait behind the others, or the old queue stays
   pub data Went (old q : Queue) (ls : List Line) (r : AdmissionResult) : Type 0 where
     in_all : is_taken r.answer ≡ true → (length q.lines ≡ 64 → Behind q ls r.queue) → Went old q ls r
     in-none : is_taken r.answer ≡ false → r.queue ≡ old → Went old q ls r
 
-  all_lines : (old q : Queue) (i : ℕ) (ls : List Line) → Went old q ls (admittedAll timed table old q i ls)
-  unfolding admittedAll
-  all_lines old q i [] = in_all refl (λ long. record { waits = sym (append-nil (waitingIn q)); long = long; ran = refl; last = refl; counted = λ e. e })
+  all_lines : (old q : Queue) (i : ℕ) (ls : List Line) → Went old q ls (admitted_all timed table old q i ls)
+  unfolding admitted_all
+  all_lines old q i [] = in_all refl (λ long. record { waits = sym (append-nil (waiting_in q)); long = long; ran = refl; last = refl; counted = λ e. e })
   all_lines old q i (l ∷ ls) =
-      let a = lineAdmitted timed table q l in
+      let a = line_admitted timed table q l in
       by-test (is_taken a.answer) (λ e. rw e (go a (λ long. line-took q l long e) (all_lines old a.queue (i + 1) ls))) (λ e. rw e (in-none e refl))
     where
       go : (a : Admitted) {r : AdmissionResult} → (length q.lines ≡ 64 → Behind q (l ∷ []) a.queue) → Went old a.queue ls r → Went old q (l ∷ ls) r
       go a first (in_all t rest) = in_all t (λ long. behind_more (first long) (rest (first long).long))
       go a first (in-none t s) = in-none t s
 
-  pub went : (q : Queue) (s : Score) → Went q q s.lines (submittedIn false timed table q s)
-  unfolding submittedIn
+  pub went : (q : Queue) (s : Score) → Went q q s.lines (submitted_in false timed table q s)
+  unfolding submitted_in
   went q s = by-test (is_taken s.answer) (λ e. rw e (all_lines q q 0 s.lines)) (λ e. rw e (in-none e refl))
 
 -- ---- what an entrance leaves: the lines read wait behind the others, or it is refused and the panel is as it was
 
 pub data Brings (p : Panel) (ls : List Line) (a : After Panel) : Type 0 where
   takes : (l : ℕ) (q : Queue) → p.core.state.playing.ended ≡ false → (length p.core.state.queue.lines ≡ 64 → Behind p.core.state.queue ls q)
-      → a ≡ record { player = withQueue p q; answers = one 0 l; buffers = noBuffers } → Brings p ls a
-  refuses : (n l : ℕ) → eqb n 0 ≡ false → a ≡ record { player = p; answers = one n l; buffers = noBuffers } → Brings p ls a
+      → a ≡ record { player = with_queue p q; answers = one 0 l; buffers = no_buffers } → Brings p ls a
+  refuses : (n l : ℕ) → eqb n 0 ≡ false → a ≡ record { player = p; answers = one n l; buffers = no_buffers } → Brings p ls a
 
 pub brings : (p : Panel) (d : Entrance) (handed : List ℕ) → Brings p (reads d handed).lines (after_of p (submit d handed))
-unfolding after_of coreAfter submitOf submittedOf onState.submittedOf submittedIn withQueue
+unfolding after_of core_after submit_of submitted_of on_state.submitted_of submitted_in with_queue
 brings p d handed = go p.core.state.playing.ended refl
   where
     left : AdmissionResult → After Panel
-    left r = record { player = withQueue p r.queue; answers = one (number_of r.answer) r.line; buffers = noBuffers }
+    left r = record { player = with_queue p r.queue; answers = one (number_of r.answer) r.line; buffers = no_buffers }
 
-    by_lines : p.core.state.playing.ended ≡ false → (r : AdmissionResult) → Went (mustBeTimed d) (table_of (program_of p)) p.core.state.queue p.core.state.queue (reads d handed).lines r
+    by_lines : p.core.state.playing.ended ≡ false → (r : AdmissionResult) → Went (must_be_timed d) (table_of (program_of p)) p.core.state.queue p.core.state.queue (reads d handed).lines r
         → Brings p (reads d handed).lines (left r)
-    by_lines e r (in_all t f) = takes r.line r.queue e f (λ i. record { player = withQueue p r.queue; answers = one (eqb-true (number_of r.answer) 0 t i) r.line; buffers = noBuffers })
-    by_lines e r (in-none t s) = refuses (number_of r.answer) r.line t (λ i. record { player = withQueue p (s i); answers = one (number_of r.answer) r.line; buffers = noBuffers })
+    by_lines e r (in_all t f) = takes r.line r.queue e f (λ i. record { player = with_queue p r.queue; answers = one (eqb-true (number_of r.answer) 0 t i) r.line; buffers = no_buffers })
+    by_lines e r (in-none t s) = refuses (number_of r.answer) r.line t (λ i. record { player = with_queue p (s i); answers = one (number_of r.answer) r.line; buffers = no_buffers })
 
     go : (b : Bool) → p.core.state.playing.ended ≡ b
-        → Brings p (reads d handed).lines (left (submittedIn b (mustBeTimed d) (table_of (program_of p)) p.core.state.queue (reads d handed)))
+        → Brings p (reads d handed).lines (left (submitted_in b (must_be_timed d) (table_of (program_of p)) p.core.state.queue (reads d handed)))
     go true e = refuses 9 0 refl refl
     go false e =
-        by_lines e (submittedIn false (mustBeTimed d) (table_of (program_of p)) p.core.state.queue (reads d handed))
-        (went (mustBeTimed d) (table_of (program_of p)) p.core.state.queue (reads d handed))
+        by_lines e (submitted_in false (must_be_timed d) (table_of (program_of p)) p.core.state.queue (reads d handed))
+        (went (must_be_timed d) (table_of (program_of p)) p.core.state.queue (reads d handed))
 
 pub taken-calls : TakenCalls
 unfolding TakenCalls

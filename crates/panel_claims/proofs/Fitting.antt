@@ -12,15 +12,15 @@ use Rattle.score_line.specs.declared.When.TheVariants.{Timed, Untimed}
 use Rattle.score_line.specs.declared.Event.{Event}
 use Rattle.score_line.specs.declared.Event.TheVariants.{Instr, Control, End, Tempo}
 use Rattle.orchestra_syntax.specs.Tree.{Instrument}
-use Rattle.orchestra_syntax.specs.Names.{has, titleOf}
-use Rattle.orchestra_semantics.specs.Meaning.{instrumentOf}
+use Rattle.orchestra_syntax.specs.Names.{has, title_of}
+use Rattle.orchestra_semantics.specs.Meaning.{instrument_of}
 use Rattle.voices_resolved.specs.Tree.{fields_of}
 use Rattle.player_model.proofs.Lists.{by-test}
 use Rattle.player_model.specs.History.{nowhere, at}
-use Rattle.player_queue.specs.Waiting.{isLate}
-use Rattle.player_queue.specs.Admission.{tooMany, unfitEvent}
+use Rattle.player_queue.specs.Waiting.{is_late}
+use Rattle.player_queue.specs.Admission.{too_many, unfit_event}
 use Rattle.code_program.specs.declared.FieldCount.TheVariants.{Count, NoSuch}
-use Rattle.panel_claims.specs.Verdict.{HasFields, here, there, Playable, tooLate}
+use Rattle.panel_claims.specs.Verdict.{HasFields, here, there, Playable, too_late}
 
 pub data Judged (P : Type 0) : Bool → Type 0 where
   yes-so : P → Judged P false
@@ -39,8 +39,8 @@ behind-it q f (here r h) = q r
 behind-it q f (there r h) = f h
 
 fields-judged : (is : List Instrument) (name n : ℕ)
-    → Judged (HasFields name n is) (tooMany (cond (has name (map titleOf is)) (Count (length (instrumentOf is name).fields)) NoSuch) n)
-unfolding has instrumentOf
+    → Judged (HasFields name n is) (too_many (cond (has name (map title_of is)) (Count (length (instrument_of is name).fields)) NoSuch) n)
+unfolding has instrument_of
 fields-judged [] name n = no-so nobody
 fields-judged (i ∷ is) name n =
     by-test (eqb i.name name)
@@ -53,7 +53,7 @@ fields-judged (i ∷ is) name n =
     rest q (yes-so h) = yes-so (there q h)
     rest q (no-so f) = no-so (behind-it q f)
 
-pub event-judged : (is : List Instrument) (n : ℕ) (e : Event) → Judged (Playable is n e) (unfitEvent (fields_of is e) n e)
+pub event-judged : (is : List Instrument) (n : ℕ) (e : Event) → Judged (Playable is n e) (unfit_event (fields_of is e) n e)
 event-judged is n (Instr label name d) = fields-judged is name n
 event-judged is n (Control label x value) = yes-so tt
 event-judged is n End = yes-so tt
@@ -69,7 +69,7 @@ judged-yes (no-so g) q = absurd (g q)
 
 -- ---- 7, 6
 
-pub late-same : (ran : Bool) (x : ℕ) (w : When) → tooLate (cond ran (at x) nowhere) w ≡ isLate ran x w
+pub late-same : (ran : Bool) (x : ℕ) (w : When) → too_late (cond ran (at x) nowhere) w ≡ is_late ran x w
 late-same true x (Timed u t) = refl
 late-same true x Untimed = refl
 late-same false x (Timed u t) = refl

@@ -9,18 +9,18 @@ use lib.Dec.{ltb, eqb}
 use borrow.Author.Tests.{ltb-true, ltb-false, eqb-true, eqb-false}
 use Rattle.settings_records.specs.Form as settings
 use Rattle.settings_records.specs.Form.{Valid}
-use Rattle.settings_records.specs.inside.Reading.{foundIn, walked}
-use Rattle.settings_records.specs.Changes.{area_bytes, noneInUse, laidAt, changeOf}
+use Rattle.settings_records.specs.inside.Reading.{found_in, walked}
+use Rattle.settings_records.specs.Changes.{area_bytes, none_in_use, laid_at, change_of}
 use Rattle.settings_records.specs.declared.Found.{Found}
 use Rattle.settings_records.specs.declared.Setting.{Setting}
 use Rattle.settings_records.specs.declared.InUse.{InUse}
 use Rattle.settings_records.specs.declared.Changed.{Changed}
 use Rattle.settings_records.proofs.Walk.{found-fits}
-use Rattle.settings_records.proofs.Changing.{change-joins, other_length, left_over, new-fault}
+use Rattle.settings_records.proofs.Changing.{change-joins, other-length, left-over, new-fault}
 use Rattle.settings_records.proofs.Meaning.{every-record, one-meaning as read-meaning}
 use Rattle.settings_records.proofs.Stack.{changed-taken}
 use Rattle.settings_records.proofs.Sets.{change-sets, change-valid}
-use Rattle.player_model.specs.Set.{startingTempo}
+use Rattle.player_model.specs.Set.{starting_tempo}
 use Rattle.base_answer.specs.Numbers.{number_of, is_taken}
 use Rattle.base_answer.specs.declared.Answer.TheVariants.{Taken, CutShort, OutOfRange, LeftOver, UnknownVersion, NoInstrument}
 use Rattle.base_answer.specs.declared.Answer.{Answer}
@@ -30,7 +30,7 @@ use Rattle.orchestra_tokens.proofs.RoundTrip.{one-decoding}
 use Rattle.orchestra_tokens.specs.Measures.{longest, measured}
 use Rattle.orchestra_syntax.specs.Tree.{Instrument}
 use Rattle.orchestra_syntax.specs.Names.{name_rules}
-use Rattle.orchestra_syntax.specs.Rates.{rateRules}
+use Rattle.orchestra_syntax.specs.Rates.{rate_rules}
 use Rattle.orchestra_syntax.specs.Grammar.{Orchestra}
 use Rattle.orchestra_grammar.proofs.Unique.{unique}
 use Rattle.orchestra_reader.specs.inside.Reading.{read_of}
@@ -43,16 +43,16 @@ use Rattle.player_model.proofs.Lists.{by-test, cond-true, cond-false}
 use Rattle.code_loader.specs.Loading.{load_of}
 use Rattle.code_loader_claims.specs.Claims.{StandsFor}
 use Rattle.code_loader_claims.proofs.Loaded.{loaded, taken-only}
-use Rattle.midi_queue.specs.Keyboard.{noMessages}
-use Rattle.panel.specs.Display.{Display, displayOf}
-use Rattle.panel.specs.State.{panelAt, playerStateOf}
-use Rattle.player_start.specs.Starting.{hasChosen, start_of, refusedStart, startingOf, areaStarted}
+use Rattle.midi_queue.specs.Keyboard.{no_messages}
+use Rattle.panel.specs.Display.{Display, display_of}
+use Rattle.panel.specs.State.{panel_at, player_state_of}
+use Rattle.player_start.specs.Starting.{has_chosen, start_of, refused_start, starting_of, area_started}
 use Rattle.player_start.specs.declared.Start.{Start}
 use Rattle.panel.specs.Calls.{fresh_of}
-use Rattle.player_model.specs.Plain.{plainStart}
+use Rattle.player_model.specs.Plain.{plain_start}
 use Rattle.player_model.specs.Calls.{none as none_yet}
-use Rattle.panel_claims.specs.Fresh.{Setup, Check, First, fails, holds, all, Tokens, Tree, checks, orchestraChecks}
-use Rattle.panel_claims.specs.Claims.{panel, firstInUse, freshBy, areaBy, Begun, nothing, FreshVerdict}
+use Rattle.panel_claims.specs.Fresh.{Setup, Check, First, fails, holds, all, Tokens, Tree, checks, orchestra_checks}
+use Rattle.panel_claims.specs.Claims.{panel, first_in_use, fresh_by, area_by, Begun, nothing, FreshVerdict}
 use Rattle.panel_claims.proofs.Settings.{laid-there}
 use Rattle.panel_claims.proofs.Ended.{all-ended}
 use Rattle.panel_claims.proofs.Starts.{content-small, whole-taken}
@@ -76,12 +76,12 @@ module _ (u : Setup) (law : Passed u) where
   bs = u.orchestra
 
   -- bytes that are a record are no fault
-  no-fault : (a : Answer) → is_taken a ≡ false → settings.Parses u.first (settings.refusedAs a) → ⊥
+  no-fault : (a : Answer) → is_taken a ≡ false → settings.Parses u.first (settings.refused_as a) → ⊥
   no-fault a e x =
       true≢false (ap (λ (f : Found). is_taken f.answer) (sym (read-meaning u.first _ law.is-record.1) ∙ read-meaning u.first _ x) ∙ e)
 
   -- the orchestra's checks come behind them
-  passed : {n : ℕ} → First (orchestraChecks u) n → First (checks u) n
+  passed : {n : ℕ} → First (orchestra_checks u) n → First (checks u) n
   passed f =
       holds law.whole (holds (no-fault CutShort refl) (holds (no-fault LeftOver refl) (holds (no-fault UnknownVersion refl) (holds (no-fault OutOfRange refl) (holds law.is-record f)))))
 
@@ -89,7 +89,7 @@ module _ (u : Setup) (law : Passed u) where
   names = record { number = 14; asks = Tree bs (λ is. name_rules is ≡ true) }
 
   abbrev rates : Check
-  rates = record { number = 15; asks = Tree bs (λ is. rateRules is ≡ true) }
+  rates = record { number = 15; asks = Tree bs (λ is. rate_rules is ≡ true) }
 
   abbrev choice : Check
   choice = record { number = 4; asks = Tree bs (λ is. Some (λ (i : Instrument). i.name ≡ u.chosen) is) }
@@ -109,9 +109,9 @@ module _ (u : Setup) (law : Passed u) where
 
   -- an orchestra that is not accepted
   by-verdict : (o : OrchestraRead) → orchestra.Verdict bs o → is_taken o.answer ≡ false → First (checks u) (number_of o.answer)
-  by-verdict o (orchestra.tooLong lt) t = passed (fails (λ (le : length bs ≤ longest). omega arith))
-  by-verdict o (orchestra.noTokens le e) t = passed (holds le (fails (λ (x : Tokens bs (λ ts. Unit {0})). e x.0 x.1)))
-  by-verdict o (orchestra.tooLarge ts le e m) t =
+  by-verdict o (orchestra.too_long lt) t = passed (fails (λ (le : length bs ≤ longest). omega arith))
+  by-verdict o (orchestra.no_tokens le e) t = passed (holds le (fails (λ (x : Tokens bs (λ ts. Unit {0})). e x.0 x.1)))
+  by-verdict o (orchestra.too_large ts le e m) t =
       let is-tokens : Tokens bs (λ us. Unit {0}) = (ts, e, tt) in
       passed (holds le (holds is-tokens (fails (λ (x : Tokens bs (λ ts. measured ts ≡ true)).
       true≢false (sym x.2 ∙ ap measured (one-decoding bs x.0 ts x.1 e) ∙ m)))))
@@ -125,14 +125,14 @@ module _ (u : Setup) (law : Passed u) where
       let named : Tree bs (λ js. name_rules js ≡ true) = (ts, is, s.encodes, d, n) in
       derived-so ts is s d
       (holds named
-      (fails (λ (x : Tree bs (λ js. rateRules js ≡ true)). true≢false (sym x.4 ∙ ap rateRules (unique x.3 d (one-decoding bs x.0 ts x.2 s.encodes)) ∙ r))))
+      (fails (λ (x : Tree bs (λ js. rate_rules js ≡ true)). true≢false (sym x.4 ∙ ap rate_rules (unique x.3 d (one-decoding bs x.0 ts x.2 s.encodes)) ∙ r))))
   by-verdict o (orchestra.accepted is a) t = absurd (true≢false t)
 
   -- one that is, by its tree
   by-tree : (is : List Instrument) (a : orchestra.Accepted bs is) → {n : ℕ} → First (choice ∷ []) n → First (checks u) n
   by-tree is a f =
       let named : Tree bs (λ js. name_rules js ≡ true) = (a.tokens, is, a.sized.encodes, a.derived, a.named) in
-      let rated : Tree bs (λ js. rateRules js ≡ true) = (a.tokens, is, a.sized.encodes, a.derived, a.rated) in
+      let rated : Tree bs (λ js. rate_rules js ≡ true) = (a.tokens, is, a.sized.encodes, a.derived, a.rated) in
       derived-so a.tokens is a.sized a.derived (holds named (holds rated f))
 
   there-so : (is : List Instrument) → orchestra.Accepted bs is → Some (λ (i : Instrument). i.name ≡ u.chosen) is → First (checks u) 0
@@ -154,27 +154,27 @@ either false f g = g refl
 -- what a fresh start gives, by its first record, by its orchestra's answer and by the choice
 out : Setup → Bool → Bool → Bool → Start
 out u law taken there =
-    let c = changeOf noneInUse u.area u.first in
+    let c = change_of none_in_use u.area u.first in
     let r = load_of u.orchestra in
     cond law
-    (cond taken (cond there (start_of r.program c.settings u.chosen false r.answer) (refusedStart r.program NoInstrument)) (refusedStart r.program r.answer))
-    (refusedStart (load_of []).program c.answer)
+    (cond taken (cond there (start_of r.program c.settings u.chosen false r.answer) (refused_start r.program NoInstrument)) (refused_start r.program r.answer))
+    (refused_start (load_of []).program c.answer)
 
 -- a record that is whole and valid is taken at a fresh start, and no other
 module _ (u : Setup) where
   abbrev first-of : Changed
-  first-of = changeOf noneInUse u.area u.first
+  first-of = change_of none_in_use u.area u.first
 
-  is-record-so : is_taken first-of.answer ≡ true → settings.IsRecord u.first (foundIn u.first).setting
+  is-record-so : is_taken first-of.answer ≡ true → settings.IsRecord u.first (found_in u.first).setting
   is-record-so t =
-      subst (settings.Parses u.first) (change-joins 0 u.area u.first (changed-taken noneInUse u.area u.first t)).new (every-record u.first)
+      subst (settings.Parses u.first) (change-joins 0 u.area u.first (changed-taken none_in_use u.area u.first t)).new (every-record u.first)
 
   passed-so : is_taken first-of.answer ≡ true → Passed u
   passed-so t =
-      let j = change-joins 0 u.area u.first (changed-taken noneInUse u.area u.first t) in
+      let j = change-joins 0 u.area u.first (changed-taken none_in_use u.area u.first t) in
       record {
         whole = j.whole;
-        is-record = ((foundIn u.first).setting, is-record-so t);
+        is-record = ((found_in u.first).setting, is-record-so t);
       }
 
   -- the number of a start whose record is refused
@@ -182,11 +182,11 @@ module _ (u : Setup) where
   unfolding walked
   refused-so t =
       either (eqb (length u.area) area_bytes) (λ q. whole-so (eqb-true (length u.area) area_bytes q))
-      (λ q. subst⁻¹ (First (checks u)) (change-number noneInUse u.area u.first (other_length 0 u.area u.first (eqb-false (length u.area) area_bytes q) refl))
+      (λ q. subst⁻¹ (First (checks u)) (change-number none_in_use u.area u.first (other-length 0 u.area u.first (eqb-false (length u.area) area_bytes q) refl))
       (fails (eqb-false (length u.area) area_bytes q)))
     where
       Not : Answer → Type 0
-      Not a = settings.Parses u.first (settings.refusedAs a) → ⊥
+      Not a = settings.Parses u.first (settings.refused_as a) → ⊥
 
       -- what the bytes say they say alone
       alone : {x y : Found} → settings.Parses u.first x → settings.Parses u.first y → number_of x.answer ≡ number_of y.answer
@@ -197,29 +197,29 @@ module _ (u : Setup) where
 
       by-say : {f : Found} → length u.area ≡ area_bytes → settings.Parses u.first f → {bs : List ℕ} → bs ≡ u.first → settings.Parses bs f → is_taken f.answer ≡ false
           → First (checks u) (number_of f.answer)
-      by-say w a e (settings.cutLength h) z = holds w (fails (λ (n : Not CutShort). n a))
-      by-say w a e (settings.cutRecord l) z = holds w (fails (λ (n : Not CutShort). n a))
-      by-say w a e (settings.lengthZero x) z = holds w (holds (other a CutShort (λ q. omega (arith, q))) (fails (λ (n : Not LeftOver). n a)))
-      by-say w a e (settings.wrongLength body r x k bad) z = holds w (holds (other a CutShort (λ q. omega (arith, q))) (fails (λ (n : Not LeftOver). n a)))
-      by-say w a e (settings.otherVersion body r x n₁ n₂) z =
+      by-say w a e (settings.cut_length h) z = holds w (fails (λ (n : Not CutShort). n a))
+      by-say w a e (settings.cut_record l) z = holds w (fails (λ (n : Not CutShort). n a))
+      by-say w a e (settings.length_zero x) z = holds w (holds (other a CutShort (λ q. omega (arith, q))) (fails (λ (n : Not LeftOver). n a)))
+      by-say w a e (settings.wrong_length body r x k bad) z = holds w (holds (other a CutShort (λ q. omega (arith, q))) (fails (λ (n : Not LeftOver). n a)))
+      by-say w a e (settings.other_version body r x n₁ n₂) z =
           holds w (holds (other a CutShort (λ q. omega (arith, q))) (holds (other a LeftOver (λ q. omega (arith, q))) (fails (λ (n : Not UnknownVersion). n a))))
-      by-say w a e (settings.badNumber r x b bad) z =
+      by-say w a e (settings.bad_number r x b bad) z =
           holds w (holds (other a CutShort (λ q. omega (arith, q))) (holds (other a LeftOver (λ q. omega (arith, q))) (holds (other a UnknownVersion (λ q. omega (arith, q)))
           (fails (λ (n : Not OutOfRange). n a)))))
       by-say w a e (settings.valid r x b l) z = absurd (true≢false z)
 
-      none : (a : Answer) → is_taken a ≡ false → is_taken (foundIn u.first).answer ≡ true → settings.Parses u.first (settings.refusedAs a) → ⊥
+      none : (a : Answer) → is_taken a ≡ false → is_taken (found_in u.first).answer ≡ true → settings.Parses u.first (settings.refused_as a) → ⊥
       none a e g x = true≢false (sym g ∙ ap (λ (f : Found). is_taken f.answer) (read-meaning u.first _ x) ∙ e)
 
       whole-so : length u.area ≡ area_bytes → First (checks u) (number_of first-of.answer)
       whole-so w =
-          let f = foundIn u.first in
+          let f = found_in u.first in
           let says = every-record u.first in
           either (is_taken f.answer)
           (λ g. let fits = found-fits u.first in
           either (ltb f.size (length u.first))
           (λ q. subst⁻¹ (First (checks u))
-          (change-number noneInUse u.area u.first (left_over 0 u.area u.first w refl refl refl refl refl (ap not g) (ltb-true f.size (length u.first) q) refl))
+          (change-number none_in_use u.area u.first (left-over 0 u.area u.first w refl refl refl refl refl (ap not g) (ltb-true f.size (length u.first) q) refl))
           (holds w (holds (none CutShort refl g) (holds (none LeftOver refl g) (holds (none UnknownVersion refl g) (holds (none OutOfRange refl g)
           (fails (λ (x : (s : Setting) × settings.IsRecord u.first s).
           omega (arith, ltb-true f.size (length u.first) q, ap (λ (y : Found). y.size) (read-meaning u.first _ x.1))))))))))
@@ -227,7 +227,7 @@ module _ (u : Setup) where
           (fits.shape g ∙ ap (settings.found f.setting) (let e : f.size ≡ length u.first = omega (arith, ltb-false f.size (length u.first) q, fits.most g) in e))
           (omega (arith, content-small says g, ltb-false f.size (length u.first) q))) ∙ t))))
           (λ g. subst⁻¹ (First (checks u))
-          (change-number noneInUse u.area u.first (new-fault 0 u.area u.first w refl refl refl refl refl (ap not g) refl))
+          (change-number none_in_use u.area u.first (new-fault 0 u.area u.first w refl refl refl refl refl (ap not g) refl))
           (by-say w says refl says g))
 
 module _ (u : Setup) (bytes : Bytes u.orchestra) where
@@ -240,9 +240,9 @@ module _ (u : Setup) (bytes : Bytes u.orchestra) where
   taken_is = go (every-verdict os bytes)
     where
       go : {o : OrchestraRead} → orchestra.Verdict os o → is_taken o.answer ≡ true → o.answer ≡ Taken
-      go (orchestra.tooLong lt) t = cc
-      go (orchestra.noTokens le e) t = cc
-      go (orchestra.tooLarge ts le e m) t = cc
+      go (orchestra.too_long lt) t = cc
+      go (orchestra.no_tokens le e) t = cc
+      go (orchestra.too_large ts le e m) t = cc
       go (orchestra.outside ts s f) t = cc
       go (orchestra.misnamed ts is s d n) t = cc
       go (orchestra.misrated ts is s d n r) t = cc
@@ -261,16 +261,16 @@ module _ (u : Setup) (bytes : Bytes u.orchestra) where
       program-stands : StandsFor tree_of.0 (load_of os).program
       program-stands = (loaded os tree_of.0 tree_of.1).stands
 
-      taken-first : hasChosen (load_of os).program u.chosen ≡ true → First (checks u) (number_of (load_of os).answer)
+      taken-first : has_chosen (load_of os).program u.chosen ≡ true → First (checks u) (number_of (load_of os).answer)
       taken-first c =
           rw (taken_is t)
           (there-so u law tree_of.0 tree_of.1 (there-chosen tree_of.0 (load_of os).program program-stands u.chosen c))
 
-      absent-first : hasChosen (load_of os).program u.chosen ≡ false → First (checks u) 4
+      absent-first : has_chosen (load_of os).program u.chosen ≡ false → First (checks u) 4
       absent-first c =
           absent-so u law tree_of.0 tree_of.1 (λ s. true≢false (sym (chosen-there tree_of.0 (load_of os).program program-stands u.chosen s) ∙ c))
 
-  number_is : (a t c : Bool) → is_taken (first-of u).answer ≡ a → is_taken (load_of os).answer ≡ t → hasChosen (load_of os).program u.chosen ≡ c
+  number_is : (a t c : Bool) → is_taken (first-of u).answer ≡ a → is_taken (load_of os).answer ≡ t → has_chosen (load_of os).program u.chosen ≡ c
       → First (checks u) (number_of (out u a t c).answer)
   unfolding out start_of
   number_is true true true l q r = taken-first (passed-so u l) q r
@@ -278,40 +278,40 @@ module _ (u : Setup) (bytes : Bytes u.orchestra) where
   number_is true false c l q r = refused-first (passed-so u l) q
   number_is false t c l q r = refused-so u l
 
-  number : First (checks u) (number_of (freshBy u).answer)
-  unfolding fresh_of startingOf out
-  number = number_is (is_taken (first-of u).answer) (is_taken (load_of os).answer) (hasChosen (load_of os).program u.chosen) refl refl refl
+  number : First (checks u) (number_of (fresh_by u).answer)
+  unfolding fresh_of starting_of out
+  number = number_is (is_taken (first-of u).answer) (is_taken (load_of os).answer) (has_chosen (load_of os).program u.chosen) refl refl refl
 
-  begun-holds : playerStateOf (panelAt (start_of (load_of os).program (first-of u).settings u.chosen false (load_of os).answer)) ≡ plainStart (startingTempo (first-of u).settings) []
-  unfolding start_of plainStart each noMessages
+  begun-holds : player_state_of (panel_at (start_of (load_of os).program (first-of u).settings u.chosen false (load_of os).answer)) ≡ plain_start (starting_tempo (first-of u).settings) []
+  unfolding start_of plain_start each no_messages
   begun-holds = refl
 
   -- the panel where it is 0
-  begun-is : is_taken (first-of u).answer ≡ true → (load_of os).answer ≡ Taken → hasChosen (load_of os).program u.chosen ≡ true
-      → Begun u (panelAt (start_of (load_of os).program (first-of u).settings u.chosen false (load_of os).answer))
+  begun-is : is_taken (first-of u).answer ≡ true → (load_of os).answer ≡ Taken → has_chosen (load_of os).program u.chosen ≡ true
+      → Begun u (panel_at (start_of (load_of os).program (first-of u).settings u.chosen false (load_of os).answer))
   unfolding start_of
   begun-is l e c =
       let x = taken-only os bytes e in
       let r = (loaded os x.0 x.1).stands in
-      let k : (first-of u).settings ≡ firstInUse u = change-sets noneInUse u.area u.first l in
+      let k : (first-of u).settings ≡ first_in_use u = change-sets none_in_use u.area u.first l in
       record {
         tree = x.0;
         accepted = x.1;
         stands = r;
         there = there-chosen x.0 (load_of os).program r u.chosen c;
-        setting = (foundIn u.first).setting;
+        setting = (found_in u.first).setting;
         first = is-record-so u l;
         set = k;
         choice = refl;
-        holds = begun-holds ∙ ap (λ (y : InUse). plainStart (startingTempo y) []) k;
+        holds = begun-holds ∙ ap (λ (y : InUse). plain_start (starting_tempo y) []) k;
         reached = refl;
       }
 
   Kinds : Start → Type 0
-  Kinds s = (s.answer ≡ Taken → Begun u (panelAt s)) × ((s.answer ≡ Taken → ⊥) → displayOf (panelAt s).core ≡ nothing)
+  Kinds s = (s.answer ≡ Taken → Begun u (panel_at s)) × ((s.answer ≡ Taken → ⊥) → display_of (panel_at s).core ≡ nothing)
 
-  kinds-is : (a t c : Bool) → is_taken (first-of u).answer ≡ a → is_taken (load_of os).answer ≡ t → hasChosen (load_of os).program u.chosen ≡ c → Kinds (out u a t c)
-  unfolding out Kinds start_of noMessages
+  kinds-is : (a t c : Bool) → is_taken (first-of u).answer ≡ a → is_taken (load_of os).answer ≡ t → has_chosen (load_of os).program u.chosen ≡ c → Kinds (out u a t c)
+  unfolding out Kinds start_of no_messages
   kinds-is true true true l e r = ((λ q. begun-is l q r), λ n. absurd (n (taken_is e)))
   kinds-is true true false l e r = ((λ q. absurd (true≢false (sym (ap is_taken q)))), λ n. refl)
   kinds-is true false c l e r = ((λ q. absurd (true≢false (sym (ap is_taken q) ∙ e))), λ n. refl)
@@ -324,25 +324,25 @@ module _ (u : Setup) (bytes : Bytes u.orchestra) where
   start-taken-is true false c l e q = absurd (true≢false (sym q ∙ e))
   start-taken-is false t c l e q = absurd (true≢false (sym q ∙ l))
 
-  start-taken : is_taken (startingOf u.orchestra u.area u.first u.chosen).answer ≡ true → (startingOf u.orchestra u.area u.first u.chosen).answer ≡ Taken
-  unfolding startingOf out
-  start-taken = start-taken-is (is_taken (first-of u).answer) (is_taken (load_of os).answer) (hasChosen (load_of os).program u.chosen) refl refl
+  start-taken : is_taken (starting_of u.orchestra u.area u.first u.chosen).answer ≡ true → (starting_of u.orchestra u.area u.first u.chosen).answer ≡ Taken
+  unfolding starting_of out
+  start-taken = start-taken-is (is_taken (first-of u).answer) (is_taken (load_of os).answer) (has_chosen (load_of os).program u.chosen) refl refl
 
-  kinds : Kinds (startingOf u.orchestra u.area u.first u.chosen)
-  unfolding startingOf out
-  kinds = kinds-is (is_taken (first-of u).answer) (is_taken (load_of os).answer) (hasChosen (load_of os).program u.chosen) refl refl refl
+  kinds : Kinds (starting_of u.orchestra u.area u.first u.chosen)
+  unfolding starting_of out
+  kinds = kinds-is (is_taken (first-of u).answer) (is_taken (load_of os).answer) (has_chosen (load_of os).program u.chosen) refl refl refl
 
 -- a start has ended, or its settings are those of the first record, which is valid
 pub data Kind (u : Setup) (s : Start) : Type 0 where
   no_start : s.state.playing.ended ≡ true → Kind u s
-  starts : s.settings ≡ firstInUse u → Valid (firstInUse u).last → Kind u s
+  starts : s.settings ≡ first_in_use u → Valid (first_in_use u).last → Kind u s
 
-pub start-kind : (u : Setup) → Kind u (startingOf u.orchestra u.area u.first u.chosen)
-unfolding startingOf out start_of
-start-kind u = go (is_taken (first-of u).answer) (is_taken (load_of u.orchestra).answer) (hasChosen (load_of u.orchestra).program u.chosen) refl
+pub start-kind : (u : Setup) → Kind u (starting_of u.orchestra u.area u.first u.chosen)
+unfolding starting_of out start_of
+start-kind u = go (is_taken (first-of u).answer) (is_taken (load_of u.orchestra).answer) (has_chosen (load_of u.orchestra).program u.chosen) refl
   where
     go : (a t c : Bool) → is_taken (first-of u).answer ≡ a → Kind u (out u a t c)
-    go true true true l = starts (change-sets noneInUse u.area u.first l) (change-valid noneInUse u.area u.first l)
+    go true true true l = starts (change-sets none_in_use u.area u.first l) (change-valid none_in_use u.area u.first l)
     go true true false l = no_start refl
     go true false c l = no_start refl
     go false t c l = no_start refl
@@ -350,20 +350,20 @@ start-kind u = go (is_taken (first-of u).answer) (is_taken (load_of u.orchestra)
 -- the lent area
 module _ (u : Setup) where
   abbrev start : Start
-  start = startingOf u.orchestra u.area u.first u.chosen
+  start = starting_of u.orchestra u.area u.first u.chosen
 
   first-first : start.answer ≡ Taken → is_taken (first-of u).answer ≡ true
-  unfolding startingOf start_of
+  unfolding starting_of start_of
   first-first e =
       by-test (is_taken (first-of u).answer) (λ t. t)
       (λ t. absurd (true≢false (sym (ap is_taken e) ∙ ap (λ (s : Start). is_taken s.answer) (cond-false _ _ t) ∙ t)))
 
-  area-written : start.answer ≡ Taken → areaBy u ≡ laidAt 0 u.first u.area
-  unfolding areaStarted walked
-  area-written e = cond-true _ _ (ap is_taken e) ∙ laid-there noneInUse u.area u.first (first-first e)
+  area-written : start.answer ≡ Taken → area_by u ≡ laid_at 0 u.first u.area
+  unfolding area_started walked
+  area-written e = cond-true _ _ (ap is_taken e) ∙ laid-there none_in_use u.area u.first (first-first e)
 
-  area-unwritten : Bytes u.orchestra → (start.answer ≡ Taken → ⊥) → areaBy u ≡ u.area
-  unfolding areaStarted
+  area-unwritten : Bytes u.orchestra → (start.answer ≡ Taken → ⊥) → area_by u ≡ u.area
+  unfolding area_started
   area-unwritten bytes n = by-test (is_taken start.answer) (λ t. absurd (n (start-taken u bytes t))) (λ t. cond-false _ _ t)
 
 pub fresh-verdict : FreshVerdict
@@ -374,7 +374,7 @@ fresh-verdict u bytes =
       only = λ n f. first_one (number u bytes) f;
       begun = (kinds u bytes).0;
       written = λ t. area-written u t;
-      noPanel = λ n cs. all-ended cs 0 none_yet (freshBy u).panel (ap (λ (d : Display). d.ended) ((kinds u bytes).1 n));
+      no_panel = λ n cs. all-ended cs 0 none_yet (fresh_by u).panel (ap (λ (d : Display). d.ended) ((kinds u bytes).1 n));
       shown = (kinds u bytes).1;
       unwritten = λ n. area-unwritten u bytes n;
     }

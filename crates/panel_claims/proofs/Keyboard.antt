@@ -16,68 +16,68 @@ use Rattle.midi_messages.specs.inside.Reading.{call_of}
 use Rattle.midi_messages.specs.declared.NoteMessage.{NoteMessage}
 use Rattle.midi_messages.proofs.Meaning.{one-parse}
 use Rattle.midi_messages.proofs.Faults.{Kind, is_whole, is_cut, is-not-carried, every-kind}
-use Rattle.player_model.specs.Calls.{keyboard, one, noBuffers, After}
+use Rattle.player_model.specs.Calls.{keyboard, one, no_buffers, After}
 use Rattle.player_model.proofs.Loops.{length_over}
-use Rattle.midi_queue.specs.Keyboard.{mostMessages, messagesIn, behind, enqueuedIn}
+use Rattle.midi_queue.specs.Keyboard.{most_messages, messages_in, behind, enqueued_in}
 use Rattle.midi_queue.specs.declared.MessageQueue.{MessageQueue}
 use Rattle.midi_queue.specs.declared.QueueResult.{QueueResult}
-use Rattle.player_calls.specs.OnState as onState
-use Rattle.player_calls.specs.OnState.{keyboardCallOf}
+use Rattle.player_calls.specs.OnState as on_state
+use Rattle.player_calls.specs.OnState.{keyboard_call_of}
 use Rattle.player_calls.specs.declared.CallResult.{CallResult}
-use Rattle.panel.specs.State.{withState, withMessages}
-use Rattle.panel.specs.Calls.{playKeysOf}
+use Rattle.panel.specs.State.{with_state, with_messages}
+use Rattle.panel.specs.Calls.{play_keys_of}
 use Rattle.panel.specs.declared.Panel.{Panel}
-use Rattle.panel_claims.specs.Claims.{coreAfter, after_of, TakesKeys, TakenKeys}
+use Rattle.panel_claims.specs.Claims.{core_after, after_of, TakesKeys, TakenKeys}
 
 -- ---- note messages behind those that wait
 
-pub waits-behind : (w : MessageQueue) (ms : List NoteMessage) → messagesIn (behind w ms) ≡ messagesIn w ++ ms
+pub waits-behind : (w : MessageQueue) (ms : List NoteMessage) → messages_in (behind w ms) ≡ messages_in w ++ ms
 unfolding behind
-waits-behind w ms = take-append_seam (messagesIn w ++ ms) (drop (length (messagesIn w ++ ms)) w.list)
+waits-behind w ms = take-append_seam (messages_in w ++ ms) (drop (length (messages_in w ++ ms)) w.list)
 
-pub count-behind : (w : MessageQueue) (ms : List NoteMessage) → (behind w ms).count ≡ length (messagesIn (behind w ms))
+pub count-behind : (w : MessageQueue) (ms : List NoteMessage) → (behind w ms).count ≡ length (messages_in (behind w ms))
 unfolding behind
-count-behind w ms = sym (ap length (take-append_seam (messagesIn w ++ ms) (drop (length (messagesIn w ++ ms)) w.list)))
+count-behind w ms = sym (ap length (take-append_seam (messages_in w ++ ms) (drop (length (messages_in w ++ ms)) w.list)))
 
-pub length-behind : (w : MessageQueue) (ms : List NoteMessage) → length w.list ≡ 64 → length (messagesIn w) + length ms ≤ 64 → length (behind w ms).list ≡ 64
+pub length-behind : (w : MessageQueue) (ms : List NoteMessage) → length w.list ≡ 64 → length (messages_in w) + length ms ≤ 64 → length (behind w ms).list ≡ 64
 unfolding behind
-length-behind w ms long h = length_over (messagesIn w ++ ms) w.list (omega (arith, length-append (messagesIn w) ms)) ∙ long
+length-behind w ms long h = length_over (messages_in w ++ ms) w.list (omega (arith, length-append (messages_in w) ms)) ∙ long
 
 -- ---- what the call leaves
 
 pub data Presses (p : Panel) (bytes : List ℕ) (a : After Panel) : Type 0 where
-  keys-over : p.core.state.playing.ended ≡ true → a ≡ record { player = p; answers = one 9 0; buffers = noBuffers } → Presses p bytes a
+  keys-over : p.core.state.playing.ended ≡ true → a ≡ record { player = p; answers = one 9 0; buffers = no_buffers } → Presses p bytes a
   keys-faulty : (f : Answer) → p.core.state.playing.ended ≡ false → call_of bytes ≡ fault f → eqb (number_of f) 0 ≡ false
-      → a ≡ record { player = p; answers = one (number_of f) 0; buffers = noBuffers } → Presses p bytes a
-  keys-full : (ms : List NoteMessage) → p.core.state.playing.ended ≡ false → call_of bytes ≡ whole ms → mostMessages < length (messagesIn p.core.state.messages) + length ms
-      → a ≡ record { player = p; answers = one 8 0; buffers = noBuffers } → Presses p bytes a
-  keys-taken : (ms : List NoteMessage) → p.core.state.playing.ended ≡ false → call_of bytes ≡ whole ms → length (messagesIn p.core.state.messages) + length ms ≤ mostMessages
-      → a ≡ record { player = withMessages p (behind p.core.state.messages ms); answers = one 0 0; buffers = noBuffers } → Presses p bytes a
+      → a ≡ record { player = p; answers = one (number_of f) 0; buffers = no_buffers } → Presses p bytes a
+  keys-full : (ms : List NoteMessage) → p.core.state.playing.ended ≡ false → call_of bytes ≡ whole ms → most_messages < length (messages_in p.core.state.messages) + length ms
+      → a ≡ record { player = p; answers = one 8 0; buffers = no_buffers } → Presses p bytes a
+  keys-taken : (ms : List NoteMessage) → p.core.state.playing.ended ≡ false → call_of bytes ≡ whole ms → length (messages_in p.core.state.messages) + length ms ≤ most_messages
+      → a ≡ record { player = with_messages p (behind p.core.state.messages ms); answers = one 0 0; buffers = no_buffers } → Presses p bytes a
 
 pub presses : (p : Panel) (bytes : List ℕ) → Presses p bytes (after_of p (keyboard bytes))
-unfolding after_of coreAfter playKeysOf keyboardCallOf enqueuedIn withMessages
+unfolding after_of core_after play_keys_of keyboard_call_of enqueued_in with_messages
 presses p bytes = by_end p.core.state.playing.ended refl
   where
     w : MessageQueue
     w = p.core.state.messages
 
     out : Bool → QueueResult → CallResult
-    out e r = cond e (record { state = p.core.state; answer = answer.Ended }) (record { state = onState.withMessages p.core.state r.messages; answer = r.answer })
+    out e r = cond e (record { state = p.core.state; answer = answer.Ended }) (record { state = on_state.with_messages p.core.state r.messages; answer = r.answer })
 
     left : Bool → QueueResult → After Panel
-    left e r = record { player = withState p (out e r).state; answers = one (number_of (out e r).answer) 0; buffers = noBuffers }
+    left e r = record { player = with_state p (out e r).state; answers = one (number_of (out e r).answer) 0; buffers = no_buffers }
 
-    by-room : (ms : List NoteMessage) → p.core.state.playing.ended ≡ false → call_of bytes ≡ whole ms → (b : Bool) → leb (length (messagesIn w) + length ms) mostMessages ≡ b
+    by-room : (ms : List NoteMessage) → p.core.state.playing.ended ≡ false → call_of bytes ≡ whole ms → (b : Bool) → leb (length (messages_in w) + length ms) most_messages ≡ b
         → Presses p bytes (left false (cond b (record { messages = behind w ms; answer = answer.Taken }) (record { messages = w; answer = answer.NoRoom })))
-    by-room ms e q true l = keys-taken ms e q (leb-true (length (messagesIn w) + length ms) mostMessages l) refl
-    by-room ms e q false l = keys-full ms e q (leb-false (length (messagesIn w) + length ms) mostMessages l) refl
+    by-room ms e q true l = keys-taken ms e q (leb-true (length (messages_in w) + length ms) most_messages l) refl
+    by-room ms e q false l = keys-full ms e q (leb-false (length (messages_in w) + length ms) most_messages l) refl
 
-    by_call : p.core.state.playing.ended ≡ false → {c : Call} → call_of bytes ≡ c → Kind c → Presses p bytes (left false (enqueuedIn w c))
-    by_call e q (is_whole ms) = by-room ms e q (leb (length (messagesIn w) + length ms) mostMessages) refl
+    by_call : p.core.state.playing.ended ≡ false → {c : Call} → call_of bytes ≡ c → Kind c → Presses p bytes (left false (enqueued_in w c))
+    by_call e q (is_whole ms) = by-room ms e q (leb (length (messages_in w) + length ms) most_messages) refl
     by_call e q is_cut = keys-faulty answer.CutShort e q refl refl
     by_call e q is-not-carried = keys-faulty answer.NotCarried e q refl refl
 
-    by_end : (b : Bool) → p.core.state.playing.ended ≡ b → Presses p bytes (left b (enqueuedIn w (call_of bytes)))
+    by_end : (b : Bool) → p.core.state.playing.ended ≡ b → Presses p bytes (left b (enqueued_in w (call_of bytes)))
     by_end true e = keys-over e refl
     by_end false e = by_call e refl (every-kind bytes)
 

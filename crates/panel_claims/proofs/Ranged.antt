@@ -13,29 +13,29 @@ use Rattle.base_answer.specs.declared.Answer.{Answer}
 use Rattle.base_answer.specs.declared.Answer.TheVariants as answer
 use Rattle.base_bitstream.specs.Bits.{bits_of}
 use Rattle.base_bitstream.specs.Filling.{filled}
-use Rattle.base_bitstream.specs.Fields.{readAt}
+use Rattle.base_bitstream.specs.Fields.{read_at}
 use Rattle.base_bitstream.specs.declared.FieldRead.{FieldRead}
 use Rattle.base_bitstream.specs.declared.FieldRead.TheVariants as gives
-use Rattle.base_timebase.specs.Time.{cycleIn, tempoBits}
+use Rattle.base_timebase.specs.Time.{cycle_in, tempo_bits}
 use Rattle.base_timebase.proofs.RangesAndTicks.{tempo-from-to, cycle-from-to}
-use Rattle.base_formats.specs.Format.{Source, bitSource, keypadSource, Read, got, refused, and_then, numberFrom}
+use Rattle.base_formats.specs.Format.{Source, bit_source, keypad_source, Read, got, refused, and_then, number_from}
 use Rattle.base_formats.specs.Format as format
 use Rattle.base_formats.specs.Description.{Description, flag, pair, choose, format as format_of}
 use Rattle.base_formats.specs.declared.Fault.{Fault}
-use Rattle.score_line.specs.LineFormat.{in_range, symbol, labelled, float, when, Kind, instr, control, end, tempo, kind, Body, body, Values, values, Parts, afterTime, parts, eventOf, line}
-use Rattle.score_line.specs.inside.Reading.{floatFrom}
-use Rattle.score_line.specs.Reading.{line_of, lineFrom, refusedLine, lineRead, line_at, wholeRun, lineInWords, keypadLine}
+use Rattle.score_line.specs.LineFormat.{in_range, symbol, labelled, float, when, Kind, instr, control, end, tempo, kind, Body, body, Values, values, Parts, after_time, parts, event_of, line}
+use Rattle.score_line.specs.inside.Reading.{float_from}
+use Rattle.score_line.specs.Reading.{line_of, line_from, refused_line, line_read, line_at, whole_run, line_in_words, keypad_line}
 use Rattle.score_line.specs.declared.Range.TheVariants as range
 use Rattle.score_line.specs.declared.When.{When}
 use Rattle.score_line.specs.declared.Event.{Event}
 use Rattle.score_line.specs.declared.Event.TheVariants.{Instr, Control, End, Tempo}
 use Rattle.score_line.specs.declared.Line.{Line}
 use Rattle.score_line.specs.declared.LineRead.{LineRead}
-use Rattle.score_reader.specs.Score.{Lines, all, faulty, before, lineThen, lines_from, Score, ended, counted, scoreOf, wholeLine, opened, unit_of}
-use Rattle.text_format.specs.Content.{Content, words_of, lineContent, judgedFrom, judgement}
+use Rattle.score_reader.specs.Score.{Lines, all, faulty, before, line_then, lines_from, Score, ended, counted, score_of, whole_line, opened, unit_of}
+use Rattle.text_format.specs.Content.{Content, words_of, line_content, judged_from, judgement}
 use Rattle.text_format.specs.inside.Reading.{Text, lines, bad, judged, text_of}
 use Rattle.text_format.specs.inside.Reading as text-form
-use Rattle.orchestra_semantics.specs.Meaning.{noSymbol}
+use Rattle.orchestra_semantics.specs.Meaning.{no_symbol}
 use Rattle.player_model.specs.Lists.{All}
 use Rattle.player_model.specs.Calls.{Entrance, stick, unit, keypad, text, reads, single}
 use Rattle.player_model.proofs.Lists.{either_way}
@@ -43,9 +43,9 @@ use Rattle.player_model.proofs.Count.{steady}
 
 abbrev pub ranged : Event → Type 0
 ranged (Instr label name d) = Unit {0}
-ranged (Control label x y) = x < noSymbol
+ranged (Control label x y) = x < no_symbol
 ranged End = Unit {0}
-ranged (Tempo t) = 1024 ≤ cycleIn t
+ranged (Tempo t) = 1024 ≤ cycle_in t
 
 abbrev pub AllRanged : List Line → Type 0
 AllRanged ls = All (λ (l : Line). ranged l.event) ls
@@ -96,34 +96,34 @@ module _ (s : Source) where
   unfolding ReadHolds
   second_holds Q d e at h = any-holds _ ((format_of d).from s at) _ (λ k p. then-holds (Q k) _ ((format_of (e k)).from s p) _ (h k p) (λ b q r. r))
 
-  tempo-float : (at : ℕ) → ReadHolds (λ (t : Float). 1024 ≤ cycleIn t) (floatFrom s range.Tempo at)
+  tempo-float : (at : ℕ) → ReadHolds (λ (t : Float). 1024 ≤ cycle_in t) (float_from s range.Tempo at)
   unfolding float in_range
-  tempo-float at = any-holds _ (numberFrom s 32 at) _
-      (λ b p. tested-holds _ _ _ _ (tempoBits b) (λ h. let t = tempo-from-to b h in (cycle-from-to (of_bits binary32 b) t.0 t.1).0))
+  tempo-float at = any-holds _ (number_from s 32 at) _
+      (λ b p. tested-holds _ _ _ _ (tempo_bits b) (λ h. let t = tempo-from-to b h in (cycle-from-to (of_bits binary32 b) t.0 t.1).0))
 
-  symbol-below : (at : ℕ) → ReadHolds (λ (x : ℕ). x < noSymbol) ((format_of symbol).from s at)
+  symbol-below : (at : ℕ) → ReadHolds (λ (x : ℕ). x < no_symbol) ((format_of symbol).from s at)
   unfolding format.small
-  symbol-below at = any-holds _ (numberFrom s 16 at) _ (λ v p. tested-holds _ _ _ _ (leb v 65535) (λ h. omega (arith, leb-true v 65535 h)))
+  symbol-below at = any-holds _ (number_from s 16 at) _ (λ v p. tested-holds _ _ _ _ (leb v 65535) (λ h. omega (arith, leb-true v 65535 h)))
 
   -- an event's kind and fields
   abbrev RangedBody : (k : Kind) → Body k → Type 0
-  RangedBody k x = ranged (eventOf k x)
+  RangedBody k x = ranged (event_of k x)
 
   body-ranged : (k : Kind) (at : ℕ) → ReadHolds (RangedBody k) ((format_of (body k)).from s at)
   unfolding body labelled
   body-ranged instr at = every_holds (RangedBody instr) _ (λ x. tt)
   body-ranged control at =
       any-holds (RangedBody control) ((format.flag).from s at) _ (λ has p. either_way (ReadHolds (RangedBody control)) has
-      (second_holds (λ (l : ℕ) (x : ℕ × Float). x.0 < noSymbol) symbol (λ l. pair symbol (float range.Value)) p
-      (λ l q. first_holds (λ (x : ℕ). x < noSymbol) symbol (λ x. float range.Value) q (symbol-below q))) (unfold ReadHolds in tt))
+      (second_holds (λ (l : ℕ) (x : ℕ × Float). x.0 < no_symbol) symbol (λ l. pair symbol (float range.Value)) p
+      (λ l q. first_holds (λ (x : ℕ). x < no_symbol) symbol (λ x. float range.Value) q (symbol-below q))) (unfold ReadHolds in tt))
   body-ranged end at = every_holds (RangedBody end) _ (λ x. tt)
   body-ranged tempo at = tempo-float at
 
-  line-ranged : (at : ℕ) → ReadHolds (λ (l : Line). ranged l.event) (lineFrom s at)
-  unfolding line parts afterTime ReadHolds
+  line-ranged : (at : ℕ) → ReadHolds (λ (l : Line). ranged l.event) (line_from s at)
+  unfolding line parts after_time ReadHolds
   line-ranged at =
       then-holds (λ (x : Parts). RangedBody x.1.1.0 x.1.1.1.0) (λ (l : Line). ranged l.event) ((format_of parts).from s at) _
-      (second_holds (λ (w : When) (y : Bool × ((k : Kind) × (Body k × Values k))). RangedBody y.1.0 y.1.1.0) when (λ w. afterTime) at (λ w p.
+      (second_holds (λ (w : When) (y : Bool × ((k : Kind) × (Body k × Values k))). RangedBody y.1.0 y.1.1.0) when (λ w. after_time) at (λ w p.
       second_holds (λ (b : Bool) (z : (k : Kind) × (Body k × Values k)). RangedBody z.0 z.1.0) flag (λ b. choose kind (λ k. pair (body k) (values k))) p (λ b q.
       second_holds (λ (k : Kind) (y : Body k × Values k). RangedBody k y.0) kind (λ k. pair (body k) (values k)) q (λ k r.
       first_holds (RangedBody k) (body k) (λ y. values k) r (body-ranged k r)))))
@@ -134,34 +134,34 @@ module _ (s : Source) where
 abbrev RangedRead : LineRead → Type 0
 RangedRead r = ranged r.line.event
 
-read-ranged : (r : Read Line) → ReadHolds (λ (l : Line). ranged l.event) r → RangedRead (lineRead r)
-unfolding ReadHolds lineRead refusedLine line_of
+read-ranged : (r : Read Line) → ReadHolds (λ (l : Line). ranged l.event) r → RangedRead (line_read r)
+unfolding ReadHolds line_read refused_line line_of
 read-ranged (got l p) h = h
 read-ranged (refused f) h = tt
 
-refused-ranged : (a : Answer) → RangedRead (refusedLine a)
-unfolding refusedLine line_of
+refused-ranged : (a : Answer) → RangedRead (refused_line a)
+unfolding refused_line line_of
 refused-ranged a = tt
 
 -- a line with nothing behind it
-alone-ranged : (a b : Bool) (r : LineRead) → RangedRead r → RangedRead (cond a (cond b r (refusedLine answer.LeftOver)) r)
+alone-ranged : (a b : Bool) (r : LineRead) → RangedRead r → RangedRead (cond a (cond b r (refused_line answer.LeftOver)) r)
 alone-ranged a b r h = either_way RangedRead a (either_way RangedRead b h (refused-ranged _)) h
 
-keypad-ranged : (words : List ℕ) → RangedRead (keypadLine words)
-unfolding keypadLine wholeRun lineInWords
+keypad-ranged : (words : List ℕ) → RangedRead (keypad_line words)
+unfolding keypad_line whole_run line_in_words
 keypad-ranged words =
-    let r = lineRead (lineFrom (keypadSource words) 0) in
-    alone-ranged (is_taken r.answer) (eqb r.next (length words)) r (read-ranged (lineFrom (keypadSource words) 0) (line-ranged (keypadSource words) 0))
+    let r = line_read (line_from (keypad_source words) 0) in
+    alone-ranged (is_taken r.answer) (eqb r.next (length words)) r (read-ranged (line_from (keypad_source words) 0) (line-ranged (keypad_source words) 0))
 
 unit-ranged : (bits : List Bool) → RangedRead (unit_of bits)
-unfolding unit_of opened line_at wholeLine
-unit-ranged bits = go (readAt bits 0 2)
+unfolding unit_of opened line_at whole_line
+unit-ranged bits = go (read_at bits 0 2)
   where
     go : (g : FieldRead) → RangedRead (opened bits g)
     go (gives.Value k p) =
         let r = line_at bits p in
         either_way RangedRead (eqb k 0)
-        (alone-ranged (is_taken r.answer) (filled bits r.next) r (read-ranged (lineFrom (bitSource bits) p) (line-ranged (bitSource bits) p)))
+        (alone-ranged (is_taken r.answer) (filled bits r.next) r (read-ranged (line_from (bit_source bits) p) (line-ranged (bit_source bits) p)))
         (refused-ranged answer.NotCarried)
     go gives.Short = refused-ranged answer.CutShort
 
@@ -174,7 +174,7 @@ unfolding LinesHold
 before-ranged l (all ls p) h k = (h, k)
 before-ranged l (faulty f i) h k = tt
 
-then-ranged : (r : Read Line) (i : ℕ) (k : ℕ → Lines) → ReadHolds (λ (l : Line). ranged l.event) r → ((p : ℕ) → LinesHold (k p)) → LinesHold (lineThen r i k)
+then-ranged : (r : Read Line) (i : ℕ) (k : ℕ → Lines) → ReadHolds (λ (l : Line). ranged l.event) r → ((p : ℕ) → LinesHold (k p)) → LinesHold (line_then r i k)
 unfolding ReadHolds LinesHold
 then-ranged (got l p) i k h f = before-ranged l (k p) h (f p)
 then-ranged (refused g) i k h f = tt
@@ -183,26 +183,26 @@ lines-ranged : (bits : List Bool) (n i at : ℕ) → LinesHold (lines_from bits 
 unfolding lines_from LinesHold
 lines-ranged bits zero i at = tt
 lines-ranged bits (suc n) i at =
-    then-ranged (lineFrom (bitSource bits) at) i (λ p. lines_from bits n (suc i) p) (line-ranged (bitSource bits) at) (λ p. lines-ranged bits n (suc i) p)
+    then-ranged (line_from (bit_source bits) at) i (λ p. lines_from bits n (suc i) p) (line-ranged (bit_source bits) at) (λ p. lines-ranged bits n (suc i) p)
 
 ended-ranged : (bits : List Bool) (r : Lines) → LinesHold r → AllRanged (ended bits r).lines
 unfolding ended LinesHold
 ended-ranged bits (all ls p) h = either_way (λ (s : Score). AllRanged s.lines) (filled bits p) h tt
 ended-ranged bits (faulty f i) h = tt
 
-score-ranged : (bits : List Bool) → AllRanged (scoreOf bits).lines
-unfolding scoreOf counted
-score-ranged bits = go (readAt bits 0 20)
+score-ranged : (bits : List Bool) → AllRanged (score_of bits).lines
+unfolding score_of counted
+score-ranged bits = go (read_at bits 0 20)
   where
     go : (g : FieldRead) → AllRanged (counted bits g).lines
     go (gives.Value n p) = ended-ranged bits (lines_from bits n 0 p) (lines-ranged bits n 0 p)
     go gives.Short = tt
 
-judged-ranged : (i : ℕ) (ss : List Content) → LinesHold (judgedFrom i ss)
-unfolding judgedFrom lineContent LinesHold
+judged-ranged : (i : ℕ) (ss : List Content) → LinesHold (judged_from i ss)
+unfolding judged_from line_content LinesHold
 judged-ranged i [] = tt
 judged-ranged i (s ∷ ss) =
-    then-ranged (lineFrom (keypadSource (words_of s)) 0) i (λ p. judgedFrom (suc i) ss) (line-ranged (keypadSource (words_of s)) 0) (λ p. judged-ranged (suc i) ss)
+    then-ranged (line_from (keypad_source (words_of s)) 0) i (λ p. judged_from (suc i) ss) (line-ranged (keypad_source (words_of s)) 0) (λ p. judged-ranged (suc i) ss)
 
 text-ranged : (bytes : List ℕ) → AllRanged (text_of bytes).lines
 unfolding text_of LinesHold
@@ -213,7 +213,7 @@ text-ranged bytes = go (text-form.lines_from (length bytes) 0 bytes)
     by_lines (faulty f i) h = tt
 
     go : (t : Text) → AllRanged (judged t).lines
-    go (lines ss) = by_lines (judgedFrom 0 ss) (judged-ranged 0 ss)
+    go (lines ss) = by_lines (judged_from 0 ss) (judged-ranged 0 ss)
     go (bad i) = tt
 
 -- ---- at each entrance
@@ -224,5 +224,5 @@ single-ranged r h = either_way AllRanged (is_taken r.answer) (h, tt) tt
 pub reads-ranged : (d : Entrance) (handed : List ℕ) → AllRanged (reads d handed).lines
 reads-ranged stick b = score-ranged (bits_of b)
 reads-ranged unit b = single-ranged (unit_of (bits_of b)) (unit-ranged (bits_of b))
-reads-ranged keypad b = single-ranged (keypadLine b) (keypad-ranged b)
+reads-ranged keypad b = single-ranged (keypad_line b) (keypad-ranged b)
 reads-ranged text b = text-ranged b

@@ -9,19 +9,19 @@ use Rattle.base_answer.specs.Numbers.{is_taken}
 use Rattle.base_answer.specs.declared.Answer as kind
 use Rattle.base_answer.specs.declared.Answer.TheVariants as answer
 use Rattle.base_bitstream.specs.Bits.{bits_of}
-use Rattle.base_bitstream.specs.Fields.{readAt}
+use Rattle.base_bitstream.specs.Fields.{read_at}
 use Rattle.base_bitstream.specs.Filling.{filled}
 use Rattle.base_bitstream.specs.declared.FieldRead.{FieldRead}
 use Rattle.base_bitstream.specs.declared.FieldRead.TheVariants.{Value, Short}
-use Rattle.base_formats.specs.Format.{bitSource, keypadSource, Read, got, refused}
+use Rattle.base_formats.specs.Format.{bit_source, keypad_source, Read, got, refused}
 use Rattle.base_formats.specs.declared.Fault.{Fault}
 use Rattle.base_formats.specs.declared.Fault.TheVariants as fault
-use Rattle.score_line.specs.Reading.{lineFrom, line_at, lineRead, lineInWords, wholeRun, refusedLine, answer_of, keypadLine}
+use Rattle.score_line.specs.Reading.{line_from, line_at, line_read, line_in_words, whole_run, refused_line, answer_of, keypad_line}
 use Rattle.score_line.specs.declared.Line.{Line}
 use Rattle.score_line.specs.declared.LineRead.{LineRead}
-use Rattle.score_reader.specs.Score.{Score, Lines, all, faulty as faulty-lines, lines_from, counted, ended as ended-score, scoreOf, unit_of, opened, wholeLine}
+use Rattle.score_reader.specs.Score.{Score, Lines, all, faulty as faulty-lines, lines_from, counted, ended as ended-score, score_of, unit_of, opened, whole_line}
 use Rattle.text_format.specs.inside.Reading.{Text, lines, bad, lines_from as text-from, judged as judged-text, text_of}
-use Rattle.text_format.specs.Content.{judgedFrom, judgement}
+use Rattle.text_format.specs.Content.{judged_from, judgement}
 use Rattle.player_model.specs.Calls.{Entrance, stick, unit, keypad, text, reads, Answer}
 use Rattle.player_model.proofs.Lists.{either_way}
 
@@ -46,9 +46,9 @@ fault-so fault.NotCarried i = record { readable = read-not-carried; from-0 = λ 
 fault-so fault.OutOfRange i = record { readable = read-out-of-range; from-0 = λ e. cc }
 fault-so fault.TooManyValues i = record { readable = read-too-many; from-0 = λ e. cc }
 
-score-so : (bits : List Bool) → ReadSo (scoreOf bits)
-unfolding scoreOf counted ended-score
-score-so bits = by_count (readAt bits 0 20)
+score-so : (bits : List Bool) → ReadSo (score_of bits)
+unfolding score_of counted ended-score
+score-so bits = by_count (read_at bits 0 20)
   where
     by_lines : (x : Lines) → ReadSo (ended-score bits x)
     by_lines (all ls p) =
@@ -69,36 +69,36 @@ text-so bytes = go (text-from (length bytes) 0 bytes)
     by_lines (faulty-lines f i) = fault-so f i
 
     go : (t : Text) → ReadSo (judged-text t)
-    go (lines ss) = by_lines (judgedFrom 0 ss)
+    go (lines ss) = by_lines (judged_from 0 ss)
     go (bad i) = record { readable = read-bad-text; from-0 = λ e. cc }
 
-line-readable : (x : Read Line) → Readable (lineRead x).answer
-unfolding lineRead refusedLine
+line-readable : (x : Read Line) → Readable (line_read x).answer
+unfolding line_read refused_line
 line-readable (got l p) = read_whole
 line-readable (refused f) = (fault-so f 0).readable
 
-left_or : (a b : Bool) (r : LineRead) → Readable r.answer → Readable (cond a (cond b r (refusedLine answer.LeftOver)) r).answer
-unfolding refusedLine
+left_or : (a b : Bool) (r : LineRead) → Readable r.answer → Readable (cond a (cond b r (refused_line answer.LeftOver)) r).answer
+unfolding refused_line
 left_or a b r h = let P : LineRead → Type 0 = λ (x : LineRead). Readable x.answer in either_way P a (either_way P b h read-left-over) h
 
 unit-readable : (bits : List Bool) → Readable (unit_of bits).answer
-unfolding unit_of opened wholeLine line_at refusedLine
-unit-readable bits = go (readAt bits 0 2)
+unfolding unit_of opened whole_line line_at refused_line
+unit-readable bits = go (read_at bits 0 2)
   where
     go : (x : FieldRead) → Readable (opened bits x).answer
     go (Value k p) =
         let r = line_at bits p in
         either_way (λ (x : LineRead). Readable x.answer) (eqb k 0)
-        (left_or (is_taken r.answer) (filled bits r.next) r (line-readable (lineFrom (bitSource bits) p))) read-not-carried
+        (left_or (is_taken r.answer) (filled bits r.next) r (line-readable (line_from (bit_source bits) p))) read-not-carried
     go Short = read-cut
 
 pub reads_so : (d : Entrance) (handed : List ℕ) → ReadSo (reads d handed)
-unfolding keypadLine wholeRun lineInWords
+unfolding keypad_line whole_run line_in_words
 reads_so stick b = score-so (bits_of b)
 reads_so unit b = record { readable = unit-readable (bits_of b); from-0 = λ e. refl }
 reads_so keypad b =
     record {
-      readable = left_or (is_taken (lineInWords b 0).answer) (eqb (lineInWords b 0).next (length b)) (lineInWords b 0) (line-readable (lineFrom (keypadSource b) 0));
+      readable = left_or (is_taken (line_in_words b 0).answer) (eqb (line_in_words b 0).next (length b)) (line_in_words b 0) (line-readable (line_from (keypad_source b) 0));
       from-0 = λ e. refl;
     }
 reads_so text b = text-so b

@@ -4,18 +4,18 @@ use mathlib.Core.Bool.{Bool, true, false, cond, true≢false}
 use mathlib.Core.List.{List}
 use Prim.Native.Nat.{ℕ}
 use Rattle.score_line.specs.declared.Line.{Line}
-use Rattle.player_model.specs.Calls.{Call, submit, burst, keyboard, cycle as cycle-call, change, undo, one, buffersOf}
+use Rattle.player_model.specs.Calls.{Call, submit, burst, keyboard, cycle as cycle-call, change, undo, one, buffers_of}
 use Rattle.panel.specs.State.{ended_of}
 use Rattle.panel.specs.declared.Panel.{Panel}
-use Rattle.panel_claims.specs.Claims.{after_of, findsEnd, Refused, RefusalsChangeNothing}
+use Rattle.panel_claims.specs.Claims.{after_of, finds_end, Refused, RefusalsChangeNothing}
 use Rattle.panel_claims.proofs.Entrances.{Brings, takes, refuses, brings}
 use Rattle.panel_claims.proofs.Bursts.{Receives, received, unreceived, receives}
 use Rattle.panel_claims.proofs.Keyboard.{Presses, keys-over, keys-faulty, keys-full, keys-taken, presses}
 use Rattle.panel_claims.proofs.Cycles.{Cycles, off, over-before, ends, plays, cycles}
 use Rattle.panel_claims.proofs.Settings.{Sets, set-taken, set-refused, changes, undoes}
 
-refused-so : (p : Panel) (c : Call) {b : Bool} {n l : ℕ} → findsEnd p c ≡ b
-    → after_of p c ≡ record { player = cond b (ended_of p) p; answers = one n l; buffers = buffersOf c } → Refused p c
+refused-so : (p : Panel) (c : Call) {b : Bool} {n l : ℕ} → finds_end p c ≡ b
+    → after_of p c ≡ record { player = cond b (ended_of p) p; answers = one n l; buffers = buffers_of c } → Refused p c
 refused-so p c f x = record { player = cc; buffers = cc }
 
 pub refusals-change-nothing : RefusalsChangeNothing

@@ -8,45 +8,45 @@ use borrow.Author.Tests.{eqb-true}
 use Rattle.base_answer.specs.Numbers.{number_of, is_taken}
 use Rattle.base_answer.specs.declared.Answer.TheVariants.{Ended}
 use Rattle.settings_records.specs.Form.{Valid, Parses}
-use Rattle.settings_records.specs.inside.Reading.{foundIn, recordsIn}
+use Rattle.settings_records.specs.inside.Reading.{found_in, records_in}
 use Rattle.settings_records.specs.Changes as records
 use Rattle.settings_records.specs.declared.InUse.{InUse}
 use Rattle.settings_records.specs.declared.Found.{Found}
 use Rattle.settings_records.specs.declared.Changed.{Changed}
 use Rattle.settings_records.proofs.Changing.{change-joins}
 use Rattle.settings_records.proofs.Meaning.{every-record}
-use Rattle.settings_records.proofs.Areas.{all_valid}
+use Rattle.settings_records.proofs.Areas.{all-valid}
 use Rattle.settings_records.proofs.Stack.{changed-taken, refused-change, refused-undo}
 use Rattle.settings_records.proofs.Sets.{change-sets, change-valid, undo-sets, undo-fewer, undo-valid}
-use Rattle.player_model.specs.Calls.{Call, change, undo, one, onlySettings, buffersOf, After, is_zero}
-use Rattle.player_model.specs.Set.{setBy}
+use Rattle.player_model.specs.Calls.{Call, change, undo, one, only_settings, buffers_of, After, is_zero}
+use Rattle.player_model.specs.Set.{set_by}
 use Rattle.player_model.proofs.Lists.{by-test, cond-true, cond-false}
-use Rattle.panel.specs.State.{withInUse}
-use Rattle.panel.specs.Calls.{changedIn, areaIn, undoneIn, changeOf, areaChanged, undoOf}
+use Rattle.panel.specs.State.{with_in_use}
+use Rattle.panel.specs.Calls.{changed_in, area_in, undone_in, change_of, area_changed, undo_of}
 use Rattle.panel.specs.declared.Panel.{Panel}
-use Rattle.panel_claims.specs.Claims.{coreAfter, after_of, unchanged, settingsSet, TakenSettings}
+use Rattle.panel_claims.specs.Claims.{core_after, after_of, unchanged, settings_set, TakenSettings}
 
-pub laid-there : (k : InUse) (area handed : List ℕ) → is_taken (records.changeOf k area handed).answer ≡ true
-    → records.areaChanged k.count area handed ≡ records.laidAt (recordsIn k.count area).size handed area
-unfolding records.areaChanged
+pub laid-there : (k : InUse) (area handed : List ℕ) → is_taken (records.change_of k area handed).answer ≡ true
+    → records.area_changed k.count area handed ≡ records.laid_at (records_in k.count area).size handed area
+unfolding records.area_changed
 laid-there k area handed t =
     let c = changed-taken k area handed t in
-    cond-true _ _ c ∙ ap (λ (f : Found). records.laidAt f.size handed area) (change-joins k.count area handed c).gives
+    cond-true _ _ c ∙ ap (λ (f : Found). records.laid_at f.size handed area) (change-joins k.count area handed c).gives
 
 -- a change or an undo: taken, or refused
 pub data Sets (p : Panel) (c : Call) (left : List ℕ) (a : After Panel) : Type 0 where
-  set-taken : p.core.state.playing.ended ≡ false → Valid (setBy p.core.settings c).last → a ≡ settingsSet p (setBy p.core.settings c) left → Sets p c left a
+  set-taken : p.core.state.playing.ended ≡ false → Valid (set_by p.core.settings c).last → a ≡ settings_set p (set_by p.core.settings c) left → Sets p c left a
   set-refused : (n : ℕ) → eqb n 0 ≡ false → a ≡ unchanged p c n → Sets p c left a
 
 -- what is left of a panel for a result and an area
 abbrev after : Panel → Changed → List ℕ → After Panel
-after p r area = record { player = withInUse p r.settings; answers = one (number_of r.answer) 0; buffers = onlySettings area }
+after p r area = record { player = with_in_use p r.settings; answers = one (number_of r.answer) 0; buffers = only_settings area }
 
 -- what a call sets that is taken, and the area that it leaves
 record Taking (p : Panel) (c : Call) (left : List ℕ) (x : Changed) (y : List ℕ) : Type 0 where
-  settings : x.settings ≡ setBy p.core.settings c
+  settings : x.settings ≡ set_by p.core.settings c
   area : y ≡ left
-  valid : Valid (setBy p.core.settings c).last
+  valid : Valid (set_by p.core.settings c).last
 
 module _ (p : Panel) (area : List ℕ) where
   abbrev ended : Bool
@@ -56,7 +56,7 @@ module _ (p : Panel) (area : List ℕ) where
   over = records.changed p.core.settings Ended
 
   -- 9 first; then x is the result, and z the area
-  sets-so : (c : Call) (left : List ℕ) (x : Changed) (y z : List ℕ) → buffersOf c ≡ onlySettings area → (ended ≡ true → z ≡ area) → (ended ≡ false → z ≡ y)
+  sets-so : (c : Call) (left : List ℕ) (x : Changed) (y z : List ℕ) → buffers_of c ≡ only_settings area → (ended ≡ true → z ≡ area) → (ended ≡ false → z ≡ y)
       → (is_taken x.answer ≡ true → Taking p c left x y) → (is_taken x.answer ≡ false → (x.settings ≡ p.core.settings) × (y ≡ area))
       → Sets p c left (after p (cond ended over x) z)
   sets-so c left x y z b f g t r =
@@ -65,49 +65,49 @@ module _ (p : Panel) (area : List ℕ) where
       (λ e. by-test (is_taken x.answer)
       (λ q. set-taken e (t q).valid
       ((λ i. after p (cond-false over x e i) (g e i))
-      ∙ (λ i. record { player = withInUse p ((t q).settings i); answers = one (eqb-true (number_of x.answer) 0 q i) 0; buffers = onlySettings ((t q).area i) })))
+      ∙ (λ i. record { player = with_in_use p ((t q).settings i); answers = one (eqb-true (number_of x.answer) 0 q i) 0; buffers = only_settings ((t q).area i) })))
       (λ q. set-refused (number_of x.answer) q
       ((λ i. after p (cond-false over x e i) (g e i))
-      ∙ (λ i. record { player = withInUse p ((r q).0 i); answers = one (number_of x.answer) 0; buffers = onlySettings ((r q).1 i) })
+      ∙ (λ i. record { player = with_in_use p ((r q).0 i); answers = one (number_of x.answer) 0; buffers = only_settings ((r q).1 i) })
       ∙ (λ i. record { player = p; answers = one (number_of x.answer) 0; buffers = sym b i }))))
 
   -- where a change lays its record
-  abbrev pub behindUsed : List ℕ → List ℕ
-  behindUsed handed = records.laidAt (recordsIn p.core.settings.count area).size handed area
+  abbrev pub behind_used : List ℕ → List ℕ
+  behind_used handed = records.laid_at (records_in p.core.settings.count area).size handed area
 
-  pub changes : (handed : List ℕ) → Sets p (change area handed) (behindUsed handed) (after_of p (change area handed))
-  unfolding after_of coreAfter changeOf changedIn areaIn
+  pub changes : (handed : List ℕ) → Sets p (change area handed) (behind_used handed) (after_of p (change area handed))
+  unfolding after_of core_after change_of changed_in area_in
   changes handed =
       let k = p.core.settings in
-      sets-so (change area handed) (behindUsed handed) (records.changeOf k area handed) (records.areaChanged k.count area handed) _ refl
+      sets-so (change area handed) (behind_used handed) (records.change_of k area handed) (records.area_changed k.count area handed) _ refl
       (λ e. cond-true _ _ e) (λ e. cond-false _ _ e)
       (λ t. record { settings = change-sets k area handed t; area = laid-there k area handed t; valid = change-valid k area handed t })
       (λ t. refused-change k area handed t)
 
   pub undoes : Sets p (undo area) area (after_of p (undo area))
-  unfolding after_of coreAfter undoOf undoneIn
+  unfolding after_of core_after undo_of undone_in
   undoes =
       let k = p.core.settings in
-      sets-so (undo area) area (records.undoOf k area) area area refl (λ e. refl) (λ e. refl)
+      sets-so (undo area) area (records.undo_of k area) area area refl (λ e. refl) (λ e. refl)
       (λ t. record { settings = undo-sets k area t; area = refl; valid = undo-valid k area t }) (λ t. (refused-undo k area t, refl))
 
 -- ---- for every panel
 
 module _ (p : Panel) (area : List ℕ) where
-  change-zero : (handed : List ℕ) → is_zero (after_of p (change area handed)).answers ≡ true → is_taken (records.changeOf p.core.settings area handed).answer ≡ true
-  unfolding after_of coreAfter changeOf changedIn
+  change-zero : (handed : List ℕ) → is_zero (after_of p (change area handed)).answers ≡ true → is_taken (records.change_of p.core.settings area handed).answer ≡ true
+  unfolding after_of core_after change_of changed_in
   change-zero handed t =
       by-test p.core.state.playing.ended (λ e. absurd (true≢false (sym t ∙ ap (λ (x : Changed). is_taken x.answer) (cond-true _ _ e))))
       (λ e. ap (λ (x : Changed). is_taken x.answer) (sym (cond-false _ _ e)) ∙ t)
 
-  undo-zero : is_zero (after_of p (undo area)).answers ≡ true → is_taken (records.undoOf p.core.settings area).answer ≡ true
-  unfolding after_of coreAfter undoOf undoneIn
+  undo-zero : is_zero (after_of p (undo area)).answers ≡ true → is_taken (records.undo_of p.core.settings area).answer ≡ true
+  unfolding after_of core_after undo_of undone_in
   undo-zero t =
       by-test p.core.state.playing.ended (λ e. absurd (true≢false (sym t ∙ ap (λ (x : Changed). is_taken x.answer) (cond-true _ _ e))))
       (λ e. ap (λ (x : Changed). is_taken x.answer) (sym (cond-false _ _ e)) ∙ t)
 
 -- what is left of a call that is answered 0
-so : {p : Panel} {c : Call} {left : List ℕ} → Sets p c left (after_of p c) → is_zero (after_of p c).answers ≡ true → after_of p c ≡ settingsSet p (setBy p.core.settings c) left
+so : {p : Panel} {c : Call} {left : List ℕ} → Sets p c left (after_of p c) → is_zero (after_of p c).answers ≡ true → after_of p c ≡ settings_set p (set_by p.core.settings c) left
 so (set-taken e l x) t = x
 so (set-refused n z x) t = absurd (true≢false (sym t ∙ ap (λ (a : After Panel). is_zero a.answers) x ∙ z))
 
@@ -116,17 +116,17 @@ unfolding TakenSettings
 taken-settings p area = (
   (λ handed t. let j = change-joins p.core.settings.count area handed (changed-taken p.core.settings area handed (change-zero p area handed t)) in
       record {
-        setting = (foundIn handed).setting;
+        setting = (found_in handed).setting;
         new = subst (Parses handed) j.new (every-record handed);
-        last = (recordsIn p.core.settings.count area).setting;
-        size = (recordsIn p.core.settings.count area).size;
-        valid = all_valid p.core.settings.count area j.stands;
+        last = (records_in p.core.settings.count area).setting;
+        size = (records_in p.core.settings.count area).size;
+        valid = all-valid p.core.settings.count area j.stands;
         left = so (changes p area handed) t;
       }),
   (λ t. record {
-    setting = (recordsIn (p.core.settings.count - 1) area).setting;
-    size = (recordsIn (p.core.settings.count - 1) area).size;
-    valid = all_valid (p.core.settings.count - 1) area (undo-fewer p.core.settings area (undo-zero p area t));
+    setting = (records_in (p.core.settings.count - 1) area).setting;
+    size = (records_in (p.core.settings.count - 1) area).size;
+    valid = all-valid (p.core.settings.count - 1) area (undo-fewer p.core.settings area (undo-zero p area t));
     left = so (undoes p area) t;
   }),
 )

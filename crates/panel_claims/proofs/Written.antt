@@ -11,37 +11,37 @@ use Rattle.score_line.specs.declared.Event.{Event}
 use Rattle.score_line.specs.declared.Event.TheVariants.{Instr, Control, End, Tempo}
 use Rattle.score_line.specs.declared.Line.{Line}
 use Rattle.orchestra_syntax.specs.Tree.{Instrument}
-use Rattle.orchestra_semantics.specs.Meaning.{instrumentOf}
-use Rattle.voices_resolved.specs.Tree.{treeVoices}
+use Rattle.orchestra_semantics.specs.Meaning.{instrument_of}
+use Rattle.voices_resolved.specs.Tree.{tree_voices}
 use Rattle.voices_source.specs.Alike.{NotesAs, StateAs}
-use Rattle.voices_source.specs.Voices.{writtenVoices}
+use Rattle.voices_source.specs.Voices.{written_voices}
 use Rattle.voices_source.specs.inside.Translation.{HeldAs, PlaysAsWritten, PastAsWritten}
 use Rattle.voices_source.specs.Voices as written
 use Rattle.voices_source.proofs.Written.{every-piece, every-past}
-use Rattle.voices_compiled.specs.Voices as byPlace
+use Rattle.voices_compiled.specs.Voices as by_place
 use Rattle.base_answer.specs.Numbers.{number_of}
-use Rattle.score_bursts.specs.Bursts.{unitsIn}
-use Rattle.score_bursts.specs.inside.Reading.{burstOf}
+use Rattle.score_bursts.specs.Bursts.{units_in}
+use Rattle.score_bursts.specs.inside.Reading.{burst_of}
 use Rattle.player_model.specs.Lists.{All, each}
 use lib.Ieee.{Float}
 use Rattle.settings_records.specs.declared.InUse.{InUse}
-use Rattle.player_model.specs.Set.{inForce, startingTempo}
+use Rattle.player_model.specs.Set.{in_force, starting_tempo}
 use Rattle.player_model.specs.Cycle.{Note}
-use Rattle.player_model.specs.PlayerState.{Settings, dueOf, block_of}
+use Rattle.player_model.specs.PlayerState.{Settings, due_of, block_of}
 use Rattle.panel_claims.specs.Fresh.{Setup}
-use Rattle.player_model.specs.Calls.{Entrance, unit, reads, Call, submit, burst, keyboard, cycle, change, undo, one, lines_of, taken_of, Last, none, latest, Transition, takenIn, cyclesWith, lastWith, transitionOf, traceFrom, trace, allTaken, afterAll}
-use Rattle.player_model.specs.Condition3.{above, inTime, InTime, AsPlain, PlainAlike}
+use Rattle.player_model.specs.Calls.{Entrance, unit, reads, Call, submit, burst, keyboard, cycle, change, undo, one, lines_of, taken_of, Last, none, latest, Transition, taken_in, cycles_with, last_with, transition_of, trace_from, trace, all_taken, after_all}
+use Rattle.player_model.specs.Condition3.{above, in_time, InTime, AsPlain, PlainAlike}
 use Rattle.player_model.specs.History.{Reached, History}
 use Rattle.player_model.proofs.Lists.{all_append, all_map}
 use Rattle.code_loader.specs.Loading.{load_of}
 use Rattle.code_loader_claims.specs.Claims.{StandsFor}
-use Rattle.panel.specs.Display.{displayOf}
-use Rattle.panel.specs.State.{program_of, playerStateOf}
+use Rattle.panel.specs.Display.{display_of}
+use Rattle.panel.specs.State.{program_of, player_state_of}
 use Rattle.panel.specs.declared.Panel.{Panel}
-use Rattle.panel_claims.specs.Verdict.{HasFields, here, there, Playable, Fits, AllFit, Faulty, untimed, unplayable, late, full, AtEntrance, over, badText, cut, notCarried, outOfRange, tooManyValues, leftOver, faulty, taken}
-use Rattle.panel_claims.specs.Claims.{coreAfter, after_of, panel, Given, firstInUse, fresh, settings, displayBy, past, panelAfter, LinesFit, CycleByTree, Condition3}
+use Rattle.panel_claims.specs.Verdict.{HasFields, here, there, Playable, Fits, AllFit, Faulty, untimed, unplayable, late, full, AtEntrance, over, bad_text, cut, not_carried, out_of_range, too_many_values, left_over, faulty, taken}
+use Rattle.panel_claims.specs.Claims.{core_after, after_of, panel, Given, first_in_use, fresh, settings, display_by, past, panel_after, LinesFit, CycleByTree, Condition3}
 use Rattle.panel_claims.proofs.Ranged.{ranged, AllRanged, reads-ranged}
-use Rattle.panel_claims.proofs.Past.{no_line, no-others, Invariant, own, invariant-all, stands, fresh-invariant, invariant-after, past_is, placedPast, block-by-place, by_place}
+use Rattle.panel_claims.proofs.Past.{no_line, no-others, Invariant, own, invariant-all, stands, fresh-invariant, invariant-after, past_is, placed_past, block-by-place, by-place}
 use Rattle.panel_claims.proofs.Bursts.{at_unit, singly, Receives, received, unreceived, receives, taken-of}
 use Rattle.panel_claims.proofs.Cycles.{Counted}
 use Rattle.panel_claims.proofs.Answers.{at-entrance-given, past-unit}
@@ -49,8 +49,8 @@ use Rattle.panel_claims.proofs.Decided.{at-entrance}
 
 -- ---- no more values than fields
 
-enough-fields : {name n : ℕ} {is : List Instrument} → HasFields name n is → n ≤ length (instrumentOf is name).fields
-unfolding instrumentOf
+enough-fields : {name n : ℕ} {is : List Instrument} → HasFields name n is → n ≤ length (instrument_of is name).fields
+unfolding instrument_of
 enough-fields {name} (here {i = i} q h) = rw (eq-eqb i.name name q) h
 enough-fields {name} (there {i = i} q h) = rw (ne_eqb i.name name q) (enough-fields h)
 
@@ -80,12 +80,12 @@ module _ (is : List Instrument) where
   entrance-fits : (p : Panel) (d : Entrance) (handed : List ℕ) (number line : ℕ) → AtEntrance is (own p) d handed number line
       → AllTakable (taken_of (lines_of (submit d handed)) (one number line))
   entrance-fits p d handed number line (over e) = tt
-  entrance-fits p d handed number line (badText e q) = tt
+  entrance-fits p d handed number line (bad_text e q) = tt
   entrance-fits p d handed number line (cut e q) = tt
-  entrance-fits p d handed number line (notCarried e q) = tt
-  entrance-fits p d handed number line (outOfRange e q) = tt
-  entrance-fits p d handed number line (tooManyValues e q) = tt
-  entrance-fits p d handed number line (leftOver e q) = tt
+  entrance-fits p d handed number line (not_carried e q) = tt
+  entrance-fits p d handed number line (out_of_range e q) = tt
+  entrance-fits p d handed number line (too_many_values e q) = tt
+  entrance-fits p d handed number line (left_over e q) = tt
   entrance-fits p d handed number line (faulty {number = m} before l later s t f) = faulty-takes d (own p).reached _ l m (reads d handed).lines f
   entrance-fits p d handed number line (taken ls s t) =
       all_append (λ (l : Line). written.Fits is l l.event) (reads d handed).lines []
@@ -100,7 +100,7 @@ module _ (is : List Instrument) where
 
   -- the units of a burst, each as it comes
   units-fit : (us : List (List ℕ)) (p : Panel) → StandsFor is (program_of p) → length p.core.state.queue.lines ≡ 64 → AllTakable (taken-of us (singly p us).numbers)
-  unfolding singly each after_of coreAfter
+  unfolding singly each after_of core_after
   units-fit [] p r long = tt
   units-fit (u ∷ us) p r long =
       let y = past-unit p long u in
@@ -115,7 +115,7 @@ module _ (is : List Instrument) where
       go : Receives p bytes area (after_of p (burst bytes area)) → AllTakable (taken_of (lines_of (burst bytes area)) (after_of p (burst bytes area)).answers)
       go (received us q x) =
           rw (x, q) (units-fit us p r long)
-      go (unreceived n z x) = rw (x, no-others n (each (λ (u : List ℕ). (reads unit u).lines) (unitsIn (burstOf bytes)))) tt
+      go (unreceived n z x) = rw (x, no-others n (each (λ (u : List ℕ). (reads unit u).lines) (units_in (burst_of bytes)))) tt
 
   call_fits : (p : Panel) → StandsFor is (program_of p) → length p.core.state.queue.lines ≡ 64 → (c : Call) → AllTakable (taken_of (lines_of c) (after_of p c).answers)
   call_fits p r long (submit d handed) = bring-fits p r long d handed
@@ -129,14 +129,14 @@ module _ (is : List Instrument) where
 
 module _ (u : Setup) (is : List Instrument) (g : Given u is) where
   all-fitting : (cs : List Call) (n : ℕ) (z : Last) (p : Panel) → Invariant (load_of u.orchestra).program u.chosen is (stands u is g) p
-      → AllTakable is (allTaken (traceFrom panel n z p cs))
-  unfolding traceFrom allTaken afterAll
+      → AllTakable is (all_taken (trace_from panel n z p cs))
+  unfolding trace_from all_taken after_all
   all-fitting [] n z p k = tt
   all-fitting (c ∷ cs) n z p k =
-      let m = transitionOf panel n z p c in
-      all_append (λ (l : Line). written.Fits is l l.event) (takenIn m) (allTaken (traceFrom panel (cyclesWith m) (lastWith m) (after_of p c).player cs))
+      let m = transition_of panel n z p c in
+      all_append (λ (l : Line). written.Fits is l l.event) (taken_in m) (all_taken (trace_from panel (cycles_with m) (last_with m) (after_of p c).player cs))
       (call_fits is p (subst⁻¹ (StandsFor is) k.has (stands u is g)) k.long c)
-      (all-fitting cs (cyclesWith m) (lastWith m) (after_of p c).player (invariant-all (load_of u.orchestra).program u.chosen is (stands u is g) (c ∷ []) p k))
+      (all-fitting cs (cycles_with m) (last_with m) (after_of p c).player (invariant-all (load_of u.orchestra).program u.chosen is (stands u is g) (c ∷ []) p k))
 
 pub lines_fit : LinesFit
 unfolding LinesFit
@@ -145,10 +145,10 @@ lines_fit u is g cs = all-fitting u is g cs 0 none (fresh u) (fresh-invariant u 
 -- ---- every cycle of sound
 
 pub written-past : (u : Setup) (is : List Instrument) → Given u is → (cs : List Call)
-    → PastAsWritten is u.chosen (firstInUse u) (trace panel (fresh u) cs)
+    → PastAsWritten is u.chosen (first_in_use u) (trace panel (fresh u) cs)
 unfolding LinesFit
 written-past u is g cs =
-    every-past Panel is u.chosen (firstInUse u) (trace panel (fresh u) cs) g.accepted.named (lines_fit u is g cs)
+    every-past Panel is u.chosen (first_in_use u) (trace panel (fresh u) cs) g.accepted.named (lines_fit u is g cs)
 
 -- as many notes
 as_many : {S S' : Type 0} (R : S → S' → Type 0) (ms : List (Note S)) (ns : List (Note S')) → NotesAs R ms ns → length ms ≡ length ns
@@ -157,11 +157,11 @@ as_many R [] (n ∷ ns) h = absurd h
 as_many R (m ∷ ms) [] h = absurd h
 as_many R (m ∷ ms) (n ∷ ns) h = ap suc (as_many R ms ns h.1)
 
-told-so : (is : List Instrument) (p : Panel) (h : History written.VoiceState) → Counted p → StateAs (HeldAs is) (playerStateOf p) h.holds → displayOf p.core ≡ displayBy h
+told-so : (is : List Instrument) (p : Panel) (h : History written.VoiceState) → Counted p → StateAs (HeldAs is) (player_state_of p) h.holds → display_of p.core ≡ display_by h
 told-so is p h k a =
     let lines = k.lines ∙ ap length a.waits in
     let messages = k.messages ∙ ap length a.messages in
-    let notes = k.notes ∙ as_many (HeldAs is) (playerStateOf p).plays.notes h.holds.plays.notes a.notes in
+    let notes = k.notes ∙ as_many (HeldAs is) (player_state_of p).plays.notes h.holds.plays.notes a.notes in
     λ i. record { missed = (a.counts i).missed; lines = lines i; messages = messages i; notes = notes i; ended = a.ended i; position = a.position i }
 
 pub cycle-by-tree : CycleByTree
@@ -169,43 +169,43 @@ unfolding CycleByTree
 cycle-by-tree u is g cs =
     let e = past_is u is g cs in
     let w = written-past u is g cs in
-    let holds : StateAs (HeldAs is) (playerStateOf (panelAfter u is cs)) (past u is cs).holds =
-    subst⁻¹ (λ (h : History byPlace.VoiceState). StateAs (HeldAs is) h.holds (past u is cs).holds) e w.holds in (
+    let holds : StateAs (HeldAs is) (player_state_of (panel_after u is cs)) (past u is cs).holds =
+    subst⁻¹ (λ (h : History by_place.VoiceState). StateAs (HeldAs is) h.holds (past u is cs).holds) e w.holds in (
       record {
         holds = holds;
-        told = told-so is (panelAfter u is cs) (past u is cs) (invariant-after u is g cs).counted holds;
-        reached = ap (λ (h : History byPlace.VoiceState). h.reached) e ∙ w.reached;
-        set = ap (λ (h : History byPlace.VoiceState). h.set) e ∙ w.set;
+        told = told-so is (panel_after u is cs) (past u is cs) (invariant-after u is g cs).counted holds;
+        reached = ap (λ (h : History by_place.VoiceState). h.reached) e ∙ w.reached;
+        set = ap (λ (h : History by_place.VoiceState). h.set) e ∙ w.set;
       },
-      λ lent t. block-by-place u is g cs lent t ∙ w.block (inForce u.chosen (placedPast u is cs).set)
-          ∙ ap (λ (k : InUse). block_of (writtenVoices is) (inForce u.chosen k) (dueOf (past u is cs).holds) (past u is cs).holds.plays) w.set,
+      λ lent t. block-by-place u is g cs lent t ∙ w.block (in_force u.chosen (placed_past u is cs).set)
+          ∙ ap (λ (k : InUse). block_of (written_voices is) (in_force u.chosen k) (due_of (past u is cs).holds) (past u is cs).holds.plays) w.set,
     )
 
 -- ---- condition 3
 
 module _ (is : List Instrument) (start : Float) (s : ℕ → Settings) (ls : List Line) (w : (n : ℕ) → PlaysAsWritten is start s ls n) where
-  line-timely : (z : Last) (l : Line) → inTime panel (writtenVoices is) start s ls z l → inTime panel (treeVoices is) start s ls z l
+  line-timely : (z : Last) (l : Line) → in_time panel (written_voices is) start s ls z l → in_time panel (tree_voices is) start s ls z l
   line-timely none l h = h
   line-timely (latest n) l h = subst⁻¹ (λ (x : ℕ). above x l.when) (w n).position h
 
-  timely : (m : Transition Panel) → InTime panel (writtenVoices is) start s ls m → InTime panel (treeVoices is) start s ls m
-  timely m h = all_map (inTime panel (writtenVoices is) start s ls m.last) (inTime panel (treeVoices is) start s ls m.last) (line-timely m.last) (takenIn m) h
+  timely : (m : Transition Panel) → InTime panel (written_voices is) start s ls m → InTime panel (tree_voices is) start s ls m
+  timely m h = all_map (in_time panel (written_voices is) start s ls m.last) (in_time panel (tree_voices is) start s ls m.last) (line-timely m.last) (taken_in m) h
 
-  pub as_written : (m : Transition Panel) → AsPlain panel (treeVoices is) start s ls m → AsPlain panel (writtenVoices is) start s ls m
+  pub as_written : (m : Transition Panel) → AsPlain panel (tree_voices is) start s ls m → AsPlain panel (written_voices is) start s ls m
   as_written m a =
       record {
         answer = λ q. a.answer q ∙ ap (λ (y : ℕ). one y 0) (w m.cycles).answers;
         block = λ q t. a.block q t ∙ (w m.cycles).blocks;
-        counts = a.counts ∙ (λ i. record { missed = (w (cyclesWith m)).missed i });
+        counts = a.counts ∙ (λ i. record { missed = (w (cycles_with m)).missed i });
       }
 
 pub condition-3 : Condition3
 unfolding Condition3 PlainAlike LinesFit
 condition-3 u is g cs away i =
     let ms = trace panel (fresh u) cs in
-    let ls = allTaken ms in
+    let ls = all_taken ms in
     let s = settings u ms in
-    let start = startingTempo (firstInUse u) in
+    let start = starting_tempo (first_in_use u) in
     let w : (n : ℕ) → PlaysAsWritten is start s ls n = λ n. every-piece is start s ls n g.accepted.named (lines_fit u is g cs) in
-    all_map (AsPlain panel (treeVoices is) start s ls) (AsPlain panel (writtenVoices is) start s ls) (as_written is start s ls w) ms
-    (by_place u is g cs away (all_map (InTime panel (writtenVoices is) start s ls) (InTime panel (treeVoices is) start s ls) (timely is start s ls w) ms i))
+    all_map (AsPlain panel (tree_voices is) start s ls) (AsPlain panel (written_voices is) start s ls) (as_written is start s ls w) ms
+    (by-place u is g cs away (all_map (InTime panel (written_voices is) start s ls) (InTime panel (tree_voices is) start s ls) (timely is start s ls w) ms i))

@@ -5,11 +5,11 @@ use Rattle.orchestra_tokens.specs.Encoding.{Encodes}
 use Rattle.orchestra_tokens.specs.Measures.{longest, measured}
 use Rattle.orchestra_syntax.specs.Tree.{Instrument}
 use Rattle.orchestra_syntax.specs.Names.{name_rules}
-use Rattle.orchestra_syntax.specs.Rates.{rateRules}
+use Rattle.orchestra_syntax.specs.Rates.{rate_rules}
 use Rattle.orchestra_syntax.specs.Grammar.{Orchestra}
 use Rattle.player_model.specs.Lists.{Some}
 use Rattle.base_answer.specs.declared.Answer.TheVariants.{CutShort, LeftOver, UnknownVersion, OutOfRange}
-use Rattle.settings_records.specs.Form.{Parses, IsRecord, refusedAs}
+use Rattle.settings_records.specs.Form.{Parses, IsRecord, refused_as}
 use Rattle.settings_records.specs.Changes.{area_bytes}
 use Rattle.settings_records.specs.declared.Setting.{Setting}
 
@@ -43,14 +43,14 @@ pub record Setup : Type 0 where
 
 -- Document 01: "An orchestra: length over 16,384 bytes (16); 12; token measures (16); 13; 14; 15". Document 02: "A chosen instrument that is not
 -- there gives 4 at fresh start, after the orchestra's checks."
-abbrev pub orchestraChecks : Setup → List Check
-orchestraChecks u =
+abbrev pub orchestra_checks : Setup → List Check
+orchestra_checks u =
     record { number = 16; asks = length u.orchestra ≤ longest }
     ∷ record { number = 12; asks = Tokens u.orchestra (λ ts. Unit {0}) }
     ∷ record { number = 16; asks = Tokens u.orchestra (λ ts. measured ts ≡ true) }
     ∷ record { number = 13; asks = Tree u.orchestra (λ is. Unit {0}) }
     ∷ record { number = 14; asks = Tree u.orchestra (λ is. name_rules is ≡ true) }
-    ∷ record { number = 15; asks = Tree u.orchestra (λ is. rateRules is ≡ true) }
+    ∷ record { number = 15; asks = Tree u.orchestra (λ is. rate_rules is ≡ true) }
     ∷ record { number = 4; asks = Tree u.orchestra (λ is. Some (λ (i : Instrument). i.name ≡ u.chosen) is) }
     ∷ []
 
@@ -59,9 +59,9 @@ orchestraChecks u =
 abbrev pub checks : Setup → List Check
 checks u =
     record { number = 8; asks = length u.area ≡ area_bytes }
-    ∷ record { number = 1; asks = Parses u.first (refusedAs CutShort) → ⊥ }
-    ∷ record { number = 11; asks = Parses u.first (refusedAs LeftOver) → ⊥ }
-    ∷ record { number = 17; asks = Parses u.first (refusedAs UnknownVersion) → ⊥ }
-    ∷ record { number = 3; asks = Parses u.first (refusedAs OutOfRange) → ⊥ }
+    ∷ record { number = 1; asks = Parses u.first (refused_as CutShort) → ⊥ }
+    ∷ record { number = 11; asks = Parses u.first (refused_as LeftOver) → ⊥ }
+    ∷ record { number = 17; asks = Parses u.first (refused_as UnknownVersion) → ⊥ }
+    ∷ record { number = 3; asks = Parses u.first (refused_as OutOfRange) → ⊥ }
     ∷ record { number = 11; asks = (s : Setting) × IsRecord u.first s }
-    ∷ orchestraChecks u
+    ∷ orchestra_checks u

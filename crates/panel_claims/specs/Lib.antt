@@ -2,6 +2,6 @@ pub mod Verdict
 pub mod Fresh
 pub mod Claims
 pub mod Core
-pub mod Contracts
+pub mod ByContract
 pub mod Standing
 pub mod Told

@@ -2,20 +2,20 @@
 use Rattle.std.specs.Prelude.{◌≡◌, false, List, [], ◌∷◌, ℕ, pos, replicate, Float}
 use Rattle.std.specs.Float.{binary32}
 use Rattle.std.specs.Float.Ieee.{of_bits}
-use Rattle.orchestra_syntax.specs.Tree.{number, name, binary, done, assign, output, Instrument, ksigKind}
+use Rattle.orchestra_syntax.specs.Tree.{number, name, binary, done, assign, output, Instrument, ksig_kind}
 use Rattle.orchestra_signs.specs.Operators.{Binary}
 use Rattle.orchestra_reader.specs.Verdict.{Accepted}
 use Rattle.score_line.specs.declared.When.TheVariants.{Timed}
 use Rattle.score_line.specs.declared.Label.TheVariants.{Unlabelled}
 use Rattle.score_line.specs.declared.Event.TheVariants.{Instr}
 use Rattle.score_line.specs.declared.Line.{Line}
-use Rattle.settings_records.specs.Form.{SettingsRecord, versionOne, sets, encoded}
-use Rattle.settings_records.specs.Changes.{area_bytes, inUse}
+use Rattle.settings_records.specs.Form.{SettingsRecord, version_one, sets, encoded}
+use Rattle.settings_records.specs.Changes.{area_bytes, in_use}
 use Rattle.settings_records.specs.declared.InUse.{InUse}
 use Rattle.player_model.specs.Cycle.{Voices, samples}
 use Rattle.player_model.specs.PlayerState.{Settings}
-use Rattle.player_model.specs.Set.{inForce, startingTempo}
-use Rattle.player_model.specs.Plain.{answerAt, block_at}
+use Rattle.player_model.specs.Set.{in_force, starting_tempo}
+use Rattle.player_model.specs.Plain.{answer_at, block_at}
 use Rattle.panel_claims.specs.Fresh.{Setup}
 
 -- instr s1 ( ) { ksig s2 ; s2 = s2 + 0.25 ; output ( s2 ) ; }
@@ -33,7 +33,7 @@ tree =
     record {
       name = 1;
       fields = [];
-      declarations = record { kind = ksigKind; names = 2 ∷ [] } ∷ [];
+      declarations = record { kind = ksig_kind; names = 2 ∷ [] } ∷ [];
       body = assign 2 (binary Binary.plus (name 2) (number (of_bits binary32 0x3e800000))) (output (name 2) done);
     } ∷ []
 
@@ -61,7 +61,7 @@ chosen = 1
 
 -- the settings: one record of version 1, with this ceiling and 16 notes
 abbrev pub first : ℕ → SettingsRecord
-first ceiling = versionOne ceiling 16
+first ceiling = version_one ceiling 16
 
 -- an area of 4,096 zeros
 unfoldable pub blank : List ℕ
@@ -72,22 +72,22 @@ abbrev pub setup : List ℕ → Setup
 setup orchestra = record { orchestra = orchestra; area = blank; first = encoded (first ceiling); chosen = chosen }
 
 -- what is then set, the tempo at the start, and the settings of every cycle as long as no call changes them
-abbrev pub setAtStart : ℕ → InUse
-setAtStart ceiling = inUse 1 (sets (first ceiling))
+abbrev pub set_at_start : ℕ → InUse
+set_at_start ceiling = in_use 1 (sets (first ceiling))
 
 abbrev pub start : Float
-start = startingTempo (setAtStart ceiling)
+start = starting_tempo (set_at_start ceiling)
 
 abbrev pub fixed : ℕ → ℕ → Settings
-fixed ceiling k = inForce chosen (setAtStart ceiling)
+fixed ceiling k = in_force chosen (set_at_start ceiling)
 
 -- The orchestra is accepted with that tree. The plain player of the line, with these notes, answers 0 with a block of 8,192 in cycle 0 and of
 -- 16,384 in cycle 1: not silence, not the first block again.
 pub record Sounds {S : Type 0} (v : Voices S) : Type 0 where
   pub accepted : Accepted bytes tree
-  pub first : (answerAt v start (fixed ceiling) (line ∷ []) 0 ≡ 0)
+  pub first : (answer_at v start (fixed ceiling) (line ∷ []) 0 ≡ 0)
       × (block_at v start (fixed ceiling) (line ∷ []) 0 ≡ replicate samples (pos 8192))
-  pub second : (answerAt v start (fixed ceiling) (line ∷ []) 1 ≡ 0)
+  pub second : (answer_at v start (fixed ceiling) (line ∷ []) 1 ≡ 0)
       × (block_at v start (fixed ceiling) (line ∷ []) 1 ≡ replicate samples (pos 16384))
   -- at a ceiling of 10,000 the second cycle is held there
   pub held : block_at v start (fixed low) (line ∷ []) 1 ≡ replicate samples (pos low)

@@ -11,28 +11,28 @@ use Rattle.score_line.specs.declared.Line.{Line}
 use Rattle.note_state.specs.declared.Note.{Note}
 use Rattle.score_bursts.specs.Bursts.{Burst}
 use Rattle.player_model.proofs.Lists.{cond-true, cond-false}
-use Rattle.score_line.specs.Reading.{blankLine}
-use Rattle.entrance_burst.specs.Singly.{burstSubmittedIn}
-use Rattle.entrance_admission.specs.Submission.{submittedIn}
+use Rattle.score_line.specs.Reading.{blank_line}
+use Rattle.entrance_burst.specs.Singly.{burst_submitted_in}
+use Rattle.entrance_admission.specs.Submission.{submitted_in}
 use Rattle.entrance_admission.specs.declared.AdmissionResult.{AdmissionResult}
 use Rattle.entrance_burst.specs.declared.BurstAdmission.{BurstAdmission}
 use Rattle.midi_messages.specs.inside.Reading.{call_of}
-use Rattle.midi_queue.specs.Keyboard.{noMessages, enqueuedIn}
+use Rattle.midi_queue.specs.Keyboard.{no_messages, enqueued_in}
 use Rattle.midi_queue.specs.declared.MessageQueue.{MessageQueue}
 use Rattle.midi_queue.specs.declared.QueueResult.{QueueResult}
 use Rattle.code_program.specs.declared.Instrument.{Instrument}
 use Rattle.player_state.specs.declared.State.{State}
-use Rattle.player_calls.specs.OnState.{emptyNote, startState, withQueue, withMessages, submittedOf, burstSubmittedOf, keyboardCallOf}
+use Rattle.player_calls.specs.OnState.{empty_note, start_state, with_queue, with_messages, submitted_of, burst_submitted_of, keyboard_call_of}
 
 -- ---- a fresh start
 
 -- its places hold an empty line, an empty note and an empty message
-pub start-law : (tempo : Float) (ended : Bool) (l : Line) → l ≡ blankLine → (n : Note) → n ≡ emptyNote → (m : MessageQueue) → m ≡ noMessages
+pub start-law : (tempo : Float) (ended : Bool) (l : Line) → l ≡ blank_line → (n : Note) → n ≡ empty_note → (m : MessageQueue) → m ≡ no_messages
     → ◌≡◌ {A = State} (record {
       queue = record { lines = replicate 64 l; count = 0; ran = false; last = 0 };
       messages = m;
       playing = record { notes = record { notes = replicate 16 n; count = 0 }; position = 0; tempo = tempo; missed = 0; ended = ended };
-    }) (startState tempo ended)
+    }) (start_state tempo ended)
 start-law tempo ended l e n f m g =
     λ i. record {
       queue = record { lines = replicate 64 (e i); count = 0; ran = false; last = 0 };
@@ -43,22 +43,22 @@ start-law tempo ended l e n f m g =
 -- ---- lines and note messages
 
 module _ (table : List Instrument) (s : State) where
-  pub brings : (timed : Bool) (score : Score) (r : AdmissionResult) → r ≡ submittedIn s.playing.ended timed table s.queue score
-      → record { state = withQueue s r.queue; answer = r.answer; line = r.line } ≡ submittedOf table s timed score
-  unfolding submittedOf
-  brings timed score r e = ap (λ (x : AdmissionResult). record { state = withQueue s x.queue; answer = x.answer; line = x.line }) e
+  pub brings : (timed : Bool) (score : Score) (r : AdmissionResult) → r ≡ submitted_in s.playing.ended timed table s.queue score
+      → record { state = with_queue s r.queue; answer = r.answer; line = r.line } ≡ submitted_of table s timed score
+  unfolding submitted_of
+  brings timed score r e = ap (λ (x : AdmissionResult). record { state = with_queue s x.queue; answer = x.answer; line = x.line }) e
 
-  pub sends : (places : ℕ) (b : Burst) (r : BurstAdmission) → r ≡ burstSubmittedIn s.playing.ended table s.queue places b
-      → record { state = withQueue s r.queue; answer = r.answer; units = r.units } ≡ burstSubmittedOf table s places b
-  unfolding burstSubmittedOf
-  sends places b r e = ap (λ (x : BurstAdmission). record { state = withQueue s x.queue; answer = x.answer; units = x.units }) e
+  pub sends : (places : ℕ) (b : Burst) (r : BurstAdmission) → r ≡ burst_submitted_in s.playing.ended table s.queue places b
+      → record { state = with_queue s r.queue; answer = r.answer; units = r.units } ≡ burst_submitted_of table s places b
+  unfolding burst_submitted_of
+  sends places b r e = ap (λ (x : BurstAdmission). record { state = with_queue s x.queue; answer = x.answer; units = x.units }) e
 
 module _ (s : State) (bytes : List ℕ) where
-  pub keys-over : s.playing.ended ≡ true → record { state = s; answer = Ended } ≡ keyboardCallOf s bytes
-  unfolding keyboardCallOf
+  pub keys-over : s.playing.ended ≡ true → record { state = s; answer = Ended } ≡ keyboard_call_of s bytes
+  unfolding keyboard_call_of
   keys-over h = sym (cond-true _ _ h)
 
-  pub keys_in : s.playing.ended ≡ false → (r : QueueResult) → r ≡ enqueuedIn s.messages (call_of bytes)
-      → record { state = withMessages s r.messages; answer = r.answer } ≡ keyboardCallOf s bytes
-  unfolding keyboardCallOf
-  keys_in h r e = ap (λ (x : QueueResult). record { state = withMessages s x.messages; answer = x.answer }) e ∙ sym (cond-false _ _ h)
+  pub keys_in : s.playing.ended ≡ false → (r : QueueResult) → r ≡ enqueued_in s.messages (call_of bytes)
+      → record { state = with_messages s r.messages; answer = r.answer } ≡ keyboard_call_of s bytes
+  unfolding keyboard_call_of
+  keys_in h r e = ap (λ (x : QueueResult). record { state = with_messages s x.messages; answer = x.answer }) e ∙ sym (cond-false _ _ h)

@@ -1,10 +1,10 @@
 // The work of every call but the cycle, on the state that it changes (documents 01 and 02).
 ghost use Rattle.std.specs.Prelude.{◌≡◌, length};
-ghost use Rattle.score_bursts.specs.inside.Reading.{burstOf};
-ghost use Rattle.code_program.specs.InstrumentTable.{instrumentsOf};
-ghost use Rattle.entrance_readers.specs.Entrances.{scoreIn};
-ghost use Rattle.entrance_burst.specs.Singly.{areaIn};
-ghost use Rattle.player_calls.specs.OnState.{startState, submittedOf, burstSubmittedOf, keyboardCallOf};
+ghost use Rattle.score_bursts.specs.inside.Reading.{burst_of};
+ghost use Rattle.code_program.specs.InstrumentTable.{instruments_of};
+ghost use Rattle.entrance_readers.specs.Entrances.{score_in};
+ghost use Rattle.entrance_burst.specs.Singly.{area_in};
+ghost use Rattle.player_calls.specs.OnState.{start_state, submitted_of, burst_submitted_of, keyboard_call_of};
 
 use base_answer::Answer;
 use code_program::Instruments;
@@ -39,7 +39,7 @@ pub struct CallResult {
 
 // The state at a fresh start with a tempo; ended only where the start is refused.
 pub fn initial_state(tempo: f32, ended: bool) -> State
-    ensures { result ≡ startState tempo ended }
+    ensures { result ≡ start_state tempo ended }
 {
     let line = score_line::blank_line();
     let silence = [0.0f32; 16];
@@ -84,7 +84,7 @@ pub fn initial_state(tempo: f32, ended: bool) -> State
 
 // What was handed in at an entrance, read, into the waiting lines.
 pub fn submit(instruments: Instruments, mut s: State, h: EntranceRead) -> EntranceResult
-    ensures { result ≡ submittedOf (instrumentsOf instruments) s h.timed (scoreIn h) }
+    ensures { result ≡ submitted_of (instruments_of instruments) s h.timed (score_in h) }
 {
     let q = s.queue;
     let r = entrance_admission::submit(instruments, s.playing.ended, q, h);
@@ -106,8 +106,8 @@ pub fn receive_burst(
     bytes: &[u8],
     answers: &mut [u8],
 ) -> BurstResult
-    ensures state { result ≡ burstSubmittedOf (instrumentsOf instruments) s (length answers.old) (burstOf bytes.now) }
-    ensures area { answers.new ≡ areaIn s.playing.ended (instrumentsOf instruments) s.queue answers.old (burstOf bytes.now) }
+    ensures state { result ≡ burst_submitted_of (instruments_of instruments) s (length answers.old) (burst_of bytes.now) }
+    ensures area { answers.new ≡ area_in s.playing.ended (instruments_of instruments) s.queue answers.old (burst_of bytes.now) }
 {
     let q = s.queue;
     let r = entrance_burst::submit_burst(instruments, s.playing.ended, q, bytes, answers);
@@ -123,7 +123,7 @@ pub fn receive_burst(
 
 // Bytes at the keyboard: all its note messages, or none of them.
 pub fn play_keys(mut s: State, bytes: &[u8]) -> CallResult
-    ensures { result ≡ keyboardCallOf s bytes.now }
+    ensures { result ≡ keyboard_call_of s bytes.now }
 {
     if s.playing.ended {
         return CallResult {

@@ -11,33 +11,33 @@ use Rattle.base_answer.specs.Numbers.{is_taken}
 use Rattle.base_answer.specs.declared.Answer.{Answer}
 use Rattle.base_answer.specs.declared.Answer.TheVariants.{Taken, Ended, BlockLength}
 use Rattle.player_model.specs.Cycle.{Voices}
-use Rattle.player_model.specs.PlayerState.{settingsOf, dueOf, renderedOf, block_of}
+use Rattle.player_model.specs.PlayerState.{settings_of, due_of, rendered_of, block_of}
 use Rattle.player_model.proofs.Lists.{cond-true, cond-false}
 use Rattle.voices_compiled.specs.Voices.{VoiceState, voices}
 use Rattle.code_program.specs.declared.Instrument.{Instrument}
-use Rattle.player_state.specs.States.{playerStateOf}
+use Rattle.player_state.specs.States.{player_state_of}
 use Rattle.player_state.specs.declared.State.{State}
 use Rattle.player_calls.specs.declared.CallResult.{CallResult}
-use Rattle.player_cycle.specs.OneCycle as oneCycle
-use Rattle.player_cycle.specs.CycleCall.{cycledOf, blockLeft}
+use Rattle.player_cycle.specs.OneCycle as one_cycle
+use Rattle.player_cycle.specs.CycleCall.{cycled_of, block_left}
 use Rattle.player_cycle.proofs.Stepping.{ended-law, has-stopped, has-played}
 use Rattle.player_cycle.proofs.Samples.{length-mix, whole-block}
 
 module _ (v : Voices VoiceState) (ceiling most chosen : ℕ) (s : State) (n : ℕ) where
-  pub cycle-off : (n ≡ 320 → ⊥) → (x : CallResult) → x ≡ record { state = s; answer = BlockLength } → x ≡ cycledOf v (settingsOf ceiling most chosen) s n
-  unfolding cycledOf
+  pub cycle-off : (n ≡ 320 → ⊥) → (x : CallResult) → x ≡ record { state = s; answer = BlockLength } → x ≡ cycled_of v (settings_of ceiling most chosen) s n
+  unfolding cycled_of
   cycle-off h x e = e ∙ sym (cond-false _ _ (ne_eqb n 320 h))
 
-  pub cycle-over : n ≡ 320 → s.playing.ended ≡ true → (x : CallResult) → x ≡ record { state = s; answer = Ended } → x ≡ cycledOf v (settingsOf ceiling most chosen) s n
-  unfolding cycledOf
+  pub cycle-over : n ≡ 320 → s.playing.ended ≡ true → (x : CallResult) → x ≡ record { state = s; answer = Ended } → x ≡ cycled_of v (settings_of ceiling most chosen) s n
+  unfolding cycled_of
   cycle-over h o x e = e ∙ sym (cond-true _ _ (eq-eqb n 320 h) ∙ cond-true _ _ o)
 
-  module _ (h : n ≡ 320) (o : s.playing.ended ≡ false) (next : State) (is : next ≡ oneCycle.stateAfter v (settingsOf ceiling most chosen) s) where
-    pub cycle-ran : (a : Answer) → a ≡ cond next.playing.ended Ended Taken → record { state = next; answer = a } ≡ cycledOf v (settingsOf ceiling most chosen) s n
-    unfolding cycledOf
+  module _ (h : n ≡ 320) (o : s.playing.ended ≡ false) (next : State) (is : next ≡ one_cycle.state_after v (settings_of ceiling most chosen) s) where
+    pub cycle-ran : (a : Answer) → a ≡ cond next.playing.ended Ended Taken → record { state = next; answer = a } ≡ cycled_of v (settings_of ceiling most chosen) s n
+    unfolding cycled_of
     cycle-ran a e = go next.playing.ended refl
       where
-        go : (b : Bool) → next.playing.ended ≡ b → record { state = next; answer = a } ≡ cycledOf v (settingsOf ceiling most chosen) s n
+        go : (b : Bool) → next.playing.ended ≡ b → record { state = next; answer = a } ≡ cycled_of v (settings_of ceiling most chosen) s n
         go true t =
             (λ i. record { state = has-stopped _ _ _ _ _ next is t i; answer = (e ∙ cond-true _ _ t) i })
             ∙ sym (cond-true _ _ (eq-eqb n 320 h) ∙ cond-false _ _ o ∙ cond-true _ _ (ended-law _ _ _ _ _ next is ∙ t))
@@ -48,23 +48,23 @@ module _ (v : Voices VoiceState) (ceiling most chosen : ℕ) (s : State) (n : �
 -- ---- the lent block
 
 module _ (table : List Instrument) (code : List ℕ) (vals : List Float) (ceiling most chosen : ℕ) (s : State) (lent : List ℤ)
-    (x : CallResult) (q : x ≡ cycledOf (voices table code vals) (settingsOf ceiling most chosen) s (length lent)) where
+    (x : CallResult) (q : x ≡ cycled_of (voices table code vals) (settings_of ceiling most chosen) s (length lent)) where
   abbrev v : Voices VoiceState
   v = voices table code vals
 
-  pub block-stays : is_taken x.answer ≡ false → lent ≡ blockLeft v (settingsOf ceiling most chosen) s lent
-  unfolding blockLeft
+  pub block-stays : is_taken x.answer ≡ false → lent ≡ block_left v (settings_of ceiling most chosen) s lent
+  unfolding block_left
   block-stays t = sym (cond-false _ _ (ap (λ (y : CallResult). is_taken y.answer) (sym q) ∙ t))
 
-  pub block-ran : length lent ≡ 320 → (next : State) → next ≡ oneCycle.stateAfter v (settingsOf ceiling most chosen) s
+  pub block-ran : length lent ≡ 320 → (next : State) → next ≡ one_cycle.state_after v (settings_of ceiling most chosen) s
       → x.answer ≡ cond next.playing.ended Ended Taken
-      → (left : List ℤ) → left ≡ oneCycle.blockAfter v (settingsOf ceiling most chosen) s lent → left ≡ blockLeft v (settingsOf ceiling most chosen) s lent
-  unfolding oneCycle.blockAfter blockLeft block_of
+      → (left : List ℤ) → left ≡ one_cycle.block_after v (settings_of ceiling most chosen) s lent → left ≡ block_left v (settings_of ceiling most chosen) s lent
+  unfolding one_cycle.block_after block_left block_of
   block-ran h next is a left r = go next.playing.ended refl
     where
-      go : (b : Bool) → next.playing.ended ≡ b → left ≡ blockLeft v (settingsOf ceiling most chosen) s lent
+      go : (b : Bool) → next.playing.ended ≡ b → left ≡ block_left v (settings_of ceiling most chosen) s lent
       go true t = r ∙ cond-true _ _ (ended-law _ _ _ _ _ next is ∙ t) ∙ block-stays (ap is_taken (a ∙ cond-true _ _ t))
       go false t =
           r ∙ cond-false _ _ (ended-law _ _ _ _ _ next is ∙ t)
-          ∙ whole-block ceiling (renderedOf v (settingsOf ceiling most chosen) (dueOf (playerStateOf s)) (playerStateOf s).plays).mix lent (length-mix _ _ _ _ _ _ ∙ sym h)
+          ∙ whole-block ceiling (rendered_of v (settings_of ceiling most chosen) (due_of (player_state_of s)) (player_state_of s).plays).mix lent (length-mix _ _ _ _ _ _ ∙ sym h)
           ∙ sym (cond-true _ _ (ap (λ (y : CallResult). is_taken y.answer) (sym q) ∙ ap is_taken (a ∙ cond-false _ _ t)))

@@ -6,14 +6,14 @@ use native.Mathlib.Omega.{arith}
 use lib.IntN.{ℤ}
 use lib.Ieee.{Float, binary32, of_bits}
 use lib.ListN.{length, replicate, length-replicate}
-use Rattle.base_float32.specs.Limit.{sampleOf}
+use Rattle.base_float32.specs.Limit.{sample_of}
 use Rattle.engine_limiter.specs.Block as block
 use Rattle.code_interpreter.specs.Passes.{sums, played}
 use Rattle.player_model.specs.Lists.{each}
-use Rattle.player_model.specs.Cycle.{samples, run_from, runAll, limited}
+use Rattle.player_model.specs.Cycle.{samples, run_from, run_all, limited}
 use Rattle.player_model.specs.Cycle as cycle
-use Rattle.player_model.specs.PlayerState.{Settings, Due, PlayingState, renderedOf}
-use Rattle.voices_compiled.specs.Voices.{VoiceState, voices, ranMixOf}
+use Rattle.player_model.specs.PlayerState.{Settings, Due, PlayingState, rendered_of}
+use Rattle.voices_compiled.specs.Voices.{VoiceState, voices, ran_mix_of}
 use Rattle.code_program.specs.declared.Instrument.{Instrument}
 
 module _ (table : List Instrument) (code : List ℕ) (vals : List Float) where
@@ -23,7 +23,7 @@ module _ (table : List Instrument) (code : List ℕ) (vals : List Float) where
   length-sums ws f (x ∷ xs) = ap suc (length-sums ws _ xs)
 
   length-one : (s : VoiceState) (mix : List Float) → length ((voices table code vals).run s mix).mix ≡ length mix
-  unfolding voices ranMixOf played
+  unfolding voices ran_mix_of played
   length-one s mix = length-sums _ _ mix
 
   length_run : (ns : List (cycle.Note VoiceState)) (mix : List Float) → length (run_from (voices table code vals) ns mix).mix ≡ length mix
@@ -31,8 +31,8 @@ module _ (table : List Instrument) (code : List ℕ) (vals : List Float) where
   length_run [] mix = refl
   length_run (n ∷ ns) mix = length_run ns ((voices table code vals).run n.state mix).mix ∙ length-one n.state mix
 
-  pub length-mix : (s : Settings) (due : Due) (p : PlayingState VoiceState) → length (renderedOf (voices table code vals) s due p).mix ≡ samples
-  unfolding renderedOf runAll
+  pub length-mix : (s : Settings) (due : Due) (p : PlayingState VoiceState) → length (rendered_of (voices table code vals) s due p).mix ≡ samples
+  unfolding rendered_of run_all
   length-mix s due p = length_run _ (replicate samples (of_bits binary32 0)) ∙ length-replicate samples (of_bits binary32 0)
 
 pub whole-block : (ceiling : ℕ) (mix : List Float) (lent : List ℤ) → length mix ≡ length lent → block.limited ceiling mix lent ≡ limited ceiling mix
@@ -40,4 +40,4 @@ unfolding block.limited limited each
 whole-block ceiling [] [] h = refl
 whole-block ceiling [] (y ∷ ys) h = absurd (omega arith)
 whole-block ceiling (x ∷ mix) [] h = absurd (omega arith)
-whole-block ceiling (x ∷ mix) (y ∷ ys) h = ap (λ (l : List ℤ). sampleOf x ceiling ∷ l) (whole-block ceiling mix ys (omega arith))
+whole-block ceiling (x ∷ mix) (y ∷ ys) h = ap (λ (l : List ℤ). sample_of x ceiling ∷ l) (whole-block ceiling mix ys (omega arith))

@@ -3,22 +3,22 @@ use Rattle.std.specs.Prelude.{cond, List, ℕ, ℤ, length, eqb}
 use Rattle.base_answer.specs.Numbers.{is_taken}
 use Rattle.base_answer.specs.declared.Answer.TheVariants.{Taken, Ended, BlockLength}
 use Rattle.player_model.specs.Cycle.{Voices, samples}
-use Rattle.player_model.specs.PlayerState.{Settings, dueOf, block_of}
+use Rattle.player_model.specs.PlayerState.{Settings, due_of, block_of}
 use Rattle.voices_compiled.specs.Voices.{VoiceState}
-use Rattle.player_state.specs.States.{playerStateOf, endsNow, stopped}
+use Rattle.player_state.specs.States.{player_state_of, ends_now, stopped}
 use Rattle.player_state.specs.declared.State.{State}
 use Rattle.player_calls.specs.declared.CallResult.{CallResult}
-use Rattle.player_cycle.specs.OneCycle.{playedOf}
+use Rattle.player_cycle.specs.OneCycle.{played_of}
 
 -- a cycle: 10, then 9, then steps 2 to 8
-unfoldable pub cycledOf : Voices VoiceState → Settings → State → ℕ → CallResult
-cycledOf v x s lent =
+unfoldable pub cycled_of : Voices VoiceState → Settings → State → ℕ → CallResult
+cycled_of v x s lent =
     cond (eqb lent samples)
     (cond s.playing.ended (record { state = s; answer = Ended })
-    (cond (endsNow s) (record { state = record { queue = s.queue; messages = s.messages; playing = stopped s.playing }; answer = Ended })
-    (record { state = playedOf v x s; answer = Taken })))
+    (cond (ends_now s) (record { state = record { queue = s.queue; messages = s.messages; playing = stopped s.playing }; answer = Ended })
+    (record { state = played_of v x s; answer = Taken })))
     (record { state = s; answer = BlockLength })
 
 -- the lent block afterwards: the cycle's samples where it answers 0, else as it was
-unfoldable pub blockLeft : Voices VoiceState → Settings → State → List ℤ → List ℤ
-blockLeft v x s block = cond (is_taken (cycledOf v x s (length block)).answer) (block_of v x (dueOf (playerStateOf s)) (playerStateOf s).plays) block
+unfoldable pub block_left : Voices VoiceState → Settings → State → List ℤ → List ℤ
+block_left v x s block = cond (is_taken (cycled_of v x s (length block)).answer) (block_of v x (due_of (player_state_of s)) (player_state_of s).plays) block

@@ -1,11 +1,11 @@
 // One cycle, steps 1 to 8, on the state that it changes (document 01, "One cycle, in order"), and the call that asks for it.
 ghost use Rattle.std.specs.Prelude.{◌≡◌, cond, length};
 ghost use Rattle.base_answer.specs.declared.Answer.TheVariants.{Taken, Ended};
-ghost use Rattle.code_program.specs.InstrumentTable.{instrumentsOf};
+ghost use Rattle.code_program.specs.InstrumentTable.{instruments_of};
 ghost use Rattle.voices_compiled.specs.Voices.{voices};
-ghost use Rattle.player_state.specs.Playing.{settingsIn};
-ghost use Rattle.player_cycle.specs.OneCycle.{stateAfter, blockAfter};
-ghost use Rattle.player_cycle.specs.CycleCall.{cycledOf, blockLeft};
+ghost use Rattle.player_state.specs.Playing.{settings_in};
+ghost use Rattle.player_cycle.specs.OneCycle.{state_after, block_after};
+ghost use Rattle.player_cycle.specs.CycleCall.{cycled_of, block_left};
 
 use base_answer::Answer;
 use code_program::Instruments;
@@ -25,8 +25,8 @@ fn one_cycle<'a>(
     settings: Settings,
     block: &mut [i16],
 ) -> State
-    ensures state { result ≡ stateAfter (voices (instrumentsOf instruments) code.now vals.now) (settingsIn settings) s }
-    ensures block { block.new ≡ blockAfter (voices (instrumentsOf instruments) code.now vals.now) (settingsIn settings) s block.old }
+    ensures state { result ≡ state_after (voices (instruments_of instruments) code.now vals.now) (settings_in settings) s }
+    ensures block { block.new ≡ block_after (voices (instruments_of instruments) code.now vals.now) (settings_in settings) s block.old }
 {
     if player_state::is_idle(s) {
         return player_state::idle_cycle(s, settings.ceiling, block);
@@ -80,8 +80,8 @@ pub fn cycle_call<'a>(
     settings: Settings,
     block: &mut [i16],
 ) -> CallResult
-    ensures state { result ≡ cycledOf (voices (instrumentsOf instruments) code.now vals.now) (settingsIn settings) s (length block.old) }
-    ensures block { block.new ≡ blockLeft (voices (instrumentsOf instruments) code.now vals.now) (settingsIn settings) s block.old }
+    ensures state { result ≡ cycled_of (voices (instruments_of instruments) code.now vals.now) (settings_in settings) s (length block.old) }
+    ensures block { block.new ≡ block_left (voices (instruments_of instruments) code.now vals.now) (settings_in settings) s block.old }
 {
     let over = s.playing.ended;
     if block.len() != SAMPLES {

@@ -13,15 +13,15 @@ use borrow.Author.Tests.{le-ltb, ltb-false, eq-eqb, eqb-true, not-true}
 use Rattle.base_laws.proofs.Choice.{both_true}
 use Rattle.midi_messages.specs.declared.NoteMessage.{NoteMessage}
 use Rattle.player_model.specs.Lists.{fold, each, All}
-use Rattle.player_model.specs.Cycle.{Voices, Note, Started, release, is_held, releaseOldest, joinedBy, pressed, afterMessage, afterMessages, goesOn}
-use Rattle.player_model.specs.Results.{Held, KeysRelease, NotesGo, noteOns, MessagesPlay, MessagesInOrder}
+use Rattle.player_model.specs.Cycle.{Voices, Note, Started, release, is_held, release_oldest, joined_by, pressed, after_message, after_messages, goes_on}
+use Rattle.player_model.specs.Results.{Held, KeysRelease, NotesGo, note_ons, MessagesPlay, MessagesInOrder}
 use Rattle.player_model.proofs.Lists.{by-test, either_way, cond-true, cond-false, fold-append}
 use Rattle.player_model.proofs.Results.{join-room, join-miss}
 
 module _ {S : Type 0} (v : Voices S) (channel key : ℕ) where
   is-held : (n : Note S) → Held v channel key n → is_held channel key n ≡ true
   unfolding is_held
-  is-held n h = rw (h.fromKey, eq-eqb n.channel channel h.onChannel, eq-eqb n.key key h.ofKey, h.unmarked)
+  is-held n h = rw (h.from_key, eq-eqb n.channel channel h.on_channel, eq-eqb n.key key h.of_key, h.unmarked)
 
   not-held : (n : Note S) → (Held v channel key n → ⊥) → is_held channel key n ≡ false
   unfolding is_held
@@ -29,22 +29,22 @@ module _ {S : Type 0} (v : Voices S) (channel key : ℕ) where
       let a = both_true (n.keyed && eqb n.channel channel && eqb n.key key) (not n.released) e in
       let b = both_true (n.keyed && eqb n.channel channel) (eqb n.key key) a.0 in
       let c = both_true n.keyed (eqb n.channel channel) b.0 in
-      absurd (f (record { fromKey = c.0; onChannel = eqb-true n.channel channel c.1; ofKey = eqb-true n.key key b.1; unmarked = not-true _ a.1 })))
+      absurd (f (record { from_key = c.0; on_channel = eqb-true n.channel channel c.1; of_key = eqb-true n.key key b.1; unmarked = not-true _ a.1 })))
       (λ e. e)
 
   marks-oldest : (before : List (Note S)) (n : Note S) (behind : List (Note S)) → All (λ (m : Note S). Held v channel key m → ⊥) before
-      → Held v channel key n → releaseOldest channel key (before ++ (n ∷ behind)) ≡ before ++ (release n ∷ behind)
-  unfolding releaseOldest
+      → Held v channel key n → release_oldest channel key (before ++ (n ∷ behind)) ≡ before ++ (release n ∷ behind)
+  unfolding release_oldest
   marks-oldest [] n behind f h = cond-true _ _ (is-held n h)
   marks-oldest (m ∷ before) n behind f h = cc (not-held m f.0, marks-oldest before n behind f.1 h)
 
-  marks-none : (notes : List (Note S)) → All (λ (m : Note S). Held v channel key m → ⊥) notes → releaseOldest channel key notes ≡ notes
-  unfolding releaseOldest
+  marks-none : (notes : List (Note S)) → All (λ (m : Note S). Held v channel key m → ⊥) notes → release_oldest channel key notes ≡ notes
+  unfolding release_oldest
   marks-none [] f = refl
   marks-none (m ∷ notes) f = cc (not-held m f.0, marks-none notes f.1)
 
-  length_marked : (notes : List (Note S)) → length (releaseOldest channel key notes) ≡ length notes
-  unfolding releaseOldest
+  length_marked : (notes : List (Note S)) → length (release_oldest channel key notes) ≡ length notes
+  unfolding release_oldest
   length_marked [] = refl
   length_marked (m ∷ notes) = either_way (λ (l : List (Note S)). length l ≡ suc (length notes)) (is_held channel key m) refl (ap suc (length_marked notes))
 
@@ -54,7 +54,7 @@ module _ {S : Type 0} (v : Voices S) where
   keys-release channel key = record { oldest = marks-oldest v channel key; none = marks-none v channel key }
 
   pub notes-go : NotesGo v
-  unfolding NotesGo goesOn
+  unfolding NotesGo goes_on
   notes-go position n = (forth n.released n.endless, back n.released n.endless)
     where
       forth : (r d : Bool) → (not r && (d || ltb position n.end)) ≡ false → (r ≡ true) ⊎ ((d ≡ false) × (n.end ≤ position))
@@ -72,8 +72,8 @@ module _ {S : Type 0} (v : Voices S) where
       notes : length r.notes ≡ length s.notes + min ons (most - length s.notes)
       missed : r.missed ≡ s.missed + (ons - (most - length s.notes))
 
-    plays : (ms : List NoteMessage) (s : Started S) → Plays s (noteOns v ms) (afterMessages v most chosen s ms)
-    unfolding afterMessages fold noteOns afterMessage pressed
+    plays : (ms : List NoteMessage) (s : Started S) → Plays s (note_ons v ms) (after_messages v most chosen s ms)
+    unfolding after_messages fold note_ons after_message pressed
     plays [] s = record { notes = omega arith; missed = omega arith }
     plays (m ∷ ms) s =
         let n = pressed v chosen m in
@@ -87,18 +87,18 @@ module _ {S : Type 0} (v : Voices S) where
         let q = plays ms (record { notes = s.notes; missed = s.missed + 1 }) in
         record { notes = omega (arith, q.notes); missed = omega (arith, q.missed) })))
         (λ o. rw o (
-        let q = plays ms (record { notes = releaseOldest m.channel m.key s.notes; missed = s.missed }) in
+        let q = plays ms (record { notes = release_oldest m.channel m.key s.notes; missed = s.missed }) in
         let l = length_marked v m.channel m.key s.notes in
         record { notes = omega (arith, q.notes, l); missed = omega (arith, q.missed, l) }))
 
     ons-alone : (ms : List NoteMessage) (s : Started S) → All (λ (m : NoteMessage). m.on ≡ true) ms
-        → (afterMessages v most chosen s ms).notes ≡ s.notes ++ take (most - length s.notes) (each (pressed v chosen) ms)
-    unfolding afterMessages fold afterMessage pressed each
+        → (after_messages v most chosen s ms).notes ≡ s.notes ++ take (most - length s.notes) (each (pressed v chosen) ms)
+    unfolding after_messages fold after_message pressed each
     ons-alone [] s h = rw (take-nil, append-nil)
     ons-alone (m ∷ ms) s h =
         let n = pressed v chosen m in
-        let first : (r : Started S) → joinedBy most s n ≡ r → (afterMessages v most chosen s (m ∷ ms)).notes ≡ (afterMessages v most chosen r ms).notes =
-        λ r e. ap (λ (x : Started S). (afterMessages v most chosen x ms).notes) (cond-true _ _ h.0 ∙ e) in
+        let first : (r : Started S) → joined_by most s n ≡ r → (after_messages v most chosen s (m ∷ ms)).notes ≡ (after_messages v most chosen r ms).notes =
+        λ r e. ap (λ (x : Started S). (after_messages v most chosen x ms).notes) (cond-true _ _ h.0 ∙ e) in
         by_cases (dec_lt (length s.notes) most)
         (λ k.
         let l : length (s.notes ++ (n ∷ [])) ≡ length s.notes + 1 = length-append s.notes (n ∷ []) in
@@ -109,19 +109,19 @@ module _ {S : Type 0} (v : Voices S) where
         first _ (join-miss most s n (omega arith) refl) ∙ ons-alone ms _ h.1 ∙ rw d refl)
 
     one_more : (ms : List NoteMessage) (s : Started S) (m : NoteMessage)
-        → afterMessages v most chosen s (ms ++ (m ∷ [])) ≡ afterMessage v most chosen (afterMessages v most chosen s ms) m
-    unfolding afterMessages fold
-    one_more ms s m = fold-append (afterMessage v most chosen) s ms (m ∷ [])
+        → after_messages v most chosen s (ms ++ (m ∷ [])) ≡ after_message v most chosen (after_messages v most chosen s ms) m
+    unfolding after_messages fold
+    one_more ms s m = fold-append (after_message v most chosen) s ms (m ∷ [])
 
   pub messages-play : MessagesPlay v
   unfolding MessagesPlay
   messages-play most chosen s ms = let p = plays most chosen ms s in record { notes = p.notes; missed = p.missed }
 
   pub messages-in-order : MessagesInOrder v
-  unfolding MessagesInOrder afterMessages fold afterMessage
+  unfolding MessagesInOrder after_messages fold after_message
   messages-in-order most chosen s ms = record {
     none = refl;
     on = λ m e. one_more most chosen ms s m ∙ cond-true _ _ e;
     off = λ m e. one_more most chosen ms s m ∙ cond-false _ _ e;
-    onsAlone = ons-alone most chosen ms s;
+    ons_alone = ons-alone most chosen ms s;
   }

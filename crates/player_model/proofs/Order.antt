@@ -13,7 +13,7 @@ use Rattle.score_line.specs.declared.When.TheVariants.{Timed, Untimed}
 use Rattle.score_line.specs.declared.Line.{Line}
 use Rattle.player_model.specs.Lists.{filter, fold, All}
 use Rattle.player_model.specs.Cycle.{earlier, insert, ordered}
-use Rattle.player_model.specs.Results.{Rearranged, none, more, MayPrecede, InOrder, sameTime, atTime, Goes, DueOrder, is_number, OneOrder}
+use Rattle.player_model.specs.Results.{Rearranged, none, more, MayPrecede, InOrder, same_time, at_time, Goes, DueOrder, is_number, OneOrder}
 use Rattle.player_model.proofs.Lists.{by-test, cond-true, cond-false, either_way, filter-append, filter_none, all_append, all-parts, all_map, all_filter}
 use Rattle.player_model.proofs.Count.{all_insert}
 
@@ -84,7 +84,7 @@ early-first (Timed p t) Untimed (Timed r w) h k = absurd k
 early-first (Timed p t) Untimed Untimed h k = tt
 early-first Untimed b c h k = absurd (true≢false (sym h))
 
-not_same : (s a b c : When) → earlier a b ≡ true → MayPrecede b c → sameTime s a ≡ true → sameTime s c ≡ false
+not_same : (s a b c : When) → earlier a b ≡ true → MayPrecede b c → same_time s a ≡ true → same_time s c ≡ false
 not_same (Timed o s) (Timed p t) (Timed q u) (Timed r w) h k e =
     refuted (eq s w) (λ f. true≢false (sym (le_lt_trans w t u (le_trans w s t (eq-back s w f) (eq-le s t e)) h) ∙ k))
 not_same (Timed o s) (Timed p t) Untimed (Timed r w) h k e = absurd k
@@ -109,20 +109,20 @@ in-order-more x (y ∷ ys) h =
     (λ e. rw e (all_insert (λ (z : Line). MayPrecede y.when z.when) x ys (late-may x.when y.when e) h.0, in-order-more x ys h.1))
 
 -- no line of an earlier line's time stands behind a later one
-none-there : (w : When) (x y : Line) (ys : List Line) → InOrder (y ∷ ys) → earlier x.when y.when ≡ true → sameTime w x.when ≡ true → atTime w (y ∷ ys) ≡ []
+none-there : (w : When) (x y : Line) (ys : List Line) → InOrder (y ∷ ys) → earlier x.when y.when ≡ true → same_time w x.when ≡ true → at_time w (y ∷ ys) ≡ []
 none-there w x y ys h e q =
-    filter_none (λ (l : Line). sameTime w l.when) (y ∷ ys) (
+    filter_none (λ (l : Line). same_time w l.when) (y ∷ ys) (
       not_same w x.when y.when y.when e (may-itself y.when) q,
       all_map _ _ (λ z k. not_same w x.when y.when z.when e k q) ys h.0,
     )
 
-at_more : (w : When) (x : Line) (acc : List Line) → InOrder acc → atTime w (insert x acc) ≡ atTime w acc ++ atTime w (x ∷ [])
+at_more : (w : When) (x : Line) (acc : List Line) → InOrder acc → at_time w (insert x acc) ≡ at_time w acc ++ at_time w (x ∷ [])
 unfolding insert filter
 at_more w x [] h = refl
 at_more w x (y ∷ ys) h =
     by-test (earlier x.when y.when)
-    (λ e. by-test (sameTime w x.when) (λ q. cc (none-there w x y ys h e q)) (λ q. cc (append-nil (atTime w (y ∷ ys)))))
-    (λ e. by-test (sameTime w y.when) (λ q. cc (at_more w x ys h.1)) (λ q. cc (at_more w x ys h.1)))
+    (λ e. by-test (same_time w x.when) (λ q. cc (none-there w x y ys h e q)) (λ q. cc (append-nil (at_time w (y ∷ ys)))))
+    (λ e. by-test (same_time w y.when) (λ q. cc (at_more w x ys h.1)) (λ q. cc (at_more w x ys h.1)))
 
 -- ---- all lines
 
@@ -136,13 +136,13 @@ onto-goes acc (x ∷ xs) arrived g =
     rw append_assoc at (onto-goes (insert x acc) xs (arrived ++ (x ∷ []))
     (record {
       once = once_more x [] acc g.once;
-      byTime = in-order-more x acc g.byTime;
-      byArrival = λ w. cc (at_more w x acc g.byTime, g.byArrival w, filter-append (λ (l : Line). sameTime w l.when) arrived (x ∷ []));
+      by_time = in-order-more x acc g.by_time;
+      by_arrival = λ w. cc (at_more w x acc g.by_time, g.by_arrival w, filter-append (λ (l : Line). same_time w l.when) arrived (x ∷ []));
     }))
 
 pub due-order : DueOrder
 unfolding DueOrder ordered onto
-due-order arrived = onto-goes [] arrived [] (record { once = none; byTime = tt; byArrival = λ w. refl })
+due-order arrived = onto-goes [] arrived [] (record { once = none; by_time = tt; by_arrival = λ w. refl })
 
 -- ---- and no other list
 
@@ -153,7 +153,7 @@ all-rearranged P (more {xs} x ys zs r) h =
     let b = all-parts P ys zs (all-rearranged P r a.0) in
     all_append P ys (x ∷ zs) b.0 (a.1.0, b.1)
 
-same-turned : (a b : When) → sameTime a b ≡ sameTime b a
+same-turned : (a b : When) → same_time a b ≡ same_time b a
 same-turned (Timed p t) (Timed q u) = eq_turned t u
 same-turned (Timed p t) Untimed = refl
 same-turned Untimed (Timed q u) = refl
@@ -163,43 +163,43 @@ neither : (t u : Float) → is_nan t ≡ false → is_nan u ≡ false → lt u t
 unfolding le
 neither t u p q h k = let e : (lt t u || eq t u) ≡ true = not-false (le t u) (sym (lt-is t u p q) ∙ h) in cc
 
-both_ways : (a b : When) → is_number a → is_number b → MayPrecede a b → MayPrecede b a → sameTime a b ≡ true
+both_ways : (a b : When) → is_number a → is_number b → MayPrecede a b → MayPrecede b a → same_time a b ≡ true
 both_ways (Timed p t) (Timed q u) m n h k = neither t u m n h k
 both_ways (Timed p t) Untimed m n h k = absurd k
 both_ways Untimed (Timed q u) m n h k = absurd h
 both_ways Untimed Untimed m n h k = refl
 
-same-itself : (a : When) → is_number a → sameTime a a ≡ true
+same-itself : (a : When) → is_number a → same_time a a ≡ true
 same-itself a n = both_ways a a n n (may-itself a) (may-itself a)
 
 abbrev pub AllNumbers : List Line → Type 0
 AllNumbers ls = All (λ (l : Line). is_number l.when) ls
 
 -- a line that stands among those of its time stands behind the head
-behind-head : (x : Line) {rest : List Line} (y : Line) (ys : List Line) → sameTime x.when y.when ≡ false → InOrder (y ∷ ys)
-    → x ∷ rest ≡ atTime x.when (y ∷ ys) → MayPrecede y.when x.when
+behind-head : (x : Line) {rest : List Line} (y : Line) (ys : List Line) → same_time x.when y.when ≡ false → InOrder (y ∷ ys)
+    → x ∷ rest ≡ at_time x.when (y ∷ ys) → MayPrecede y.when x.when
 unfolding filter
 behind-head x y ys e h q =
-    (subst⁻¹ (All (λ (z : Line). MayPrecede y.when z.when)) (q ∙ cond-false _ _ e) (all_filter (λ (z : Line). sameTime x.when z.when) _ ys h.0)).0
+    (subst⁻¹ (All (λ (z : Line). MayPrecede y.when z.when)) (q ∙ cond-false _ _ e) (all_filter (λ (z : Line). same_time x.when z.when) _ ys h.0)).0
 
-at_head : (x : Line) (xs : List Line) (w : When) → sameTime w x.when ≡ true → atTime w (x ∷ xs) ≡ x ∷ atTime w xs
+at_head : (x : Line) (xs : List Line) (w : When) → same_time w x.when ≡ true → at_time w (x ∷ xs) ≡ x ∷ at_time w xs
 unfolding filter
 at_head x xs w e = cond-true _ _ e
 
 heads : (x : Line) (xs : List Line) (y : Line) (ys : List Line) → is_number x.when → is_number y.when → InOrder (x ∷ xs) → InOrder (y ∷ ys)
-    → ((w : When) → atTime w (x ∷ xs) ≡ atTime w (y ∷ ys)) → x ≡ y
+    → ((w : When) → at_time w (x ∷ xs) ≡ at_time w (y ∷ ys)) → x ≡ y
 heads x xs y ys m n h k q =
-    let own : x ∷ atTime x.when xs ≡ atTime x.when (y ∷ ys) = sym (at_head x xs x.when (same-itself x.when m)) ∙ q x.when in
-    let other : y ∷ atTime y.when ys ≡ atTime y.when (x ∷ xs) = sym (at_head y ys y.when (same-itself y.when n)) ∙ sym (q y.when) in
-    by-test (sameTime x.when y.when)
+    let own : x ∷ at_time x.when xs ≡ at_time x.when (y ∷ ys) = sym (at_head x xs x.when (same-itself x.when m)) ∙ q x.when in
+    let other : y ∷ at_time y.when ys ≡ at_time y.when (x ∷ xs) = sym (at_head y ys y.when (same-itself y.when n)) ∙ sym (q y.when) in
+    by-test (same_time x.when y.when)
     (λ e. cc (at_head y ys x.when e))
     (λ e. cc (both_ways x.when y.when m n (behind-head y x xs (sym (same-turned x.when y.when) ∙ e) h other) (behind-head x y ys e k own)))
 
-tails : (x y : Line) (xs ys : List Line) (w : When) → x ≡ y → atTime w (x ∷ xs) ≡ atTime w (y ∷ ys) → atTime w xs ≡ atTime w ys
+tails : (x y : Line) (xs ys : List Line) (w : When) → x ≡ y → at_time w (x ∷ xs) ≡ at_time w (y ∷ ys) → at_time w xs ≡ at_time w ys
 unfolding filter
-tails x y xs ys w e q = by-test (sameTime w x.when) (λ t. cc) (λ t. cc)
+tails x y xs ys w e q = by-test (same_time w x.when) (λ t. cc) (λ t. cc)
 
-pub alike : (a b : List Line) → AllNumbers a → AllNumbers b → InOrder a → InOrder b → ((w : When) → atTime w a ≡ atTime w b) → a ≡ b
+pub alike : (a b : List Line) → AllNumbers a → AllNumbers b → InOrder a → InOrder b → ((w : When) → at_time w a ≡ at_time w b) → a ≡ b
 unfolding filter
 alike [] [] m n h k q = refl
 alike [] (y ∷ ys) m n h k q = cc (q y.when, at_head y ys y.when (same-itself y.when n.0))
@@ -211,5 +211,5 @@ alike (x ∷ xs) (y ∷ ys) m n h k q =
 pub one-order : OneOrder
 unfolding OneOrder
 one-order arrived a b n g h =
-    alike a b (all-rearranged _ g.once n) (all-rearranged _ h.once n) g.byTime h.byTime
-    (λ w. g.byArrival w ∙ sym (h.byArrival w))
+    alike a b (all-rearranged _ g.once n) (all-rearranged _ h.once n) g.by_time h.by_time
+    (λ w. g.by_arrival w ∙ sym (h.by_arrival w))

@@ -2,15 +2,15 @@
 use Rattle.std.specs.Prelude.{Bool, true, false, ◌&&◌, cond, List, [], ◌∷◌, ◌++◌, ℕ, suc, ℤ, length, eqb}
 use Rattle.base_answer.specs.Numbers.{is_taken}
 use Rattle.base_bitstream.specs.Bits.{bits_of}
-use Rattle.score_line.specs.Reading.{keypadLine}
+use Rattle.score_line.specs.Reading.{keypad_line}
 use Rattle.score_line.specs.declared.When.{When}
 use Rattle.score_line.specs.declared.When.TheVariants.{Timed, Untimed}
 use Rattle.score_line.specs.declared.Line.{Line}
 use Rattle.score_line.specs.declared.LineRead.{LineRead}
-use Rattle.score_reader.specs.Score.{Score, scoreOf, unit_of}
+use Rattle.score_reader.specs.Score.{Score, score_of, unit_of}
 use Rattle.text_format.specs.inside.Reading.{text_of}
-use Rattle.score_bursts.specs.Bursts.{unitsIn}
-use Rattle.score_bursts.specs.inside.Reading.{burstOf}
+use Rattle.score_bursts.specs.Bursts.{units_in}
+use Rattle.score_bursts.specs.inside.Reading.{burst_of}
 use Rattle.midi_messages.specs.Writing as midi
 use Rattle.midi_messages.specs.inside.Reading.{call_of}
 use Rattle.midi_messages.specs.declared.NoteMessage.{NoteMessage}
@@ -28,15 +28,15 @@ pub data Entrance : Type 0 where
   text : Entrance
 
 -- whether a line that comes by this entrance must have a time (6)
-abbrev pub mustBeTimed : Entrance → Bool
-mustBeTimed stick = true
-mustBeTimed unit = false
-mustBeTimed keypad = false
-mustBeTimed text = true
+abbrev pub must_be_timed : Entrance → Bool
+must_be_timed stick = true
+must_be_timed unit = false
+must_be_timed keypad = false
+must_be_timed text = true
 
-abbrev pub hasTime : When → Bool
-hasTime (Timed late t) = true
-hasTime Untimed = false
+abbrev pub has_time : When → Bool
+has_time (Timed late t) = true
+has_time Untimed = false
 
 -- a line that was read on its own, as a score
 abbrev pub single : LineRead → Score
@@ -44,9 +44,9 @@ single r = record { answer = r.answer; line = 0; lines = cond (is_taken r.answer
 
 -- what is handed in at an entrance, read whole: the first fault and its line's number, or the lines
 abbrev pub reads : Entrance → List ℕ → Score
-reads stick bytes = scoreOf (bits_of bytes)
+reads stick bytes = score_of (bits_of bytes)
 reads unit bytes = single (unit_of (bits_of bytes))
-reads keypad numbers = single (keypadLine numbers)
+reads keypad numbers = single (keypad_line numbers)
 reads text bytes = text_of bytes
 
 -- ---- calls
@@ -66,25 +66,25 @@ pub data Call : Type 0 where
 -- the lines that a call holds, for each answer that it gets: a burst has one of its own, which holds none, and one for each of its units
 abbrev pub lines_of : Call → List (List Line)
 lines_of (submit d handed) = (reads d handed).lines ∷ []
-lines_of (burst bytes area) = [] ∷ each (λ (u : List ℕ). (reads unit u).lines) (unitsIn (burstOf bytes))
+lines_of (burst bytes area) = [] ∷ each (λ (u : List ℕ). (reads unit u).lines) (units_in (burst_of bytes))
 lines_of (keyboard bytes) = [] ∷ []
 lines_of (cycle block) = [] ∷ []
 lines_of (change area handed) = [] ∷ []
 lines_of (undo area) = [] ∷ []
 
 -- the note messages that bytes are, none where they have a fault
-abbrev pub wholeMessages : midi.Call → List NoteMessage
-wholeMessages (midi.whole ms) = ms
-wholeMessages (midi.fault a) = []
+abbrev pub whole_messages : midi.Call → List NoteMessage
+whole_messages (midi.whole ms) = ms
+whole_messages (midi.fault a) = []
 
 -- the note messages that a call holds
-abbrev pub messagesIn : Call → List NoteMessage
-messagesIn (submit d handed) = []
-messagesIn (burst bytes area) = []
-messagesIn (keyboard bytes) = wholeMessages (call_of bytes)
-messagesIn (cycle block) = []
-messagesIn (change area handed) = []
-messagesIn (undo area) = []
+abbrev pub messages_in : Call → List NoteMessage
+messages_in (submit d handed) = []
+messages_in (burst bytes area) = []
+messages_in (keyboard bytes) = whole_messages (call_of bytes)
+messages_in (cycle block) = []
+messages_in (change area handed) = []
+messages_in (undo area) = []
 
 -- an answer: its number, and the number of the line that it is about
 pub record Answer : Type 0 where
@@ -101,26 +101,26 @@ pub record Buffers : Type 0 where
   pub answers : List ℕ
   pub settings : List ℕ
 
-abbrev pub noBuffers : Buffers
-noBuffers = record { block = []; answers = []; settings = [] }
+abbrev pub no_buffers : Buffers
+no_buffers = record { block = []; answers = []; settings = [] }
 
-abbrev pub onlyBlock : List ℤ → Buffers
-onlyBlock b = record { block = b; answers = []; settings = [] }
+abbrev pub only_block : List ℤ → Buffers
+only_block b = record { block = b; answers = []; settings = [] }
 
-abbrev pub onlyAnswers : List ℕ → Buffers
-onlyAnswers area = record { block = []; answers = area; settings = [] }
+abbrev pub only_answers : List ℕ → Buffers
+only_answers area = record { block = []; answers = area; settings = [] }
 
-abbrev pub onlySettings : List ℕ → Buffers
-onlySettings area = record { block = []; answers = []; settings = area }
+abbrev pub only_settings : List ℕ → Buffers
+only_settings area = record { block = []; answers = []; settings = area }
 
 -- the buffers that a call is lent, as they are lent
-abbrev pub buffersOf : Call → Buffers
-buffersOf (submit d handed) = noBuffers
-buffersOf (burst bytes area) = onlyAnswers area
-buffersOf (keyboard bytes) = noBuffers
-buffersOf (cycle block) = onlyBlock block
-buffersOf (change area handed) = onlySettings area
-buffersOf (undo area) = onlySettings area
+abbrev pub buffers_of : Call → Buffers
+buffers_of (submit d handed) = no_buffers
+buffers_of (burst bytes area) = only_answers area
+buffers_of (keyboard bytes) = no_buffers
+buffers_of (cycle block) = only_block block
+buffers_of (change area handed) = only_settings area
+buffers_of (undo area) = only_settings area
 
 -- what a call leaves: the player, the answers, and the buffers that it was lent
 pub record After (P : Type 0) : Type 0 where
@@ -168,44 +168,44 @@ pub record Transition (P : Type 0) : Type 0 where
   pub after : After P
 
 module _ {P : Type 0} where
-  abbrev pub takenIn : Transition P → List Line
-  takenIn m = taken_of (lines_of m.call) m.after.answers
+  abbrev pub taken_in : Transition P → List Line
+  taken_in m = taken_of (lines_of m.call) m.after.answers
 
   -- the note messages taken: all of a call that is answered 0
-  abbrev pub messagesTaken : Transition P → List NoteMessage
-  messagesTaken m = cond (is_zero m.after.answers) (messagesIn m.call) []
+  abbrev pub messages_taken : Transition P → List NoteMessage
+  messages_taken m = cond (is_zero m.after.answers) (messages_in m.call) []
 
   -- how many numbered cycle calls there are up to and with this one
-  abbrev pub cyclesWith : Transition P → ℕ
-  cyclesWith m = cond (numbered m.call) (suc m.cycles) m.cycles
+  abbrev pub cycles_with : Transition P → ℕ
+  cycles_with m = cond (numbered m.call) (suc m.cycles) m.cycles
 
-  abbrev pub lastWith : Transition P → Last
-  lastWith m = cond (numbered m.call && is_zero m.after.answers) (latest m.cycles) m.last
+  abbrev pub last_with : Transition P → Last
+  last_with m = cond (numbered m.call && is_zero m.after.answers) (latest m.cycles) m.last
 
   -- the lines taken, in order of arrival
-  unfoldable pub allTaken : List (Transition P) → List Line
-  allTaken [] = []
-  allTaken (m ∷ ms) = takenIn m ++ allTaken ms
+  unfoldable pub all_taken : List (Transition P) → List Line
+  all_taken [] = []
+  all_taken (m ∷ ms) = taken_in m ++ all_taken ms
 
 module _ {P : Type 0} (e : Player P) where
-  abbrev pub transitionOf : ℕ → Last → P → Call → Transition P
-  transitionOf k z p c = record { call = c; cycles = k; last = z; before = p; after = e.after p c }
+  abbrev pub transition_of : ℕ → Last → P → Call → Transition P
+  transition_of k z p c = record { call = c; cycles = k; last = z; before = p; after = e.after p c }
 
-  unfoldable pub traceFrom : ℕ → Last → P → List Call → List (Transition P)
-  traceFrom k z p [] = []
-  traceFrom k z p (c ∷ cs) =
-      let m = transitionOf k z p c in m ∷ traceFrom (cyclesWith m) (lastWith m) (e.after p c).player cs
+  unfoldable pub trace_from : ℕ → Last → P → List Call → List (Transition P)
+  trace_from k z p [] = []
+  trace_from k z p (c ∷ cs) =
+      let m = transition_of k z p c in m ∷ trace_from (cycles_with m) (last_with m) (e.after p c).player cs
 
   -- the transitions of a list of calls on a fresh player
   abbrev pub trace : P → List Call → List (Transition P)
-  trace p cs = traceFrom 0 none p cs
+  trace p cs = trace_from 0 none p cs
 
   -- the player after them
-  unfoldable pub afterAll : P → List Call → P
-  afterAll p [] = p
-  afterAll p (c ∷ cs) = afterAll (e.after p c).player cs
+  unfoldable pub after_all : P → List Call → P
+  after_all p [] = p
+  after_all p (c ∷ cs) = after_all (e.after p c).player cs
 
   -- their answers, in order
-  unfoldable pub answersAll : P → List Call → List Answer
-  answersAll p [] = []
-  answersAll p (c ∷ cs) = (e.after p c).answers ++ answersAll (e.after p c).player cs
+  unfoldable pub answers_all : P → List Call → List Answer
+  answers_all p [] = []
+  answers_all p (c ∷ cs) = (e.after p c).answers ++ answers_all (e.after p c).player cs

@@ -3,8 +3,8 @@
 use Rattle.std.specs.Prelude.{Bool, true, false, not, ◌&&◌, ◌||◌, cond, List, [], ◌∷◌, ◌++◌, ℕ, ◌+◌, ℤ, length, replicate, take, ltb, leb, eqb, Float}
 use Rattle.std.specs.Float.{binary32}
 use Rattle.std.specs.Float.Ieee.{lt, eq, of_bits}
-use Rattle.base_timebase.specs.Time.{ticksIn, endless as withoutEnd}
-use Rattle.base_float32.specs.Limit.{sampleOf}
+use Rattle.base_timebase.specs.Time.{ticks_in, endless as without_end}
+use Rattle.base_float32.specs.Limit.{sample_of}
 use Rattle.score_line.specs.declared.When.{When}
 use Rattle.score_line.specs.declared.When.TheVariants.{Timed, Untimed}
 use Rattle.score_line.specs.declared.Label.{Label}
@@ -12,7 +12,7 @@ use Rattle.score_line.specs.declared.Label.TheVariants.{Unlabelled, Labelled}
 use Rattle.score_line.specs.declared.Event.{Event}
 use Rattle.score_line.specs.declared.Event.TheVariants.{Instr, Control, End, Tempo}
 use Rattle.score_line.specs.declared.Line.{Line}
-use Rattle.midi_keys.specs.Keys.{frequencyOf, normalizedVelocity}
+use Rattle.midi_keys.specs.Keys.{frequency_of, normalized_velocity}
 use Rattle.midi_messages.specs.declared.NoteMessage.{NoteMessage}
 use Rattle.player_model.specs.Lists.{fold, each}
 
@@ -51,13 +51,13 @@ pub record Note (S : Type 0) : Type 0 where
 
 -- ---- due lines
 
-abbrev pub dueWhen : ℕ → When → Bool
-dueWhen pos (Timed late t) = leb (ticksIn t) pos
-dueWhen pos Untimed = true
+abbrev pub due_when : ℕ → When → Bool
+due_when pos (Timed late t) = leb (ticks_in t) pos
+due_when pos Untimed = true
 
 -- A line is due when its ticks are at most the position; an untimed line is due in the next cycle.
-unfoldable pub isDue : ℕ → Line → Bool
-isDue pos l = dueWhen pos l.when
+unfoldable pub is_due : ℕ → Line → Bool
+is_due pos l = due_when pos l.when
 
 -- by exact time; a timed line comes before an untimed one
 abbrev pub earlier : When → When → Bool
@@ -77,29 +77,29 @@ ordered xs = fold (λ (before : List Line) (x : Line). insert x before) [] xs
 -- ---- step 1
 
 -- the limit on position
-abbrev pub positionLimit : ℕ
-positionLimit = 1000000000000
+abbrev pub position_limit : ℕ
+position_limit = 1000000000000
 
-abbrev pub isEnd : Event → Bool
-isEnd (Instr label i d) = false
-isEnd (Control label x value) = false
-isEnd End = true
-isEnd (Tempo t) = false
+abbrev pub is_end : Event → Bool
+is_end (Instr label i d) = false
+is_end (Control label x value) = false
+is_end End = true
+is_end (Tempo t) = false
 
-unfoldable pub anyEnd : List Line → Bool
-anyEnd ls = fold (λ (found : Bool) (l : Line). found || isEnd l.event) false ls
+unfoldable pub any_end : List Line → Bool
+any_end ls = fold (λ (found : Bool) (l : Line). found || is_end l.event) false ls
 
 -- ---- step 2
 
-abbrev pub tempoFrom : Float → Event → Float
-tempoFrom old (Instr label i d) = old
-tempoFrom old (Control label x value) = old
-tempoFrom old End = old
-tempoFrom old (Tempo t) = t
+abbrev pub tempo_from : Float → Event → Float
+tempo_from old (Instr label i d) = old
+tempo_from old (Control label x value) = old
+tempo_from old End = old
+tempo_from old (Tempo t) = t
 
 -- the last tempo line in order sets the tempo
-unfoldable pub lastTempo : Float → List Line → Float
-lastTempo t ls = fold (λ (old : Float) (l : Line). tempoFrom old l.event) t ls
+unfoldable pub last_tempo : Float → List Line → Float
+last_tempo t ls = fold (λ (old : Float) (l : Line). tempo_from old l.event) t ls
 
 -- ---- steps 3 to 7, with the voices
 
@@ -117,21 +117,21 @@ pub record Rendered (S : Type 0) : Type 0 where
 abbrev pub samples : ℕ
 samples = 320
 
-abbrev pub isLabelled : Label → Bool
-isLabelled Unlabelled = false
-isLabelled (Labelled n) = true
+abbrev pub is_labelled : Label → Bool
+is_labelled Unlabelled = false
+is_labelled (Labelled n) = true
 
-abbrev pub labelNumber : Label → ℕ
-labelNumber Unlabelled = 0
-labelNumber (Labelled n) = n
+abbrev pub label_number : Label → ℕ
+label_number Unlabelled = 0
+label_number (Labelled n) = n
 
 -- step 6: every summed sample limited by the ceiling
 unfoldable pub limited : ℕ → List Float → List ℤ
-limited ceiling mix = each (λ (x : Float). sampleOf x ceiling) mix
+limited ceiling mix = each (λ (x : Float). sample_of x ceiling) mix
 
 module _ {S : Type 0} where
-  abbrev pub withState : Note S → S → Note S
-  withState n s =
+  abbrev pub with_state : Note S → S → Note S
+  with_state n s =
       record {
         labelled = n.labelled;
         label = n.label;
@@ -162,47 +162,47 @@ module _ {S : Type 0} where
       }
 
   -- whether a note can be cut off: one of them has no priority
-  unfoldable pub canCut : List (Note S) → Bool
-  canCut [] = false
-  canCut (n ∷ ns) = cond n.priority (canCut ns) true
+  unfoldable pub can_cut : List (Note S) → Bool
+  can_cut [] = false
+  can_cut (n ∷ ns) = cond n.priority (can_cut ns) true
 
   -- the oldest note without priority cut off; the others stay
-  unfoldable pub cutOldest : List (Note S) → List (Note S)
-  cutOldest [] = []
-  cutOldest (n ∷ ns) = cond n.priority (n ∷ cutOldest ns) ns
+  unfoldable pub cut_oldest : List (Note S) → List (Note S)
+  cut_oldest [] = []
+  cut_oldest (n ∷ ns) = cond n.priority (n ∷ cut_oldest ns) ns
 
   -- One note more, behind the others. With the most notes sounding one is missed: where the new note has priority, the oldest without,
   -- which is cut off; with no such note, and for a note without priority, the new one.
-  unfoldable pub joinedBy : ℕ → Started S → Note S → Started S
-  joinedBy most s n =
+  unfoldable pub joined_by : ℕ → Started S → Note S → Started S
+  joined_by most s n =
       cond (ltb (length s.notes) most)
       (record { notes = s.notes ++ (n ∷ []); missed = s.missed })
-      (cond (n.priority && canCut s.notes)
-      (record { notes = cutOldest s.notes ++ (n ∷ []); missed = s.missed + 1 })
+      (cond (n.priority && can_cut s.notes)
+      (record { notes = cut_oldest s.notes ++ (n ∷ []); missed = s.missed + 1 })
       (record { notes = s.notes; missed = s.missed + 1 }))
 
   -- a note that goes on after a cycle at a position: it is not marked, and its end lies above the position
-  unfoldable pub goesOn : ℕ → Note S → Bool
-  goesOn pos n = not n.released && (n.endless || ltb pos n.end)
+  unfoldable pub goes_on : ℕ → Note S → Bool
+  goes_on pos n = not n.released && (n.endless || ltb pos n.end)
 
   -- an unmarked note of a key of a channel
   unfoldable pub is_held : ℕ → ℕ → Note S → Bool
   is_held channel key n = n.keyed && eqb n.channel channel && eqb n.key key && not n.released
 
   -- the oldest unmarked note of a key of a channel marked; the others stay
-  unfoldable pub releaseOldest : ℕ → ℕ → List (Note S) → List (Note S)
-  releaseOldest channel key [] = []
-  releaseOldest channel key (n ∷ ns) = cond (is_held channel key n) (release n ∷ ns) (n ∷ releaseOldest channel key ns)
+  unfoldable pub release_oldest : ℕ → ℕ → List (Note S) → List (Note S)
+  release_oldest channel key [] = []
+  release_oldest channel key (n ∷ ns) = cond (is_held channel key n) (release n ∷ ns) (n ∷ release_oldest channel key ns)
 
 module _ {S : Type 0} (v : Voices S) where
   -- the note that an instr line starts; its values are the first of the fields, a duration of -1 is without end
   unfoldable pub born : ℕ → Line → Label → ℕ → Float → Note S
   born pos l label instrument duration =
       record {
-        labelled = isLabelled label;
-        label = labelNumber label;
-        endless = eq duration withoutEnd;
-        end = pos + ticksIn duration;
+        labelled = is_labelled label;
+        label = label_number label;
+        endless = eq duration without_end;
+        end = pos + ticks_in duration;
         priority = l.priority;
         keyed = false;
         channel = 0;
@@ -211,31 +211,31 @@ module _ {S : Type 0} (v : Voices S) where
         state = v.birth instrument (take l.count l.values);
       }
 
-  abbrev pub startedBy : ℕ → ℕ → Line → Started S → Event → Started S
-  startedBy most pos l s (Instr label i d) = joinedBy most s (born pos l label i d)
-  startedBy most pos l s (Control label x value) = s
-  startedBy most pos l s End = s
-  startedBy most pos l s (Tempo t) = s
+  abbrev pub started_by : ℕ → ℕ → Line → Started S → Event → Started S
+  started_by most pos l s (Instr label i d) = joined_by most s (born pos l label i d)
+  started_by most pos l s (Control label x value) = s
+  started_by most pos l s End = s
+  started_by most pos l s (Tempo t) = s
 
   -- step 3: each instr line starts a note, as long as fewer than the most sound or one can be cut off for it
   unfoldable pub started : ℕ → ℕ → List (Note S) → List Line → Started S
   started most pos ns ls =
-      fold (λ (s : Started S) (l : Line). startedBy most pos l s l.event) (record { notes = ns; missed = 0 }) ls
+      fold (λ (s : Started S) (l : Line). started_by most pos l s l.event) (record { notes = ns; missed = 0 }) ls
 
   -- a control line's effect on one note: on a note with that label, and on no other
-  unfoldable pub controlledBy : ℕ → ℕ → Float → Note S → Note S
-  controlledBy label x value n =
-      cond (n.labelled && eqb label n.label) (withState n (v.control x value n.state)) n
+  unfoldable pub controlled_by : ℕ → ℕ → Float → Note S → Note S
+  controlled_by label x value n =
+      cond (n.labelled && eqb label n.label) (with_state n (v.control x value n.state)) n
 
-  abbrev pub controlEvent : List (Note S) → Event → List (Note S)
-  controlEvent ns (Instr label i d) = ns
-  controlEvent ns (Control label x value) = each (controlledBy label x value) ns
-  controlEvent ns End = ns
-  controlEvent ns (Tempo t) = ns
+  abbrev pub control_event : List (Note S) → Event → List (Note S)
+  control_event ns (Instr label i d) = ns
+  control_event ns (Control label x value) = each (controlled_by label x value) ns
+  control_event ns End = ns
+  control_event ns (Tempo t) = ns
 
   -- step 4: each control line in order
   unfoldable pub controlled : List (Note S) → List Line → List (Note S)
-  controlled ns ls = fold (λ (ms : List (Note S)) (l : Line). controlEvent ms l.event) ns ls
+  controlled ns ls = fold (λ (ms : List (Note S)) (l : Line). control_event ms l.event) ns ls
 
   -- the note that a note-on starts, of the chosen instrument, without label and end
   unfoldable pub pressed : ℕ → NoteMessage → Note S
@@ -250,18 +250,18 @@ module _ {S : Type 0} (v : Voices S) where
         channel = m.channel;
         key = m.key;
         released = false;
-        state = v.birth chosen (frequencyOf m.key ∷ normalizedVelocity m.velocity ∷ []);
+        state = v.birth chosen (frequency_of m.key ∷ normalized_velocity m.velocity ∷ []);
       }
 
   -- a note-on starts a note, as an instr line without priority does; a note-off marks one
-  unfoldable pub afterMessage : ℕ → ℕ → Started S → NoteMessage → Started S
-  afterMessage most chosen s m =
-      cond m.on (joinedBy most s (pressed chosen m))
-      (record { notes = releaseOldest m.channel m.key s.notes; missed = s.missed })
+  unfoldable pub after_message : ℕ → ℕ → Started S → NoteMessage → Started S
+  after_message most chosen s m =
+      cond m.on (joined_by most s (pressed chosen m))
+      (record { notes = release_oldest m.channel m.key s.notes; missed = s.missed })
 
   -- after step 4: each note message in order
-  unfoldable pub afterMessages : ℕ → ℕ → Started S → List NoteMessage → Started S
-  afterMessages most chosen s ms = fold (afterMessage most chosen) s ms
+  unfoldable pub after_messages : ℕ → ℕ → Started S → List NoteMessage → Started S
+  after_messages most chosen s ms = fold (after_message most chosen) s ms
 
   -- step 5: notes run, oldest first, each adding its outputs to the samples
   unfoldable pub run_from : List (Note S) → List Float → Rendered S
@@ -270,10 +270,10 @@ module _ {S : Type 0} (v : Voices S) where
       let r = v.run n.state mix in
       let rest = run_from ns r.mix in
       record {
-        notes = withState n r.state ∷ rest.notes;
+        notes = with_state n r.state ∷ rest.notes;
         mix = rest.mix;
       }
 
   -- each sample starts at +0
-  unfoldable pub runAll : List (Note S) → Rendered S
-  runAll ns = run_from ns (replicate samples (of_bits binary32 0))
+  unfoldable pub run_all : List (Note S) → Rendered S
+  run_all ns = run_from ns (replicate samples (of_bits binary32 0))

@@ -2,10 +2,10 @@
 use Rattle.std.specs.Prelude.{cond, List, [], ◌∷◌, ℕ, eqb}
 use Rattle.settings_records.specs.declared.InUse.{InUse}
 use Rattle.player_model.specs.Cycle.{Voices}
-use Rattle.player_model.specs.PlayerState.{PlayerState, behind, withMessages, cycled, answer_of}
-use Rattle.player_model.specs.Plain.{plainStart}
-use Rattle.player_model.specs.Calls.{numbered, Transition, takenIn, messagesTaken}
-use Rattle.player_model.specs.Set.{inForce, startingTempo, setWith}
+use Rattle.player_model.specs.PlayerState.{PlayerState, behind, with_messages, cycled, answer_of}
+use Rattle.player_model.specs.Plain.{plain_start}
+use Rattle.player_model.specs.Calls.{numbered, Transition, taken_in, messages_taken}
+use Rattle.player_model.specs.Set.{in_force, starting_tempo, set_with}
 
 -- the position at the start of the last cycle that answered 0
 pub data Reached : Type 0 where
@@ -20,28 +20,28 @@ pub record History (S : Type 0) : Type 0 where
 
 -- no line taken and no cycle run, after a fresh start with these settings
 abbrev pub unbegun : {S : Type 0} → InUse → History S
-unbegun k = record { holds = plainStart (startingTempo k) []; reached = nowhere; set = k }
+unbegun k = record { holds = plain_start (starting_tempo k) []; reached = nowhere; set = k }
 
 module _ {S : Type 0} (v : Voices S) (chosen : ℕ) where
   -- a cycle: it has no other effect than document 01's steps, and it answers 0 unless step 1 or an earlier end says 9
-  abbrev pub withCycle : History S → History S
-  withCycle h =
+  abbrev pub with_cycle : History S → History S
+  with_cycle h =
       record {
-        holds = cycled v (inForce chosen h.set) h.holds;
+        holds = cycled v (in_force chosen h.set) h.holds;
         reached = cond (eqb (answer_of h.holds) 0) (at h.holds.plays.position) h.reached;
         set = h.set;
       }
 
   -- one transition more: the lines and note messages taken wait behind the others; a change or an undo that is taken sets what the next cycle goes
   -- by; a numbered cycle call is a cycle; nothing else has an effect
-  abbrev pub withTransition : {P : Type 0} → History S → Transition P → History S
-  withTransition h m =
-      cond (numbered m.call) (withCycle h)
-      (record { holds = withMessages (messagesTaken m) (behind (takenIn m) h.holds); reached = h.reached; set = setWith h.set m })
+  abbrev pub with_transition : {P : Type 0} → History S → Transition P → History S
+  with_transition h m =
+      cond (numbered m.call) (with_cycle h)
+      (record { holds = with_messages (messages_taken m) (behind (taken_in m) h.holds); reached = h.reached; set = set_with h.set m })
 
-  unfoldable pub historyFrom : {P : Type 0} → History S → List (Transition P) → History S
-  historyFrom h [] = h
-  historyFrom h (m ∷ ms) = historyFrom (withTransition h m) ms
+  unfoldable pub history_from : {P : Type 0} → History S → List (Transition P) → History S
+  history_from h [] = h
+  history_from h (m ∷ ms) = history_from (with_transition h m) ms
 
-  abbrev pub historyOf : {P : Type 0} → InUse → List (Transition P) → History S
-  historyOf k ms = historyFrom (unbegun k) ms
+  abbrev pub history_of : {P : Type 0} → InUse → List (Transition P) → History S
+  history_of k ms = history_from (unbegun k) ms

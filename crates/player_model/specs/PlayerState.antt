@@ -2,26 +2,26 @@
 use Rattle.std.specs.Prelude.{Bool, true, false, not, ◌||◌, cond, List, [], ◌++◌, ℕ, ◌+◌, ℤ, ltb, Float}
 use Rattle.std.specs.Float.{binary32}
 use Rattle.std.specs.Float.Ieee.{of_bits}
-use Rattle.base_timebase.specs.Time.{cycleIn}
+use Rattle.base_timebase.specs.Time.{cycle_in}
 use Rattle.score_line.specs.declared.Line.{Line}
 use Rattle.midi_messages.specs.declared.NoteMessage.{NoteMessage}
 use Rattle.player_model.specs.Lists.{filter}
-use Rattle.player_model.specs.Cycle.{Voices, Note, Started, Rendered, isDue, ordered, positionLimit, anyEnd, lastTempo, started, controlled, afterMessages, runAll, limited, goesOn}
+use Rattle.player_model.specs.Cycle.{Voices, Note, Started, Rendered, is_due, ordered, position_limit, any_end, last_tempo, started, controlled, after_messages, run_all, limited, goes_on}
 
 -- what a cycle goes by
 pub record Settings : Type 0 where
   pub ceiling : ℕ
   -- the most notes that sound at once
-  pub mostNotes : ℕ
+  pub most_notes : ℕ
   -- the instrument of the keyboard's notes, by its name
   pub chosen : ℕ
 
-abbrev pub settingsOf : ℕ → ℕ → ℕ → Settings
-settingsOf ceiling most chosen = record { ceiling = ceiling; mostNotes = most; chosen = chosen }
+abbrev pub settings_of : ℕ → ℕ → ℕ → Settings
+settings_of ceiling most chosen = record { ceiling = ceiling; most_notes = most; chosen = chosen }
 
 -- tempo 60, document 01's starting tempo: that of a version 1 record
-unfoldable pub defaultTempo : Float
-defaultTempo = of_bits binary32 0x42700000
+unfoldable pub default_tempo : Float
+default_tempo = of_bits binary32 0x42700000
 
 -- what a player counts; condition 3 compares it whole
 pub record Counts : Type 0 where
@@ -53,11 +53,11 @@ pub record Due : Type 0 where
 
 -- the due lines, in order
 unfoldable pub due_at : ℕ → List Line → List Line
-due_at position waits = ordered (filter (isDue position) waits)
+due_at position waits = ordered (filter (is_due position) waits)
 
 -- and those that are not due
-unfoldable pub laterThan : ℕ → List Line → List Line
-laterThan position waits = filter (λ (l : Line). not (isDue position l)) waits
+unfoldable pub later_than : ℕ → List Line → List Line
+later_than position waits = filter (λ (l : Line). not (is_due position l)) waits
 
 module _ {S : Type 0} where
   -- lines that are taken wait behind the others
@@ -65,56 +65,56 @@ module _ {S : Type 0} where
   behind ls h = record { waits = h.waits ++ ls; messages = h.messages; plays = h.plays }
 
   -- and so do note messages
-  unfoldable pub withMessages : List NoteMessage → PlayerState S → PlayerState S
-  withMessages ms h = record { waits = h.waits; messages = h.messages ++ ms; plays = h.plays }
+  unfoldable pub with_messages : List NoteMessage → PlayerState S → PlayerState S
+  with_messages ms h = record { waits = h.waits; messages = h.messages ++ ms; plays = h.plays }
 
   -- what acts in the next cycle
-  abbrev pub dueOf : PlayerState S → Due
-  dueOf h = record { lines = due_at h.plays.position h.waits; messages = h.messages }
+  abbrev pub due_of : PlayerState S → Due
+  due_of h = record { lines = due_at h.plays.position h.waits; messages = h.messages }
 
   -- ---- step 1
 
   -- an end line is due, or the position is past the limit
-  unfoldable pub endsBy : Due → PlayingState S → Bool
-  endsBy due p = ltb positionLimit p.position || anyEnd due.lines
+  unfoldable pub ends_by : Due → PlayingState S → Bool
+  ends_by due p = ltb position_limit p.position || any_end due.lines
 
   -- the piece is ended: nothing else changes
-  unfoldable pub markedEnded : PlayingState S → PlayingState S
-  markedEnded p = record { notes = p.notes; position = p.position; tempo = p.tempo; counts = p.counts; ended = true }
+  unfoldable pub marked_ended : PlayingState S → PlayingState S
+  marked_ended p = record { notes = p.notes; position = p.position; tempo = p.tempo; counts = p.counts; ended = true }
 
   -- the number that the next cycle answers
   unfoldable pub answer_of : PlayerState S → ℕ
-  answer_of h = cond h.plays.ended 9 (cond (endsBy (dueOf h) h.plays) 9 0)
+  answer_of h = cond h.plays.ended 9 (cond (ends_by (due_of h) h.plays) 9 0)
 
 -- ---- steps 2 to 8
 
 module _ {S : Type 0} (v : Voices S) (s : Settings) where
   -- step 3
-  unfoldable pub startedOf : Due → PlayingState S → Started S
-  startedOf due p = started v s.mostNotes p.position p.notes due.lines
+  unfoldable pub started_of : Due → PlayingState S → Started S
+  started_of due p = started v s.most_notes p.position p.notes due.lines
 
   -- steps 3 and 4, and then the note messages
-  unfoldable pub notesToRun : Due → PlayingState S → Started S
-  notesToRun due p =
-      afterMessages v s.mostNotes s.chosen
-      (record { notes = controlled v (startedOf due p).notes due.lines; missed = (startedOf due p).missed }) due.messages
+  unfoldable pub notes_to_run : Due → PlayingState S → Started S
+  notes_to_run due p =
+      after_messages v s.most_notes s.chosen
+      (record { notes = controlled v (started_of due p).notes due.lines; missed = (started_of due p).missed }) due.messages
 
   -- and step 5
-  unfoldable pub renderedOf : Due → PlayingState S → Rendered S
-  renderedOf due p = runAll v (notesToRun due p).notes
+  unfoldable pub rendered_of : Due → PlayingState S → Rendered S
+  rendered_of due p = run_all v (notes_to_run due p).notes
 
   -- step 6: the block
   unfoldable pub block_of : Due → PlayingState S → List ℤ
-  block_of due p = limited s.ceiling (renderedOf due p).mix
+  block_of due p = limited s.ceiling (rendered_of due p).mix
 
   -- all of them: the notes that are over are removed, the position grows
   unfoldable pub played : Due → PlayingState S → PlayingState S
   played due p =
       record {
-        notes = filter (goesOn p.position) (renderedOf due p).notes;
-        position = p.position + cycleIn (lastTempo p.tempo due.lines);
-        tempo = lastTempo p.tempo due.lines;
-        counts = record { missed = p.counts.missed + (notesToRun due p).missed };
+        notes = filter (goes_on p.position) (rendered_of due p).notes;
+        position = p.position + cycle_in (last_tempo p.tempo due.lines);
+        tempo = last_tempo p.tempo due.lines;
+        counts = record { missed = p.counts.missed + (notes_to_run due p).missed };
         ended = false;
       }
 
@@ -122,5 +122,5 @@ module _ {S : Type 0} (v : Voices S) (s : Settings) where
   unfoldable pub cycled : PlayerState S → PlayerState S
   cycled h =
       cond h.plays.ended h
-      (cond (endsBy (dueOf h) h.plays) (record { waits = h.waits; messages = h.messages; plays = markedEnded h.plays })
-      (record { waits = laterThan h.plays.position h.waits; messages = []; plays = played (dueOf h) h.plays }))
+      (cond (ends_by (due_of h) h.plays) (record { waits = h.waits; messages = h.messages; plays = marked_ended h.plays })
+      (record { waits = later_than h.plays.position h.waits; messages = []; plays = played (due_of h) h.plays }))

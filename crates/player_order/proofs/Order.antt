@@ -7,17 +7,17 @@ use lib.ListN.{length}
 use native.Mathlib.Omega.{arith}
 use native.Mathlib.Nat.{le_antisymm}
 use lib.Ieee.{Float, eq, le}
-use Rattle.base_timebase.specs.Time.{latest, ticksIn}
+use Rattle.base_timebase.specs.Time.{latest, ticks_in}
 use Rattle.base_timebase.proofs.Order.{le_trans}
 use Rattle.base_timebase.proofs.RangesAndTicks.{ticks-grow}
 use Rattle.base_timebase.proofs.Pattern.{too-late}
 use Rattle.score_line.specs.declared.When.{When}
 use Rattle.score_line.specs.declared.Line.{Line}
 use Rattle.player_model.specs.Lists.{filter, All}
-use Rattle.player_model.specs.Cycle.{Voices, isDue, ordered}
-use Rattle.player_model.specs.PlayerState.{Settings, due_at, laterThan}
-use Rattle.player_model.specs.Plain.{plainAt}
-use Rattle.player_model.specs.Results.{Rearranged, sameTime, atTime, is_number, DueOrder}
+use Rattle.player_model.specs.Cycle.{Voices, is_due, ordered}
+use Rattle.player_model.specs.PlayerState.{Settings, due_at, later_than}
+use Rattle.player_model.specs.Plain.{plain_at}
+use Rattle.player_model.specs.Results.{Rearranged, same_time, at_time, is_number, DueOrder}
 use Rattle.player_model.proofs.Lists.{by-test, fold-keeps, all_filter}
 use Rattle.player_model.proofs.Count.{all_insert, length-onto}
 use Rattle.player_model.proofs.Order.{eq-le, eq-back, due-order, alike}
@@ -44,15 +44,15 @@ length-ordered xs = omega (arith, length-onto [] xs)
 -- a list and the same in order of time
 pub ordered_same : (xs : List Line) → SameByTime (ordered xs) xs
 unfolding DueOrder
-ordered_same xs = (due-order xs).byArrival
+ordered_same xs = (due-order xs).by_arrival
 
 pub same-ordered : (xs ys : List Line) → AllNumbers xs → AllNumbers ys → SameByTime xs ys → ordered xs ≡ ordered ys
 unfolding DueOrder
 same-ordered xs ys m n h =
     let a = due-order xs in
     let b = due-order ys in
-    alike (ordered xs) (ordered ys) (all-ordered _ xs m) (all-ordered _ ys n) a.byTime b.byTime
-    (λ w. a.byArrival w ∙ h w ∙ sym (b.byArrival w))
+    alike (ordered xs) (ordered ys) (all-ordered _ xs m) (all-ordered _ ys n) a.by_time b.by_time
+    (λ w. a.by_arrival w ∙ h w ∙ sym (b.by_arrival w))
 
 -- lines of numbered times, the same of every time
 record Alike (xs ys : List Line) : Type 0 where
@@ -64,19 +64,19 @@ alike-filter : (f : Line → Bool) (xs ys : List Line) → Alike xs ys → Alike
 alike-filter f xs ys h = record { left = all_filter f _ xs h.left; right = all_filter f _ ys h.right; same = same-filter f xs ys h.same }
 
 pub order-of-times : OrderOfTimes
-unfolding OrderOfTimes due_at laterThan
+unfolding OrderOfTimes due_at later_than
 order-of-times S v start settings xs ys m n h k =
     go-alike v start settings settings xs ys k Alike
     (record {
       settings = λ j u. refl;
       first = record { left = m; right = n; same = h };
-      due = λ j u a b r. let f = isDue (plainAt v start settings ys j).plays.position in
+      due = λ j u a b r. let f = is_due (plain_at v start settings ys j).plays.position in
           let q = alike-filter f a b r in same-ordered (filter f a) (filter f b) q.left q.right q.same;
-      rest = λ j u a b r. alike-filter (λ (l : Line). not (isDue (plainAt v start settings ys j).plays.position l)) a b r;
+      rest = λ j u a b r. alike-filter (λ (l : Line). not (is_due (plain_at v start settings ys j).plays.position l)) a b r;
     })
 
 -- the same exact time, the same ticks
-pub eq-ticks : (x y : Float) → eq x y ≡ true → ticksIn x ≡ ticksIn y
+pub eq-ticks : (x y : Float) → eq x y ≡ true → ticks_in x ≡ ticks_in y
 eq-ticks x y e =
     let f = eq-le x y e in
     let b = eq-back x y e in

@@ -5,7 +5,7 @@ use Rattle.score_line.specs.declared.Line.{Line}
 use Rattle.player_model.specs.Lists.{All}
 use Rattle.player_model.specs.Cycle.{Voices}
 use Rattle.player_model.specs.PlayerState.{Settings}
-use Rattle.player_model.specs.Results.{atTime, is_number}
+use Rattle.player_model.specs.Results.{at_time, is_number}
 use Rattle.player_order.specs.UpTo.{SameUpTo}
 
 -- every time is a number, as every time that is read is
@@ -14,7 +14,7 @@ AllNumbers ls = All (λ (l : Line). is_number l.when) ls
 
 -- of every exact time, and of no time, the same lines in the same order: the one list is a stable rearrangement of the other
 abbrev pub SameByTime : List Line → List Line → Type 0
-SameByTime xs ys = (w : When) → atTime w xs ≡ atTime w ys
+SameByTime xs ys = (w : When) → at_time w xs ≡ at_time w ys
 
 -- Then two plain players with the same settings at the same cycles show the same up to every cycle.
 unfoldable pub OrderOfTimes : Type 1

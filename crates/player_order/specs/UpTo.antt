@@ -2,8 +2,8 @@
 use Rattle.std.specs.Prelude.{◌≡◌, List, ℕ, suc, ◌≤◌, Float}
 use Rattle.score_line.specs.declared.Line.{Line}
 use Rattle.player_model.specs.Cycle.{Voices}
-use Rattle.player_model.specs.PlayerState.{Settings, dueOf}
-use Rattle.player_model.specs.Plain.{plainAt, answerAt, block_at}
+use Rattle.player_model.specs.PlayerState.{Settings, due_of}
+use Rattle.player_model.specs.Plain.{plain_at, answer_at, block_at}
 
 -- the same settings in the cycles 0 to n
 abbrev pub SameSettings : ℕ → (ℕ → Settings) → (ℕ → Settings) → Type 0
@@ -12,8 +12,8 @@ SameSettings n s t = (k : ℕ) → k ≤ n → s k ≡ t k
 -- In the cycles 0 to n of two plain players the same lines act; they answer the same and leave the same block, and what they count
 -- after each of them, and all that plays then, is the same. Counts are compared whole.
 pub record SameUpTo {S : Type 0} (v : Voices S) (start : Float) (s t : ℕ → Settings) (xs ys : List Line) (n : ℕ) : Type 0 where
-  pub answers : (k : ℕ) → k ≤ n → answerAt v start s xs k ≡ answerAt v start t ys k
-  pub due : (k : ℕ) → k ≤ n → dueOf (plainAt v start s xs k) ≡ dueOf (plainAt v start t ys k)
+  pub answers : (k : ℕ) → k ≤ n → answer_at v start s xs k ≡ answer_at v start t ys k
+  pub due : (k : ℕ) → k ≤ n → due_of (plain_at v start s xs k) ≡ due_of (plain_at v start t ys k)
   pub blocks : (k : ℕ) → k ≤ n → block_at v start s xs k ≡ block_at v start t ys k
-  pub counts : (k : ℕ) → k ≤ suc n → (plainAt v start s xs k).plays.counts ≡ (plainAt v start t ys k).plays.counts
-  pub plays : (k : ℕ) → k ≤ suc n → (plainAt v start s xs k).plays ≡ (plainAt v start t ys k).plays
+  pub counts : (k : ℕ) → k ≤ suc n → (plain_at v start s xs k).plays.counts ≡ (plain_at v start t ys k).plays.counts
+  pub plays : (k : ℕ) → k ≤ suc n → (plain_at v start s xs k).plays ≡ (plain_at v start t ys k).plays

@@ -14,8 +14,8 @@ use Rattle.base_answer.specs.declared.Answer.{Answer}
 use Rattle.base_answer.specs.declared.Answer.TheVariants.{Taken, NoInstrument, Late, NoRoom}
 use Rattle.score_line.specs.declared.Line.{Line}
 use Rattle.player_model.proofs.Lists.{cond-true, cond-false}
-use Rattle.player_queue.specs.Waiting.{isLate}
-use Rattle.player_queue.specs.Admission.{unfitEvent, mostLines, admission, pushed, admitted, waitingIn}
+use Rattle.player_queue.specs.Waiting.{is_late}
+use Rattle.player_queue.specs.Admission.{unfit_event, most_lines, admission, pushed, admitted, waiting_in}
 use Rattle.code_program.specs.declared.FieldCount.{FieldCount}
 use Rattle.player_queue.specs.declared.Queue.{Queue}
 
@@ -24,21 +24,21 @@ module _ (q : Queue) (l : Line) (f : FieldCount) where
   unfolding admitted
   by_answer a e = ap (λ (x : Answer). record { queue = cond (is_taken x) (pushed q l) q; answer = x }) e
 
-  pub admit-unfit : unfitEvent f l.count l.event ≡ true → admitted q l f ≡ record { queue = q; answer = NoInstrument }
+  pub admit-unfit : unfit_event f l.count l.event ≡ true → admitted q l f ≡ record { queue = q; answer = NoInstrument }
   unfolding admission
   admit-unfit a = by_answer NoInstrument (cond-true _ _ a)
 
-  pub admit-late : unfitEvent f l.count l.event ≡ false → isLate q.ran q.last l.when ≡ true
+  pub admit-late : unfit_event f l.count l.event ≡ false → is_late q.ran q.last l.when ≡ true
       → admitted q l f ≡ record { queue = q; answer = Late }
   unfolding admission
   admit-late a b = by_answer Late (cond-false _ _ a ∙ cond-true _ _ b)
 
-  pub admit-taken : unfitEvent f l.count l.event ≡ false → isLate q.ran q.last l.when ≡ false → q.count < 64
+  pub admit-taken : unfit_event f l.count l.event ≡ false → is_late q.ran q.last l.when ≡ false → q.count < 64
       → admitted q l f ≡ record { queue = pushed q l; answer = Taken }
   unfolding admission
   admit-taken a b c = by_answer Taken (cond-false _ _ a ∙ cond-false _ _ b ∙ cond-true _ _ (lt-ltb q.count 64 c))
 
-  pub admit-full : unfitEvent f l.count l.event ≡ false → isLate q.ran q.last l.when ≡ false → 64 ≤ q.count
+  pub admit-full : unfit_event f l.count l.event ≡ false → is_late q.ran q.last l.when ≡ false → 64 ≤ q.count
       → admitted q l f ≡ record { queue = q; answer = NoRoom }
   unfolding admission
   admit-full a b c = by_answer NoRoom (cond-false _ _ a ∙ cond-false _ _ b ∙ cond-false _ _ (le-ltb q.count 64 c))
@@ -55,15 +55,15 @@ module _ (q : Queue) (l : Line) (f : FieldCount) where
 
   pub taken-room : is_taken (admitted q l f).answer ≡ true → q.count < 64
   unfolding admitted admission
-  taken-room e = go (unfitEvent f l.count l.event) (isLate q.ran q.last l.when) (ltb q.count mostLines) refl e
+  taken-room e = go (unfit_event f l.count l.event) (is_late q.ran q.last l.when) (ltb q.count most_lines) refl e
     where
-      go : (a b c : Bool) → ltb q.count mostLines ≡ c → is_taken (cond a NoInstrument (cond b Late (cond c Taken NoRoom))) ≡ true → q.count < 64
+      go : (a b c : Bool) → ltb q.count most_lines ≡ c → is_taken (cond a NoInstrument (cond b Late (cond c Taken NoRoom))) ≡ true → q.count < 64
       go true b c h e = absurd (let z : ◌≡◌ {A = ℕ} 0 1 = cc in omega arith)
       go false true c h e = absurd (let z : ◌≡◌ {A = ℕ} 0 1 = cc in omega arith)
-      go false false true h e = ltb-true q.count mostLines h
+      go false false true h e = ltb-true q.count most_lines h
       go false false false h e = absurd (let z : ◌≡◌ {A = ℕ} 0 1 = cc in omega arith)
 
-  pub waiting-pushed : length q.lines ≡ 64 → q.count < 64 → waitingIn (pushed q l) ≡ waitingIn q ++ (l ∷ [])
+  pub waiting-pushed : length q.lines ≡ 64 → q.count < 64 → waiting_in (pushed q l) ≡ waiting_in q ++ (l ∷ [])
   unfolding pushed
   waiting-pushed long room = rw add-one (take-suc-set q.lines q.count l (omega arith))
 

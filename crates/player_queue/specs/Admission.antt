@@ -6,34 +6,34 @@ use Rattle.base_answer.specs.declared.Answer.TheVariants.{Taken, NoInstrument, L
 use Rattle.score_line.specs.declared.Event.{Event}
 use Rattle.score_line.specs.declared.Event.TheVariants.{Instr, Control, End, Tempo}
 use Rattle.score_line.specs.declared.Line.{Line}
-use Rattle.player_queue.specs.Waiting.{isLate}
+use Rattle.player_queue.specs.Waiting.{is_late}
 use Rattle.code_program.specs.declared.FieldCount.{FieldCount}
 use Rattle.code_program.specs.declared.FieldCount.TheVariants.{Count, NoSuch}
 use Rattle.player_queue.specs.declared.Queue.{Queue}
 use Rattle.player_queue.specs.declared.Admitted.{Admitted}
 
 -- no such instrument, or more values than it has fields
-abbrev pub tooMany : FieldCount → ℕ → Bool
-tooMany (Count n) values = ltb n values
-tooMany NoSuch values = true
+abbrev pub too_many : FieldCount → ℕ → Bool
+too_many (Count n) values = ltb n values
+too_many NoSuch values = true
 
 -- instr lines alone
-abbrev pub unfitEvent : FieldCount → ℕ → Event → Bool
-unfitEvent f values (Instr label i d) = tooMany f values
-unfitEvent f values (Control label x value) = false
-unfitEvent f values End = false
-unfitEvent f values (Tempo t) = false
+abbrev pub unfit_event : FieldCount → ℕ → Event → Bool
+unfit_event f values (Instr label i d) = too_many f values
+unfit_event f values (Control label x value) = false
+unfit_event f values End = false
+unfit_event f values (Tempo t) = false
 
 -- most lines that wait
-abbrev pub mostLines : ℕ
-mostLines = 64
+abbrev pub most_lines : ℕ
+most_lines = 64
 
 -- 4, then 7, then 8
 unfoldable pub admission : Queue → Line → FieldCount → Answer
 admission q l f =
-    cond (unfitEvent f l.count l.event) NoInstrument
-    (cond (isLate q.ran q.last l.when) Late
-    (cond (ltb q.count mostLines) Taken
+    cond (unfit_event f l.count l.event) NoInstrument
+    (cond (is_late q.ran q.last l.when) Late
+    (cond (ltb q.count most_lines) Taken
     NoRoom))
 
 -- one line more behind the others
@@ -45,5 +45,5 @@ unfoldable pub admitted : Queue → Line → FieldCount → Admitted
 admitted q l f = record { queue = cond (is_taken (admission q l f)) (pushed q l) q; answer = admission q l f }
 
 -- the lines that wait
-abbrev pub waitingIn : Queue → List Line
-waitingIn q = take q.count q.lines
+abbrev pub waiting_in : Queue → List Line
+waiting_in q = take q.count q.lines

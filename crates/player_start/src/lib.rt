@@ -2,8 +2,8 @@
 ghost use Rattle.std.specs.Prelude.{◌≡◌, [], pos};
 ghost use Rattle.std.specs.Float.{binary32};
 ghost use Rattle.std.specs.Float.Ieee.{of_int};
-ghost use Rattle.code_loader.specs.Loading.{load_of as loadedFrom};
-ghost use Rattle.player_start.specs.Starting.{start_of, refusedStart, hasChosen, startingOf, areaStarted};
+ghost use Rattle.code_loader.specs.Loading.{load_of as loaded_from};
+ghost use Rattle.player_start.specs.Starting.{start_of, refused_start, has_chosen, starting_of, area_started};
 
 use base_answer::Answer;
 use code_program::{Instruments, Program};
@@ -43,7 +43,7 @@ fn begin(program: Program, settings: InUse, chosen: u16, ended: bool, answer: An
 
 // The program of no orchestra, for a start whose orchestra is not looked at.
 fn empty_program() -> Program
-    ensures { result ≡ (loadedFrom []).program }
+    ensures { result ≡ (loaded_from []).program }
 {
     let none = [0u8; 1];
     let read = code_loader::load(&none[..0]);
@@ -52,14 +52,14 @@ fn empty_program() -> Program
 
 // A refused start is one that has ended: every call on it answers 9.
 fn refused(program: Program, answer: Answer) -> Start
-    ensures { result ≡ refusedStart program answer }
+    ensures { result ≡ refused_start program answer }
 {
     begin(program, settings_records::none_in_use(), 0, true, answer)
 }
 
 // Whether a program has the chosen instrument.
 fn has_chosen(program: Program, chosen: u16) -> bool
-    ensures { result ≡ hasChosen program chosen }
+    ensures { result ≡ has_chosen program chosen }
 {
     let table = program.table;
     let f = code_program::find(
@@ -75,8 +75,8 @@ fn has_chosen(program: Program, chosen: u16) -> bool
 // The start of an orchestra's bytes and a first settings record, which goes into the lent area, with the instrument that is chosen for the
 // keyboard; or a refusal, of the record, of the orchestra or of the choice, and nothing is written.
 pub fn fresh_start(orchestra: &[u8], area: &mut [u8], first: &[u8], chosen: u16) -> Start
-    ensures start { result ≡ startingOf orchestra.now area.old first.now chosen }
-    ensures area { area.new ≡ areaStarted orchestra.now area.old first.now chosen }
+    ensures start { result ≡ starting_of orchestra.now area.old first.now chosen }
+    ensures area { area.new ≡ area_started orchestra.now area.old first.now chosen }
 {
     let judged = settings_records::judge(settings_records::none_in_use(), area, first);
     let fault = judged.answer;

@@ -2,9 +2,9 @@
 // idle cycle (document 01, "One cycle, in order").
 ghost use Rattle.std.specs.Prelude.{◌≡◌, ◌||◌, ◌≤◌, ◌+◌, min, ltb, take};
 ghost use Rattle.engine_limiter.specs.Block.{limited};
-ghost use Rattle.player_model.specs.Cycle.{positionLimit, anyEnd};
-ghost use Rattle.player_model.specs.inside.PlayerState.{mostCounted};
-ghost use Rattle.player_state.specs.States.{queueAfter, usedOf, isIdleNow, afterIdle, silence};
+ghost use Rattle.player_model.specs.Cycle.{position_limit, any_end};
+ghost use Rattle.player_model.specs.inside.PlayerState.{most_counted};
+ghost use Rattle.player_state.specs.States.{queue_after, used_of, is_idle_now, after_idle, silence};
 
 use midi_queue::MessageQueue;
 use note_pool::Notes;
@@ -44,7 +44,7 @@ const MOST_COUNTED: u64 = 18446744073709551615;
 
 // The count of missed notes stops at the largest number.
 pub fn add_missed(missed: u64, more: usize) -> u64
-    ensures { result ≡ min (missed + more) mostCounted }
+    ensures { result ≡ min (missed + more) most_counted }
 {
     let m = more as u64;
     if missed <= MOST_COUNTED - m {
@@ -56,7 +56,7 @@ pub fn add_missed(missed: u64, more: usize) -> u64
 
 // Step 1: an end line is due, or the position is past the limit.
 pub fn ends_piece(position: u64, due: Lines) -> bool
-    ensures { result ≡ (ltb positionLimit position || anyEnd (take due.count due.lines)) }
+    ensures { result ≡ (ltb position_limit position || any_end (take due.count due.lines)) }
 {
     if POSITION_LIMIT < position {
         return true;
@@ -67,7 +67,7 @@ pub fn ends_piece(position: u64, due: Lines) -> bool
 
 // The lines that are not due stay; a cycle has run at this position.
 pub fn queue_after_cycle(q: Queue, position: u64) -> Queue
-    ensures { result ≡ queueAfter position q }
+    ensures { result ≡ queue_after position q }
 {
     let lines = q.lines;
     let k = player_queue::not_due(lines, q.count, position);
@@ -82,7 +82,7 @@ pub fn queue_after_cycle(q: Queue, position: u64) -> Queue
 
 // Note messages that have acted wait no more.
 pub fn emptied(keys: MessageQueue) -> MessageQueue
-    ensures { result ≡ usedOf keys }
+    ensures { result ≡ used_of keys }
 {
     let list = keys.list;
     MessageQueue {
@@ -93,7 +93,7 @@ pub fn emptied(keys: MessageQueue) -> MessageQueue
 
 // Whether a cycle is one of rest: no line is due, no note message waits and no note sounds.
 pub fn is_idle(s: State) -> bool
-    ensures { result ≡ isIdleNow s }
+    ensures { result ≡ is_idle_now s }
 {
     let position = s.playing.position;
     if POSITION_LIMIT < position {
@@ -112,8 +112,8 @@ pub fn is_idle(s: State) -> bool
 
 // An idle cycle: silence, and the clock goes on. Nothing large is copied.
 pub fn idle_cycle(mut s: State, ceiling: u16, block: &mut [i16]) -> State
-    requires { s.playing.position ≤ positionLimit }
-    ensures state { result ≡ afterIdle s }
+    requires { s.playing.position ≤ position_limit }
+    ensures state { result ≡ after_idle s }
     ensures block { block.new ≡ limited ceiling silence block.old }
 {
     let mix = [0.0f32; 320];

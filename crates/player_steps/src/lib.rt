@@ -1,12 +1,12 @@
 // Steps 2 to 8 of a cycle, on what plays (document 01, "One cycle, in order").
 ghost use Rattle.std.specs.Prelude.{◌≡◌, ◌≤◌};
 ghost use Rattle.engine_limiter.specs.Block.{limited};
-ghost use Rattle.player_model.specs.Cycle.{positionLimit};
-ghost use Rattle.player_model.specs.PlayerState.{renderedOf};
-ghost use Rattle.code_program.specs.InstrumentTable.{instrumentsOf};
+ghost use Rattle.player_model.specs.Cycle.{position_limit};
+ghost use Rattle.player_model.specs.PlayerState.{rendered_of};
+ghost use Rattle.code_program.specs.InstrumentTable.{instruments_of};
 ghost use Rattle.voices_compiled.specs.Voices.{voices};
-ghost use Rattle.player_state.specs.Playing.{playingStateOf, settingsIn};
-ghost use Rattle.player_steps.specs.Steps.{dueIn, performedOf, advanced};
+ghost use Rattle.player_state.specs.Playing.{playing_state_of, settings_in};
+ghost use Rattle.player_steps.specs.Steps.{due_in, performed_of, advanced};
 
 use code_program::Instruments;
 use midi_queue::MessageQueue;
@@ -38,9 +38,9 @@ fn perform<'a>(
     settings: Settings,
     block: &mut [i16],
 ) -> Performed
-    requires { p.position ≤ positionLimit }
-    ensures notes { result ≡ performedOf (voices (instrumentsOf instruments) code.now vals.now) (settingsIn settings) (dueIn due) p }
-    ensures block { block.new ≡ limited settings.ceiling (renderedOf (voices (instrumentsOf instruments) code.now vals.now) (settingsIn settings) (dueIn due) (playingStateOf p)).mix block.old }
+    requires { p.position ≤ position_limit }
+    ensures notes { result ≡ performed_of (voices (instruments_of instruments) code.now vals.now) (settings_in settings) (due_in due) p }
+    ensures block { block.new ≡ limited settings.ceiling (rendered_of (voices (instruments_of instruments) code.now vals.now) (settings_in settings) (due_in due) (playing_state_of p)).mix block.old }
 {
     let most = base_numbers::at_most(settings.notes as usize, note_pool::MOST_NOTES);
     let old = p.notes;
@@ -111,9 +111,9 @@ pub fn advance<'a>(
     settings: Settings,
     block: &mut [i16],
 ) -> Playing
-    requires { p.position ≤ positionLimit }
-    ensures playing { result ≡ advanced (voices (instrumentsOf instruments) code.now vals.now) (settingsIn settings) (dueIn due) p }
-    ensures block { block.new ≡ limited settings.ceiling (renderedOf (voices (instrumentsOf instruments) code.now vals.now) (settingsIn settings) (dueIn due) (playingStateOf p)).mix block.old }
+    requires { p.position ≤ position_limit }
+    ensures playing { result ≡ advanced (voices (instruments_of instruments) code.now vals.now) (settings_in settings) (due_in due) p }
+    ensures block { block.new ≡ limited settings.ceiling (rendered_of (voices (instruments_of instruments) code.now vals.now) (settings_in settings) (due_in due) (playing_state_of p)).mix block.old }
 {
     let position = p.position;
     let acting = due.lines;

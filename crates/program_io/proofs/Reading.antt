@@ -4,7 +4,7 @@ use borrow.Author.Tests.{lt-leb}
 use lib.ListN.{get_or-eq_default}
 use lib.Seq.{set_at}
 use Rattle.program_io.specs.Bytes.{word_at, words_of}
-use Rattle.program_io.specs.Decimal.{isDigit, digitsAfter}
+use Rattle.program_io.specs.Decimal.{is_digit, digits_after}
 
 pub word-is : (l : List ℕ) (at : ℕ) {a b c d x y z : ℕ} → a ≡ get_or l (at + 0) 0 → b ≡ get_or l (at + 1) 0 → c ≡ get_or l (at + 2) 0
     → d ≡ get_or l (at + 3) 0 → x ≡ a * 256 + b → y ≡ x * 256 + c → z ≡ y * 256 + d → z ≡ word_at l at
@@ -68,39 +68,39 @@ past_end l n h = sym (get_or-eq_default l 0 h)
 
 -- a loop over the digits of a text: those that are left give what the whole text gives
 pub record Digits (text : List ℕ) (n i : ℕ) : Type 0 where
-  pub rest : digitsAfter n (drop i text) ≡ digitsAfter 0 text
+  pub rest : digits_after n (drop i text) ≡ digits_after 0 text
 
 pub digits-start : (text : List ℕ) → Digits text 0 0
 digits-start text = record { rest = refl }
 
-pub digits-end : {n i : ℕ} {text : List ℕ} → Digits text n i → length text ≤ i → n ≡ digitsAfter 0 text
-unfolding digitsAfter
-digits-end {n} {i} {text} d h = sym (ap (digitsAfter n) (drop_of_length-le text h)) ∙ d.rest
+pub digits-end : {n i : ℕ} {text : List ℕ} → Digits text n i → length text ≤ i → n ≡ digits_after 0 text
+unfolding digits_after
+digits-end {n} {i} {text} d h = sym (ap (digits_after n) (drop_of_length-le text h)) ∙ d.rest
 
 module _ {n i b : ℕ} {text : List ℕ} (d : Digits text n i) (h : i < length text) (r : b ≡ get_or text i 0) where
-  here : digitsAfter n (drop i text) ≡ cond (isDigit b && ltb n 100000000) (digitsAfter (n * 10 + (b - 48)) (drop (suc i) text)) 0
-  unfolding digitsAfter
+  here : digits_after n (drop i text) ≡ cond (is_digit b && ltb n 100000000) (digits_after (n * 10 + (b - 48)) (drop (suc i) text)) 0
+  unfolding digits_after
   here =
-      ap (digitsAfter n) (drop-cons text i 0 h)
-      ∙ ap (λ x. cond (isDigit x && ltb n 100000000) (digitsAfter (n * 10 + (x - 48)) (drop (suc i) text)) 0) (sym r)
+      ap (digits_after n) (drop-cons text i 0 h)
+      ∙ ap (λ x. cond (is_digit x && ltb n 100000000) (digits_after (n * 10 + (x - 48)) (drop (suc i) text)) 0) (sym r)
 
-  pub low-stops : b < 48 → 0 ≡ digitsAfter 0 text
-  unfolding isDigit
+  pub low-stops : b < 48 → 0 ≡ digits_after 0 text
+  unfolding is_digit
   low-stops l = sym (here ∙ rw (lt-leb 48 b l)) ∙ d.rest
 
-  pub high-stops : 48 ≤ b → 57 < b → 0 ≡ digitsAfter 0 text
-  unfolding isDigit
+  pub high-stops : 48 ≤ b → 57 < b → 0 ≡ digits_after 0 text
+  unfolding is_digit
   high-stops l g = sym (here ∙ rw (le-leb 48 b l, lt-leb b 57 g)) ∙ d.rest
 
-  pub long-stops : 48 ≤ b → b ≤ 57 → 99999999 < n → 0 ≡ digitsAfter 0 text
-  unfolding isDigit
+  pub long-stops : 48 ≤ b → b ≤ 57 → 99999999 < n → 0 ≡ digits_after 0 text
+  unfolding is_digit
   long-stops l g m = sym (here ∙ rw (le-leb 48 b l, le-leb b 57 g, le-ltb n 100000000 (omega arith))) ∙ d.rest
 
   pub digit-again : 48 ≤ b → b ≤ 57 → n ≤ 99999999 → Digits text (n * 10 + (b - 48)) (i + 1)
-  unfolding isDigit
+  unfolding is_digit
   digit-again l g m =
       record {
         rest =
-            ap (λ k. digitsAfter (n * 10 + (b - 48)) (drop k text)) (add-one i)
+            ap (λ k. digits_after (n * 10 + (b - 48)) (drop k text)) (add-one i)
             ∙ sym (here ∙ rw (le-leb 48 b l, le-leb b 57 g, lt-ltb n 100000000 (omega arith))) ∙ d.rest;
       }

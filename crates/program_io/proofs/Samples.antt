@@ -1,7 +1,7 @@
 -- A sample raised by 32,768 is a whole number of 16 bits; its bits; a checksum over samples.
 use Rattle.std.proofs.Common.{◌≡◌, ℕ, suc, ◌+◌, ◌*◌, ◌%◌, ◌<◌, ◌≤◌, false, T, ltb, List, length, get_or, drop, ℤ, pos, negsuc, ◌+ℤ◌, nat_abs, sym, refl, ap, ◌∙◌, add-one, arith, drop_of_length-le, drop-cons, to_z-of_z, w16, w32, Fits, SFits, to_z, of_z, le-ltb}
 use lib.Signed.{non_neg}
-use Rattle.program_io.specs.Bytes.{sampleBits, checksum}
+use Rattle.program_io.specs.Bytes.{sample_bits, checksum}
 use mir.Facts.{sfits_widen}
 
 pub record Raised (s : ℤ) : Type 0 where
@@ -38,20 +38,20 @@ module _ (z : ℤ) (f : SFits w16 z) where
 -- ---- the 16 bits of a sample
 
 -- raised by 32,768 and lowered again, modulo 65,536
-pub bits_are : (z : ℤ) → SFits w16 z → (nat_abs (z +ℤ pos 32768) % 65536 + 32768) % 65536 ≡ sampleBits z
-unfolding sampleBits
+pub bits_are : (z : ℤ) → SFits w16 z → (nat_abs (z +ℤ pos 32768) % 65536 + 32768) % 65536 ≡ sample_bits z
+unfolding sample_bits
 bits_are (pos n) f = omega (arith, f.sfits)
 bits_are (negsuc n) f =
     let e : ltb 32768 (suc n) ≡ false = le-ltb 32768 (suc n) (omega (arith, f.sfits)) in
     rw e (omega (arith, f.sfits))
 
 pub bits-come : (z : ℤ) → SFits w16 z
-    → (nat_abs (to_z w32 (of_z w32 (to_z w32 (of_z w32 (to_z w16 (of_z w16 z))) +ℤ pos 32768))) % 65536 + 32768) % 65536 ≡ sampleBits z
+    → (nat_abs (to_z w32 (of_z w32 (to_z w32 (of_z w32 (to_z w16 (of_z w16 z))) +ℤ pos 32768))) % 65536 + 32768) % 65536 ≡ sample_bits z
 bits-come z f = ap (λ x. (nat_abs x % 65536 + 32768) % 65536) (back z f) ∙ bits_are z f
 
 -- a sample as it is read from a slice
-pub bits-read : {z : ℤ} → SFits w16 z → sampleBits (to_z w16 (of_z w16 z)) ≡ sampleBits z
-bits-read f = ap sampleBits (to_z-of_z f)
+pub bits-read : {z : ℤ} → SFits w16 z → sample_bits (to_z w16 (of_z w16 z)) ≡ sample_bits z
+bits-read f = ap sample_bits (to_z-of_z f)
 
 -- a loop over samples: those that are left give what all give
 pub record Summing (sum : ℕ) (s : List ℤ) (n i : ℕ) : Type 0 where
@@ -64,7 +64,7 @@ pub sums-end : {sum n i : ℕ} {s : List ℤ} → Summing sum s n i → length s
 unfolding checksum
 sums-end {n = n} {s = s} d h = sym (ap (checksum n) (drop_of_length-le s h)) ∙ d.rest
 
-pub sums-again : {sum n i v : ℕ} {s : List ℤ} → Summing sum s n i → i < length s → v ≡ sampleBits (get_or s i (pos 0))
+pub sums-again : {sum n i v : ℕ} {s : List ℤ} → Summing sum s n i → i < length s → v ≡ sample_bits (get_or s i (pos 0))
     → Summing sum s (n % 67108864 * 61 + v) (i + 1)
 unfolding checksum
 sums-again {n = n} {i} {v} {s} d h e =

@@ -3,18 +3,18 @@ use Rattle.std.specs.Prelude.{◌≡◌, ℕ, zero, suc, ◌+◌, ◌-◌, ◌*�
 use Rattle.std.proofs.lemmas.List.Edits.{sets}
 
 -- a number as n bytes, the most significant first, and the least significant first
-unfoldable pub bigEndian : ℕ → ℕ → List ℕ
-bigEndian zero v = []
-bigEndian (suc n) v = bigEndian n (v / 256) ++ (v % 256 ∷ [])
+unfoldable pub big_endian : ℕ → ℕ → List ℕ
+big_endian zero v = []
+big_endian (suc n) v = big_endian n (v / 256) ++ (v % 256 ∷ [])
 
-unfoldable pub littleEndian : ℕ → ℕ → List ℕ
-littleEndian zero v = []
-littleEndian (suc n) v = v % 256 ∷ littleEndian n (v / 256)
+unfoldable pub little_endian : ℕ → ℕ → List ℕ
+little_endian zero v = []
+little_endian (suc n) v = v % 256 ∷ little_endian n (v / 256)
 
 -- the 16 bits of a sample, as a number: negsuc n is -(n + 1)
-unfoldable pub sampleBits : ℤ → ℕ
-sampleBits (pos n) = n
-sampleBits (negsuc n) = 65535 - n
+unfoldable pub sample_bits : ℤ → ℕ
+sample_bits (pos n) = n
+sample_bits (negsuc n) = 65535 - n
 
 -- what each element gives, one behind the other
 unfoldable pub joined : {A : Type 0} → (A → List ℕ) → List A → List ℕ
@@ -41,11 +41,11 @@ words_of l zero = []
 words_of l (suc n) = words_of l n ++ (word_at l (4 * n) ∷ [])
 
 -- a number that two bytes hold, else 0
-unfoldable pub inTwoBytes : ℕ → ℕ
-inTwoBytes n = cond (nat_lt n 65536) n 0
+unfoldable pub in_two_bytes : ℕ → ℕ
+in_two_bytes n = cond (nat_lt n 65536) n 0
 
 -- a checksum carried on over samples
 unfoldable pub checksum : ℕ → List ℤ → ℕ
-unfolding sampleBits
+unfolding sample_bits
 checksum sum [] = sum
-checksum sum (s ∷ rest) = checksum (sum % 67108864 * 61 + sampleBits s) rest
+checksum sum (s ∷ rest) = checksum (sum % 67108864 * 61 + sample_bits s) rest

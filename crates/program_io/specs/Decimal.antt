@@ -2,15 +2,15 @@
 use Rattle.std.specs.Prelude.{ℕ, ◌+◌, ◌-◌, ◌*◌, Bool, cond, ◌&&◌, List, [], ◌∷◌, nat_le, nat_lt}
 
 -- the character of a digit, from '0' to '9'
-unfoldable pub isDigit : ℕ → Bool
-isDigit b = nat_le 48 b && nat_le b 57
+unfoldable pub is_digit : ℕ → Bool
+is_digit b = nat_le 48 b && nat_le b 57
 
 -- what the digits mean behind a number that was read before them; 0 where a character is no digit, or the number grows past nine digits
-unfoldable pub digitsAfter : ℕ → List ℕ → ℕ
-unfolding isDigit
-digitsAfter n [] = n
-digitsAfter n (b ∷ rest) = cond (isDigit b && nat_lt n 100000000) (digitsAfter (n * 10 + (b - 48)) rest) 0
+unfoldable pub digits_after : ℕ → List ℕ → ℕ
+unfolding is_digit
+digits_after n [] = n
+digits_after n (b ∷ rest) = cond (is_digit b && nat_lt n 100000000) (digits_after (n * 10 + (b - 48)) rest) 0
 
 -- the number of at most nine digits that a text is, else 0
 abbrev pub decimal : List ℕ → ℕ
-decimal text = digitsAfter 0 text
+decimal text = digits_after 0 text

@@ -1,9 +1,9 @@
 // Numbers in lent memory, a number from a text, and standard input and output in large pieces.
 // All functions are total: past the end of a buffer nothing is stored, and zeros are read.
 ghost use Rattle.std.specs.Prelude.{◌≡◌, ◌+◌, ◌*◌, ◌<◌, [], ◌∷◌, length, slice_index};
-ghost use Rattle.program_io.specs.Bytes.{bigEndian, littleEndian, sampleBits as bits_of, joined, Put, symbol_at, word_at, words_of, checksum, inTwoBytes};
-ghost use Rattle.settings_records.specs.Form.{encoded, versionOne};
-ghost use Rattle.program_io.specs.Decimal.{digitsAfter, decimal};
+ghost use Rattle.program_io.specs.Bytes.{big_endian, little_endian, sample_bits as bits_of, joined, Put, symbol_at, word_at, words_of, checksum, in_two_bytes};
+ghost use Rattle.settings_records.specs.Form.{encoded, version_one};
+ghost use Rattle.program_io.specs.Decimal.{digits_after, decimal};
 
 // ---- numbers in lent memory
 
@@ -59,14 +59,14 @@ pub fn first_instrument(orchestra: &[u8]) -> u16
 
 // A number that two bytes hold; 0, which is no ceiling, in place of a larger one.
 fn in_two_bytes(n: u32) -> u16
-    ensures { result ≡ inTwoBytes n }
+    ensures { result ≡ in_two_bytes n }
 {
     if n < 65536 { n as u16 } else { 0 }
 }
 
 // The settings record that a program starts a panel with: version 1, this ceiling, 16 notes.
 pub fn settings_record(ceiling: u32) -> [u8; 6]
-    ensures { result ≡ encoded (versionOne (inTwoBytes ceiling) 16) }
+    ensures { result ≡ encoded (version_one (in_two_bytes ceiling) 16) }
 {
     let c = in_two_bytes(ceiling);
     [0, 4, 1, (c / 256) as u8, (c % 256) as u8, 16]
@@ -84,21 +84,21 @@ pub fn put_byte(out: &mut [u8], at: usize, b: u8) -> usize
 }
 
 pub fn put_half(out: &mut [u8], at: usize, v: u16) -> usize
-    ensures { Put out.old at (bigEndian 2 v) out.new result }
+    ensures { Put out.old at (big_endian 2 v) out.new result }
 {
     let next = put_byte(out, at, (v / 256) as u8);
     put_byte(out, next, (v % 256) as u8)
 }
 
 pub fn put_word(out: &mut [u8], at: usize, v: u32) -> usize
-    ensures { Put out.old at (bigEndian 4 v) out.new result }
+    ensures { Put out.old at (big_endian 4 v) out.new result }
 {
     let next = put_half(out, at, (v / 65536) as u16);
     put_half(out, next, (v % 65536) as u16)
 }
 
 pub fn put_long(out: &mut [u8], at: usize, v: u64) -> usize
-    ensures { Put out.old at (bigEndian 8 v) out.new result }
+    ensures { Put out.old at (big_endian 8 v) out.new result }
 {
     let next = put_word(out, at, (v / 4294967296) as u32);
     put_word(out, next, (v % 4294967296) as u32)
@@ -106,14 +106,14 @@ pub fn put_long(out: &mut [u8], at: usize, v: u64) -> usize
 
 // The same with the low byte first, as a WAV file has them.
 pub fn put_little_half(out: &mut [u8], at: usize, v: u16) -> usize
-    ensures { Put out.old at (littleEndian 2 v) out.new result }
+    ensures { Put out.old at (little_endian 2 v) out.new result }
 {
     let next = put_byte(out, at, (v % 256) as u8);
     put_byte(out, next, (v / 256) as u8)
 }
 
 pub fn put_little_word(out: &mut [u8], at: usize, v: u32) -> usize
-    ensures { Put out.old at (littleEndian 4 v) out.new result }
+    ensures { Put out.old at (little_endian 4 v) out.new result }
 {
     let next = put_little_half(out, at, (v % 65536) as u16);
     put_little_half(out, next, (v / 65536) as u16)
@@ -142,7 +142,7 @@ pub fn put_bytes(out: &mut [u8], at: usize, s: &[u8]) -> usize
 }
 
 pub fn put_words(out: &mut [u8], at: usize, s: &[u32]) -> usize
-    ensures { Put out.old at (joined (bigEndian 4) s.now) out.new result }
+    ensures { Put out.old at (joined (big_endian 4) s.now) out.new result }
 {
     let mut next = at;
     let mut i: usize = 0;
@@ -154,7 +154,7 @@ pub fn put_words(out: &mut [u8], at: usize, s: &[u32]) -> usize
 }
 
 pub fn put_samples(out: &mut [u8], at: usize, s: &[i16]) -> usize
-    ensures { Put out.old at (joined (λ v. bigEndian 2 (bits_of v)) s.now) out.new result }
+    ensures { Put out.old at (joined (λ v. big_endian 2 (bits_of v)) s.now) out.new result }
 {
     let mut next = at;
     let mut i: usize = 0;
@@ -166,7 +166,7 @@ pub fn put_samples(out: &mut [u8], at: usize, s: &[i16]) -> usize
 }
 
 pub fn put_little_samples(out: &mut [u8], at: usize, s: &[i16]) -> usize
-    ensures { Put out.old at (joined (λ v. littleEndian 2 (bits_of v)) s.now) out.new result }
+    ensures { Put out.old at (joined (λ v. little_endian 2 (bits_of v)) s.now) out.new result }
 {
     let mut next = at;
     let mut i: usize = 0;

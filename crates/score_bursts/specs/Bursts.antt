@@ -10,12 +10,12 @@ pub data Burst : Type 0 where
   fault : Answer → Burst
 
 -- the most units of a burst
-abbrev pub mostUnits : ℕ
-mostUnits = 32
+abbrev pub most_units : ℕ
+most_units = 32
 
 -- the two bytes of a length
-abbrev pub sixteenBits : ℕ → ℕ → ℕ
-sixteenBits high low = 256 * high + low
+abbrev pub sixteen_bits : ℕ → ℕ → ℕ
+sixteen_bits high low = 256 * high + low
 
 -- a unit before the rest of a burst; of a burst with a fault nothing is kept
 unfoldable pub before : List ℕ → Burst → Burst
@@ -26,14 +26,14 @@ before u (fault a) = fault a
 pub data Parses : ℕ → List ℕ → Burst → Type 0 where
   nothing : {n : ℕ} → Parses n [] (units [])
   -- a unit's length, its bytes, and the rest
-  unit : {n high low : ℕ} (u : List ℕ) {rest : List ℕ} (b : Burst) → sixteenBits high low ≡ length u → Parses n rest b → Parses (suc n) (high ∷ low ∷ (u ++ rest)) (before u b)
+  unit : {n high low : ℕ} (u : List ℕ) {rest : List ℕ} (b : Burst) → sixteen_bits high low ≡ length u → Parses n rest b → Parses (suc n) (high ∷ low ∷ (u ++ rest)) (before u b)
   -- cut in a length, or behind it: fewer bytes than it says
-  cutLength : {n high : ℕ} → Parses (suc n) (high ∷ []) (fault CutShort)
-  cutUnit : {n high low : ℕ} {part : List ℕ} → length part < sixteenBits high low → Parses (suc n) (high ∷ low ∷ part) (fault CutShort)
+  cut_length : {n high : ℕ} → Parses (suc n) (high ∷ []) (fault CutShort)
+  cut_unit : {n high low : ℕ} {part : List ℕ} → length part < sixteen_bits high low → Parses (suc n) (high ∷ low ∷ part) (fault CutShort)
   -- any byte where no unit may come
-  tooMany : {b : ℕ} {bs : List ℕ} → Parses 0 (b ∷ bs) (fault TooManyValues)
+  too_many : {b : ℕ} {bs : List ℕ} → Parses 0 (b ∷ bs) (fault TooManyValues)
 
 -- the units that a burst is, none where it has a fault
-abbrev pub unitsIn : Burst → List (List ℕ)
-unitsIn (units us) = us
-unitsIn (fault a) = []
+abbrev pub units_in : Burst → List (List ℕ)
+units_in (units us) = us
+units_in (fault a) = []

@@ -1,7 +1,7 @@
 // A burst's bytes: up to 32 access units, each behind its 16-bit length (document 02, M-103).
 ghost use Rattle.std.specs.Prelude.{◌≡◌, drop};
-ghost use Rattle.score_bursts.specs.Bursts.{sixteenBits};
-ghost use Rattle.score_bursts.specs.inside.Reading.{burstOf, scanOf, length_at};
+ghost use Rattle.score_bursts.specs.Bursts.{sixteen_bits};
+ghost use Rattle.score_bursts.specs.inside.Reading.{burst_of, scan_of, length_at};
 
 use base_answer::Answer;
 
@@ -19,7 +19,7 @@ pub const LENGTH_BYTES: usize = 2;
 
 // The length that two bytes are.
 fn length_of(high: u8, low: u8) -> usize
-    ensures { result ≡ sixteenBits high low }
+    ensures { result ≡ sixteen_bits high low }
 {
     256 * (high as usize) + (low as usize)
 }
@@ -39,7 +39,7 @@ pub fn length_at(s: &[u8], at: usize) -> usize
 
 // The first of 1 and 5 met in the bytes of a burst, or how many units they are.
 pub fn scan(s: &[u8]) -> BurstScan
-    ensures { result ≡ scanOf (burstOf s.now) }
+    ensures { result ≡ scan_of (burst_of s.now) }
 {
     let mut at: usize = 0;
     let mut n: usize = 0;

@@ -15,16 +15,16 @@ use Rattle.base_answer.specs.declared.Answer.TheVariants.{Taken, NoRoom}
 use Rattle.base_answer.specs.declared.Answer.TheVariants as answer
 use Rattle.score_line.specs.declared.Line.{Line}
 use Rattle.score_line.specs.declared.LineRead.{LineRead}
-use Rattle.score_line.specs.LineFormat.{slotWords}
-use Rattle.score_line_writer.specs.Writing.{lineSlot}
-use Rattle.score_reader.specs.Score.{Score, scoreOf}
-use Rattle.score_reader.specs.inside.Walk.{scoreReadOf, first_of, next_of, walked}
+use Rattle.score_line.specs.LineFormat.{slot_words}
+use Rattle.score_line_writer.specs.Writing.{line_slot}
+use Rattle.score_reader.specs.Score.{Score, score_of}
+use Rattle.score_reader.specs.inside.Walk.{score_read_of, first_of, next_of, walked}
 use Rattle.score_reader.specs.declared.ScoreRead.{ScoreRead}
 use Rattle.score_reader.specs.declared.Cursor.{Cursor}
 use Rattle.score_reader.specs.declared.Step.{Step}
 use Rattle.score_reader.proofs.Walk.{answered, ahead-first, ahead-left, walk-all}
 use Rattle.score_decoder.specs.declared.Decoded.{Decoded}
-use Rattle.score_decoder.specs.Area.{areaWords, laid, decodedOf, areaAfter, DecodesTo, carried}
+use Rattle.score_decoder.specs.Area.{area_words, laid, decoded_of, area_after, DecodesTo, carried}
 use Rattle.score_decoder.specs.inside.Area.{SlotPut}
 use Rattle.score_decoder.proofs.Filling.{passed, Filling, filling-start, filling-more, filling-end}
 
@@ -32,14 +32,14 @@ use Rattle.score_decoder.proofs.Filling.{passed, Filling, filling-start, filling
 
 module _ (old : List ℕ) (at : ℕ) (slot : List ℕ) where
   pub record Putting (new : List ℕ) (i : ℕ) : Type 0 where
-    pub upto : i ≤ slotWords
+    pub upto : i ≤ slot_words
     pub same : length new ≡ length old
     pub stands : new ≡ paste old at slot i
 
   pub put-start : Putting old 0
   put-start = record { upto = omega arith; same = refl; stands = paste-zero old at slot }
 
-  pub put-more : (new : List ℕ) (i : ℕ) → at + slotWords ≤ length old → length slot ≡ slotWords → Putting new i → i < slotWords → Putting (set new (at + i) (get_or slot i 0)) (i + 1)
+  pub put-more : (new : List ℕ) (i : ℕ) → at + slot_words ≤ length old → length slot ≡ slot_words → Putting new i → i < slot_words → Putting (set new (at + i) (get_or slot i 0)) (i + 1)
   put-more new i h l c k =
       record {
         upto = omega arith;
@@ -49,14 +49,14 @@ module _ (old : List ℕ) (at : ℕ) (slot : List ℕ) where
             ∙ ap (λ (j : ℕ). paste old at slot j) (sym (add-one i));
       }
 
-  pub put-end : (new : List ℕ) (i : ℕ) → length slot ≡ slotWords → Putting new i → slotWords ≤ i → SlotPut old at slot new
+  pub put-end : (new : List ℕ) (i : ℕ) → length slot ≡ slot_words → Putting new i → slot_words ≤ i → SlotPut old at slot new
   put-end new i l c k =
-      let e : i ≡ slotWords = omega (arith, c.upto) in
+      let e : i ≡ slot_words = omega (arith, c.upto) in
       record {
         long = l;
         stands =
-            c.stands ∙ ap (λ (j : ℕ). paste old at slot j) e ∙ append_assoc (take at old) (take slotWords slot) (drop (at + slotWords) old)
-            ∙ ap (λ (x : List ℕ). take at old ++ (x ++ drop (at + slotWords) old)) (take_all slotWords slot (omega arith));
+            c.stands ∙ ap (λ (j : ℕ). paste old at slot j) e ∙ append_assoc (take at old) (take slot_words slot) (drop (at + slot_words) old)
+            ∙ ap (λ (x : List ℕ). take at old ++ (x ++ drop (at + slot_words) old)) (take_all slot_words slot (omega arith));
       }
 
 -- ---- the lines of a score
@@ -73,34 +73,34 @@ module _ (bits : List Bool) (n : ℕ) (start : Cursor) (old : List ℕ) where
   pub fill_start : Filled old start 0
   fill_start = filling-start (λ x. (next_of bits x).line) (λ x. (next_of bits x).rest) n start old
 
-  pub fill_more : (new next slot : List ℕ) (c : Cursor) (i : ℕ) {s : Step} → Filled new c i → i < n → s ≡ next_of bits c → slot ≡ lineSlot s.line → length next ≡ length new → SlotPut new (slotWords * i) slot next
+  pub fill_more : (new next slot : List ℕ) (c : Cursor) (i : ℕ) {s : Step} → Filled new c i → i < n → s ≡ next_of bits c → slot ≡ line_slot s.line → length next ≡ length new → SlotPut new (slot_words * i) slot next
       → Filled next s.rest (i + 1)
   fill_more new next slot c i f l e g k p =
-      filling-more (λ x. (next_of bits x).line) (λ x. (next_of bits x).rest) n start old new next slot c i f l (ap (λ (x : Step). x.rest) e) (g ∙ ap (λ (x : Step). lineSlot x.line) e) k p
+      filling-more (λ x. (next_of bits x).line) (λ x. (next_of bits x).rest) n start old new next slot c i f l (ap (λ (x : Step). x.rest) e) (g ∙ ap (λ (x : Step). line_slot x.line) e) k p
 
-  pub fill_end : (new : List ℕ) (c : Cursor) (i : ℕ) → Filled new c i → n ≤ i → new ≡ laid (areaWords (walked bits n start)) old
+  pub fill_end : (new : List ℕ) (c : Cursor) (i : ℕ) → Filled new c i → n ≤ i → new ≡ laid (area_words (walked bits n start)) old
   fill_end new c i f l =
-      filling-end (λ x. (next_of bits x).line) (λ x. (next_of bits x).rest) n start old new c i f l ∙ ap (λ (ls : List Line). laid (areaWords ls) old) (walked-passes bits n start)
+      filling-end (λ x. (next_of bits x).line) (λ x. (next_of bits x).rest) n start old new c i f l ∙ ap (λ (ls : List Line). laid (area_words ls) old) (walked-passes bits n start)
 
 -- ---- the answers
 
 -- what a score that was read leaves, by its three ways
 module _ (s : Score) (old : List ℕ) where
   pub left-refused : is_taken s.answer ≡ false → DecodesTo s old old (record { answer = s.answer; line = s.line; count = 0 })
-  unfolding decodedOf areaAfter
+  unfolding decoded_of area_after
   left-refused h = record { told = sym (cond-false _ _ h); area = sym (cond-false _ _ h) }
 
-  pub left-short : is_taken s.answer ≡ true → length old < slotWords * length s.lines → DecodesTo s old old (record { answer = NoRoom; line = 0; count = 0 })
-  unfolding decodedOf areaAfter
+  pub left-short : is_taken s.answer ≡ true → length old < slot_words * length s.lines → DecodesTo s old old (record { answer = NoRoom; line = 0; count = 0 })
+  unfolding decoded_of area_after
   left-short h k =
-      let e = lt-leb (slotWords * length s.lines) (length old) k in
+      let e = lt-leb (slot_words * length s.lines) (length old) k in
       record { told = sym (cond-true _ _ h ∙ cond-false _ _ e); area = sym (cond-true _ _ h ∙ cond-false _ _ e) }
 
-  pub left-taken : (new : List ℕ) → is_taken s.answer ≡ true → slotWords * length s.lines ≤ length old → new ≡ laid (areaWords s.lines) old
+  pub left-taken : (new : List ℕ) → is_taken s.answer ≡ true → slot_words * length s.lines ≤ length old → new ≡ laid (area_words s.lines) old
       → DecodesTo s old new (record { answer = Taken; line = 0; count = length s.lines })
-  unfolding decodedOf areaAfter
+  unfolding decoded_of area_after
   left-taken new h k n =
-      let e = le-leb (slotWords * length s.lines) (length old) k in
+      let e = le-leb (slot_words * length s.lines) (length old) k in
       record { told = sym (cond-true _ _ h ∙ cond-true _ _ e); area = n ∙ sym (cond-true _ _ h ∙ cond-true _ _ e) }
 
 -- what a call told
@@ -132,28 +132,28 @@ taken_is answer.NothingToUndo e = absurd (true≢false (sym e))
 
 -- ---- a score
 
-module _ (bits : List Bool) (old : List ℕ) {r : ScoreRead} {b : Bool} (e : r ≡ scoreReadOf (scoreOf bits)) (f : b ≡ is_taken r.answer) where
-  answer-is : is_taken (scoreOf bits).answer ≡ b
+module _ (bits : List Bool) (old : List ℕ) {r : ScoreRead} {b : Bool} (e : r ≡ score_read_of (score_of bits)) (f : b ≡ is_taken r.answer) where
+  answer-is : is_taken (score_of bits).answer ≡ b
   answer-is = sym (f ∙ ap (λ (x : ScoreRead). is_taken x.answer) e)
 
-  pub score-refused : b ≡ false → DecodesTo (scoreOf bits) old old (record { answer = r.answer; line = r.line; count = 0 })
-  score-refused g = subst (λ (x : ScoreRead). DecodesTo (scoreOf bits) old old (record { answer = x.answer; line = x.line; count = 0 })) (sym e) (left-refused (scoreOf bits) old (answer-is ∙ g))
+  pub score-refused : b ≡ false → DecodesTo (score_of bits) old old (record { answer = r.answer; line = r.line; count = 0 })
+  score-refused g = subst (λ (x : ScoreRead). DecodesTo (score_of bits) old old (record { answer = x.answer; line = x.line; count = 0 })) (sym e) (left-refused (score_of bits) old (answer-is ∙ g))
 
   module _ (g : b ≡ true) {c : Cursor} (k : c ≡ first_of bits) where
-    is-taken : (scoreOf bits).answer ≡ Taken
-    is-taken = taken_is (scoreOf bits).answer (answer-is ∙ g)
+    is-taken : (score_of bits).answer ≡ Taken
+    is-taken = taken_is (score_of bits).answer (answer-is ∙ g)
 
-    lines_are : length (scoreOf bits).lines ≡ c.left
-    lines_are = ahead-left bits (first_of bits) (scoreOf bits).lines (ahead-first bits (scoreOf bits).lines (answered bits is-taken)) ∙ sym (ap (λ (x : Cursor). x.left) k)
+    lines_are : length (score_of bits).lines ≡ c.left
+    lines_are = ahead-left bits (first_of bits) (score_of bits).lines (ahead-first bits (score_of bits).lines (answered bits is-taken)) ∙ sym (ap (λ (x : Cursor). x.left) k)
 
-    pub score-short : length old / slotWords < c.left → DecodesTo (scoreOf bits) old old (record { answer = NoRoom; line = 0; count = 0 })
-    score-short h = left-short (scoreOf bits) old (answer-is ∙ g) (omega (arith, lines_are))
+    pub score-short : length old / slot_words < c.left → DecodesTo (score_of bits) old old (record { answer = NoRoom; line = 0; count = 0 })
+    score-short h = left-short (score_of bits) old (answer-is ∙ g) (omega (arith, lines_are))
 
-    pub score-taken : (new : List ℕ) → c.left ≤ length old / slotWords → new ≡ laid (areaWords (walked bits c.left c)) old → DecodesTo (scoreOf bits) old new (record { answer = Taken; line = 0; count = c.left })
+    pub score-taken : (new : List ℕ) → c.left ≤ length old / slot_words → new ≡ laid (area_words (walked bits c.left c)) old → DecodesTo (score_of bits) old new (record { answer = Taken; line = 0; count = c.left })
     score-taken new h n =
-        subst (λ (j : ℕ). DecodesTo (scoreOf bits) old new (record { answer = Taken; line = 0; count = j })) lines_are
-        (left-taken (scoreOf bits) old new (answer-is ∙ g) (omega (arith, lines_are))
-        (n ∙ ap (λ (ls : List Line). laid (areaWords ls) old) (ap (λ (x : Cursor). walked bits x.left x) k ∙ walk-all bits is-taken)))
+        subst (λ (j : ℕ). DecodesTo (score_of bits) old new (record { answer = Taken; line = 0; count = j })) lines_are
+        (left-taken (score_of bits) old new (answer-is ∙ g) (omega (arith, lines_are))
+        (n ∙ ap (λ (ls : List Line). laid (area_words ls) old) (ap (λ (x : Cursor). walked bits x.left x) k ∙ walk-all bits is-taken)))
 
 -- ---- an access unit
 
@@ -166,12 +166,12 @@ module _ (u : LineRead) (old : List ℕ) {r : LineRead} {b : Bool} (e : r ≡ u)
   unfolding carried
   unit-refused g = subst (λ (x : LineRead). DecodesTo (carried u) old old (record { answer = x.answer; line = 0; count = 0 })) (sym e) (left-refused (carried u) old (unit-is ∙ g))
 
-  pub unit-short : b ≡ true → length old < slotWords → DecodesTo (carried u) old old (record { answer = NoRoom; line = 0; count = 0 })
+  pub unit-short : b ≡ true → length old < slot_words → DecodesTo (carried u) old old (record { answer = NoRoom; line = 0; count = 0 })
   unfolding carried
   unit-short g h = left-short (carried u) old (unit-is ∙ g) h
 
-  pub unit-taken : (slot new : List ℕ) → b ≡ true → slotWords ≤ length old → slot ≡ lineSlot r.line → SlotPut old 0 slot new → DecodesTo (carried u) old new (record { answer = Taken; line = 0; count = 1 })
-  unfolding carried areaWords laid
+  pub unit-taken : (slot new : List ℕ) → b ≡ true → slot_words ≤ length old → slot ≡ line_slot r.line → SlotPut old 0 slot new → DecodesTo (carried u) old new (record { answer = Taken; line = 0; count = 1 })
+  unfolding carried area_words laid
   unit-taken slot new g h k p =
-      let w : slot ≡ areaWords (u.line ∷ []) = k ∙ ap (λ (x : LineRead). lineSlot x.line) e ∙ sym (append-nil (lineSlot u.line)) in
+      let w : slot ≡ area_words (u.line ∷ []) = k ∙ ap (λ (x : LineRead). line_slot x.line) e ∙ sym (append-nil (line_slot u.line)) in
       left-taken (carried u) old new (unit-is ∙ g) h (p.stands ∙ ap (λ (n : ℕ). slot ++ drop n old) (sym p.long) ∙ ap (λ (x : List ℕ). x ++ drop (length x) old) w)

@@ -1,10 +1,10 @@
 // Scores and access units decoded into a lent area of words, a slot to a line (document 01: "decoded on its own").
 ghost use Rattle.std.specs.Prelude.{◌≡◌, ◌+◌, ◌*◌, ◌≤◌, length};
 ghost use Rattle.base_bitstream.specs.Bits.{bits_of};
-ghost use Rattle.score_line.specs.LineFormat.{slotWords};
-ghost use Rattle.score_reader.specs.Score.{scoreOf, unit_of};
+ghost use Rattle.score_line.specs.LineFormat.{slot_words};
+ghost use Rattle.score_reader.specs.Score.{score_of, unit_of};
 ghost use Rattle.score_reader.specs.inside.Walk.{walked};
-ghost use Rattle.score_decoder.specs.Area.{areaWords, laid, carried, DecodesTo};
+ghost use Rattle.score_decoder.specs.Area.{area_words, laid, carried, DecodesTo};
 ghost use Rattle.score_decoder.specs.inside.Area.{SlotPut};
 
 use base_answer::Answer;
@@ -31,7 +31,7 @@ fn told(answer: Answer, line: usize, count: usize) -> Decoded
 
 // Puts the words of a line into the area at a position.
 pub fn put_slot(area: &mut [u32], at: usize, slot: [u32; SLOT])
-    requires { at + slotWords ≤ length area.old }
+    requires { at + slot_words ≤ length area.old }
     ensures { SlotPut area.old at slot area.new }
 {
     let mut i: usize = 0;
@@ -43,8 +43,8 @@ pub fn put_slot(area: &mut [u32], at: usize, slot: [u32; SLOT])
 
 // Puts the lines from a cursor on into the area, from its start on.
 fn fill(bytes: &[u8], area: &mut [u32], start: Cursor)
-    requires { slotWords * start.left ≤ length area.old }
-    ensures { area.new ≡ laid (areaWords (walked (bits_of bytes.now) start.left start)) area.old }
+    requires { slot_words * start.left ≤ length area.old }
+    ensures { area.new ≡ laid (area_words (walked (bits_of bytes.now) start.left start)) area.old }
 {
     let n = start.left;
     let mut c = start;
@@ -60,7 +60,7 @@ fn fill(bytes: &[u8], area: &mut [u32], start: Cursor)
 
 // A score's lines into the area: the same reading, then 8 where the area is too short. On refusal no word changes.
 pub fn decode_score(bytes: &[u8], area: &mut [u32]) -> Decoded
-    ensures { DecodesTo (scoreOf (bits_of bytes.now)) area.old area.new result }
+    ensures { DecodesTo (score_of (bits_of bytes.now)) area.old area.new result }
 {
     let read = score_reader::read_score(bytes);
     let answer = read.answer;

@@ -4,10 +4,10 @@ use Rattle.std.specs.Prelude.{ℕ, ◌-◌, min as lesser, Bool, true, ◌&&◌,
 use Rattle.std.proofs.Math.Option.{Option, none, some}
 use Rattle.std.specs.Float.{binary32}
 use Rattle.std.specs.Float.Ieee.{of_bits, to_bits, fits}
-use Rattle.base_timebase.specs.Time.{timeBits, durationBits, tempoBits, finiteBits}
+use Rattle.base_timebase.specs.Time.{time_bits, duration_bits, tempo_bits, finite_bits}
 use Rattle.base_formats.specs.declared.Fault.TheVariants as fault
 use Rattle.base_formats.specs.Format.{all}
-use Rattle.base_formats.specs.Description.{Description, field, small, flag, one_of, nothing, choose, pair, ifSet, setThen, times, as-a, alike, format}
+use Rattle.base_formats.specs.Description.{Description, field, small, flag, one_of, nothing, choose, pair, if_set, set_then, times, as-a, alike, format}
 use Rattle.score_line.specs.declared.When.{When}
 use Rattle.score_line.specs.declared.When.TheVariants.{Timed, Untimed}
 use Rattle.score_line.specs.declared.Label.{Label}
@@ -25,10 +25,10 @@ symbol = small 16 65535
 
 -- the ranges of a line's floats, by their bits
 unfoldable pub in_range : Range → ℕ → Bool
-in_range range.Time b = timeBits b
-in_range range.Duration b = durationBits b
-in_range range.Tempo b = tempoBits b
-in_range range.Value b = finiteBits b
+in_range range.Time b = time_bits b
+in_range range.Duration b = duration_bits b
+in_range range.Tempo b = tempo_bits b
+in_range range.Value b = finite_bits b
 
 -- a float in its range
 unfoldable pub float : Range → Description Float
@@ -43,16 +43,16 @@ number = field 8 (λ v. leb v 8) fault.TooManyValues (λ v. v) (λ n. lesser n 2
 unfoldable pub timed : Description (Bool × Float)
 timed = pair flag (float range.Time)
 
-abbrev pub whenOf : Option (Bool × Float) → When
-whenOf none = Untimed
-whenOf (some x) = Timed x.0 x.1
+abbrev pub when_of : Option (Bool × Float) → When
+when_of none = Untimed
+when_of (some x) = Timed x.0 x.1
 
-abbrev pub whenParts : When → Option (Bool × Float)
-whenParts Untimed = none
-whenParts (Timed late t) = some (late, t)
+abbrev pub when_parts : When → Option (Bool × Float)
+when_parts Untimed = none
+when_parts (Timed late t) = some (late, t)
 
 unfoldable pub when : Description When
-when = alike whenOf whenParts (ifSet timed)
+when = alike when_of when_parts (if_set timed)
 
 -- ---- has-label (1), label (16) if set
 
@@ -60,12 +60,12 @@ abbrev pub label_of : Option ℕ → Label
 label_of none = Unlabelled
 label_of (some n) = Labelled n
 
-abbrev pub labelParts : Label → Option ℕ
-labelParts Unlabelled = none
-labelParts (Labelled n) = some n
+abbrev pub label_parts : Label → Option ℕ
+label_parts Unlabelled = none
+label_parts (Labelled n) = some n
 
 unfoldable pub label : Description Label
-label = alike label_of labelParts (ifSet symbol)
+label = alike label_of label_parts (if_set symbol)
 
 -- ---- type (3)
 
@@ -101,7 +101,7 @@ Body tempo = Float
 -- end: nothing; tempo: a float
 unfoldable pub body : (k : Kind) → Description (Body k)
 body instr = pair label (pair symbol (float range.Duration))
-body control = setThen fault.NotCarried labelled
+body control = set_then fault.NotCarried labelled
 body end = nothing
 body tempo = float range.Tempo
 
@@ -127,25 +127,25 @@ abbrev pub Parts : Type 0
 Parts = When × (Bool × ((k : Kind) × (Body k × Values k)))
 
 -- priority (1), type (3), the fields of the type
-unfoldable pub afterTime : Description (Bool × ((k : Kind) × (Body k × Values k)))
-afterTime = pair flag (choose {B = λ (k : Kind). Body k × Values k} kind (λ k. pair (body k) (values k)))
+unfoldable pub after_time : Description (Bool × ((k : Kind) × (Body k × Values k)))
+after_time = pair flag (choose {B = λ (k : Kind). Body k × Values k} kind (λ k. pair (body k) (values k)))
 
 unfoldable pub parts : Description Parts
-parts = pair when afterTime
+parts = pair when after_time
 
 -- ---- the same as a `Line`
 
-abbrev pub eventOf : (k : Kind) → Body k → Event
-eventOf instr x = Instr x.0 x.1.0 x.1.1
-eventOf control x = Control x.0 x.1.0 x.1.1
-eventOf end x = End
-eventOf tempo x = Tempo x
+abbrev pub event_of : (k : Kind) → Body k → Event
+event_of instr x = Instr x.0 x.1.0 x.1.1
+event_of control x = Control x.0 x.1.0 x.1.1
+event_of end x = End
+event_of tempo x = Tempo x
 
-abbrev pub eventParts : Event → (k : Kind) × Body k
-eventParts (Instr l i d) = (instr, (l, (i, d)))
-eventParts (Control l v x) = (control, (l, (v, x)))
-eventParts End = (end, tt)
-eventParts (Tempo t) = (tempo, t)
+abbrev pub event_parts : Event → (k : Kind) × Body k
+event_parts (Instr l i d) = (instr, (l, (i, d)))
+event_parts (Control l v x) = (control, (l, (v, x)))
+event_parts End = (end, tt)
+event_parts (Tempo t) = (tempo, t)
 
 abbrev pub count_of : (k : Kind) → Values k → ℕ
 count_of instr x = x.0
@@ -166,28 +166,28 @@ values_of control n xs = tt
 values_of end n xs = tt
 values_of tempo n xs = tt
 
-abbrev pub zeroFloat : Float
-zeroFloat = of_bits binary32 0
+abbrev pub zero_float : Float
+zero_float = of_bits binary32 0
 
 -- too few values: the other places are zero
 unfoldable pub padded : List Float → List Float
-padded xs = xs ++ replicate (8 - length xs) zeroFloat
+padded xs = xs ++ replicate (8 - length xs) zero_float
 
-abbrev pub lineWith : Parts → Line
-lineWith x =
+abbrev pub line_with : Parts → Line
+line_with x =
     record {
       when = x.0;
       priority = x.1.0;
-      event = eventOf x.1.1.0 x.1.1.1.0;
+      event = event_of x.1.1.0 x.1.1.1.0;
       count = count_of x.1.1.0 x.1.1.1.1;
       values = padded (list_of x.1.1.0 x.1.1.1.1);
     }
 
 abbrev pub kind_of : Event → Kind
-kind_of e = (eventParts e).0
+kind_of e = (event_parts e).0
 
 abbrev pub parts_of : Line → Parts
-parts_of l = (l.when, (l.priority, (kind_of l.event, ((eventParts l.event).1, values_of (kind_of l.event) l.count l.values))))
+parts_of l = (l.when, (l.priority, (kind_of l.event, ((event_parts l.event).1, values_of (kind_of l.event) l.count l.values))))
 
 -- +0
 unfoldable pub is_zero : Float → Bool
@@ -202,11 +202,11 @@ abbrev pub filled : Line → Bool
 filled l = eqb (length l.values) 8 && (eqb l.count (used l) && all is_zero (drop (used l) l.values))
 
 unfoldable pub line : Description Line
-line = as-a lineWith parts_of filled parts
+line = as-a line_with parts_of filled parts
 
 -- the most fields that a line has, those of an instr line with time, label and 8 values: in an area of words each line has a slot of so many
-abbrev pub slotWords : ℕ
-slotWords = 18
+abbrev pub slot_words : ℕ
+slot_words = 18
 
 -- every field in its range, and nothing behind them
 abbrev pub valid : Line → Bool

@@ -3,7 +3,7 @@ use Rattle.std.specs.Prelude.{ℕ, Bool, false, cond, List, [], length, eqb, Flo
 use Rattle.base_answer.specs.Numbers.{is_taken}
 use Rattle.base_answer.specs.declared.Answer.{Answer}
 use Rattle.base_answer.specs.declared.Answer.TheVariants as answer
-use Rattle.base_formats.specs.Format.{Source, bitSource, keypadSource, Read, got, refused}
+use Rattle.base_formats.specs.Format.{Source, bit_source, keypad_source, Read, got, refused}
 use Rattle.base_formats.specs.Description.{format}
 use Rattle.base_formats.specs.declared.Fault.{Fault}
 use Rattle.base_formats.specs.declared.Fault.TheVariants as fault
@@ -15,8 +15,8 @@ use Rattle.score_line.specs.declared.Event.TheVariants.{End}
 use Rattle.score_line.specs.declared.Line.{Line}
 use Rattle.score_line.specs.declared.LineRead.{LineRead}
 
-abbrev pub lineFrom : Source → ℕ → Read Line
-lineFrom s at = (format line).from s at
+abbrev pub line_from : Source → ℕ → Read Line
+line_from s at = (format line).from s at
 
 -- a line of these parts, its count the number of its values
 unfoldable pub line_of : When → Bool → Event → List Float → Line
@@ -32,28 +32,28 @@ answer_of fault.OutOfRange = answer.OutOfRange
 answer_of fault.TooManyValues = answer.TooManyValues
 
 -- a line for places that hold none
-abbrev pub blankLine : Line
-blankLine = line_of Untimed false End []
+abbrev pub blank_line : Line
+blank_line = line_of Untimed false End []
 
 -- a refusal has a blank line and the position 0
-unfoldable pub refusedLine : Answer → LineRead
-refusedLine a = record { answer = a; line = blankLine; next = 0 }
+unfoldable pub refused_line : Answer → LineRead
+refused_line a = record { answer = a; line = blank_line; next = 0 }
 
-unfoldable pub lineRead : Read Line → LineRead
-lineRead (got l p) = record { answer = answer.Taken; line = l; next = p }
-lineRead (refused f) = refusedLine (answer_of f)
+unfoldable pub line_read : Read Line → LineRead
+line_read (got l p) = record { answer = answer.Taken; line = l; next = p }
+line_read (refused f) = refused_line (answer_of f)
 
 -- a line somewhere among bits
 unfoldable pub line_at : List Bool → ℕ → LineRead
-line_at bits at = lineRead (lineFrom (bitSource bits) at)
+line_at bits at = line_read (line_from (bit_source bits) at)
 
 -- a line somewhere among keypad numbers
-unfoldable pub lineInWords : List ℕ → ℕ → LineRead
-lineInWords words at = lineRead (lineFrom (keypadSource words) at)
+unfoldable pub line_in_words : List ℕ → ℕ → LineRead
+line_in_words words at = line_read (line_from (keypad_source words) at)
 
 -- a whole keypad line: numbers left over give 11, after every other fault
-unfoldable pub wholeRun : ℕ → LineRead → LineRead
-wholeRun n r = cond (is_taken r.answer) (cond (eqb r.next n) r (refusedLine answer.LeftOver)) r
+unfoldable pub whole_run : ℕ → LineRead → LineRead
+whole_run n r = cond (is_taken r.answer) (cond (eqb r.next n) r (refused_line answer.LeftOver)) r
 
-unfoldable pub keypadLine : List ℕ → LineRead
-keypadLine words = wholeRun (length words) (lineInWords words 0)
+unfoldable pub keypad_line : List ℕ → LineRead
+keypad_line words = whole_run (length words) (line_in_words words 0)

@@ -2,10 +2,10 @@
 ghost use Rattle.std.specs.Prelude.{◌≡◌};
 ghost use Rattle.base_timebase.specs.inside.Range.{checked};
 ghost use Rattle.base_formats.specs.inside.Source.{source_of};
-ghost use Rattle.base_formats.specs.Format.{numberFrom};
+ghost use Rattle.base_formats.specs.Format.{number_from};
 ghost use Rattle.score_line.specs.LineFormat.{in_range};
-ghost use Rattle.score_line.specs.inside.Reading.{numberIs, realIs, whenIs, labelIs, eventIs, smallFrom, floatFrom, timedFrom, whenFrom, labelFrom, instrFrom, labelledFrom, controlFrom, tempoFrom, eventFrom};
-ghost use Rattle.score_line.specs.Reading.{blankLine, refusedLine};
+ghost use Rattle.score_line.specs.inside.Reading.{number_is, real_is, when_is, label_is, event_is, small_from, float_from, timed_from, when_from, label_from, instr_from, labelled_from, control_from, tempo_from, event_from};
+ghost use Rattle.score_line.specs.Reading.{blank_line, refused_line};
 
 use base_answer::Answer;
 use base_bitstream::FieldRead;
@@ -118,7 +118,7 @@ pub enum EventRead {
 
 // The next number of a line: a field of `width` bits, or the next of the keypad's numbers.
 pub fn number_at(bytes: &[u8], words: &[u32], keypad: bool, at: usize, width: usize) -> IntegerRead
-    ensures { numberIs result ≡ numberFrom (source_of bytes.now words.now keypad) width at }
+    ensures { number_is result ≡ number_from (source_of bytes.now words.now keypad) width at }
 {
     if keypad {
         if at < words.len() {
@@ -141,7 +141,7 @@ pub fn small_at(
     width: usize,
     most: u32,
 ) -> IntegerRead
-    ensures { numberIs result ≡ smallFrom (source_of bytes.now words.now keypad) width most at }
+    ensures { number_is result ≡ small_from (source_of bytes.now words.now keypad) width most at }
 {
     match number_at(bytes, words, keypad, at, width) {
         IntegerRead::Of(v, next) => {
@@ -167,7 +167,7 @@ fn in_range(range: Range, b: u32) -> Checked
 }
 
 pub fn float_at(bytes: &[u8], words: &[u32], keypad: bool, at: usize, range: Range) -> FloatRead
-    ensures { realIs result ≡ floatFrom (source_of bytes.now words.now keypad) range at }
+    ensures { real_is result ≡ float_from (source_of bytes.now words.now keypad) range at }
 {
     match number_at(bytes, words, keypad, at, 32) {
         IntegerRead::Of(b, next) => match in_range(range, b) {
@@ -179,7 +179,7 @@ pub fn float_at(bytes: &[u8], words: &[u32], keypad: bool, at: usize, range: Ran
 }
 
 fn timed_at(bytes: &[u8], words: &[u32], keypad: bool, at: usize) -> WhenRead
-    ensures { whenIs result ≡ timedFrom (source_of bytes.now words.now keypad) at }
+    ensures { when_is result ≡ timed_from (source_of bytes.now words.now keypad) at }
 {
     match small_at(bytes, words, keypad, at, 1, 1) {
         IntegerRead::Of(late, p) => match float_at(bytes, words, keypad, p, Range::Time) {
@@ -197,7 +197,7 @@ fn timed_at(bytes: &[u8], words: &[u32], keypad: bool, at: usize) -> WhenRead
 }
 
 pub fn when_at(bytes: &[u8], words: &[u32], keypad: bool, at: usize) -> WhenRead
-    ensures { whenIs result ≡ whenFrom (source_of bytes.now words.now keypad) at }
+    ensures { when_is result ≡ when_from (source_of bytes.now words.now keypad) at }
 {
     match small_at(bytes, words, keypad, at, 1, 1) {
         IntegerRead::Of(has_time, p) => {
@@ -212,7 +212,7 @@ pub fn when_at(bytes: &[u8], words: &[u32], keypad: bool, at: usize) -> WhenRead
 }
 
 fn label_at(bytes: &[u8], words: &[u32], keypad: bool, at: usize) -> LabelRead
-    ensures { labelIs result ≡ labelFrom (source_of bytes.now words.now keypad) at }
+    ensures { label_is result ≡ label_from (source_of bytes.now words.now keypad) at }
 {
     match small_at(bytes, words, keypad, at, 1, 1) {
         IntegerRead::Of(has_label, p) => {
@@ -230,7 +230,7 @@ fn label_at(bytes: &[u8], words: &[u32], keypad: bool, at: usize) -> LabelRead
 }
 
 fn instr_at(bytes: &[u8], words: &[u32], keypad: bool, at: usize) -> EventRead
-    ensures { eventIs result ≡ instrFrom (source_of bytes.now words.now keypad) at }
+    ensures { event_is result ≡ instr_from (source_of bytes.now words.now keypad) at }
 {
     match label_at(bytes, words, keypad, at) {
         LabelRead::Of(label, p) => match small_at(bytes, words, keypad, p, 16, 65535) {
@@ -259,7 +259,7 @@ fn instr_at(bytes: &[u8], words: &[u32], keypad: bool, at: usize) -> EventRead
 
 // A control line from its label on.
 fn labelled_at(bytes: &[u8], words: &[u32], keypad: bool, at: usize) -> EventRead
-    ensures { eventIs result ≡ labelledFrom (source_of bytes.now words.now keypad) at }
+    ensures { event_is result ≡ labelled_from (source_of bytes.now words.now keypad) at }
 {
     match small_at(bytes, words, keypad, at, 16, 65535) {
         IntegerRead::Of(label, p) => match small_at(bytes, words, keypad, p, 16, 65535) {
@@ -281,7 +281,7 @@ fn labelled_at(bytes: &[u8], words: &[u32], keypad: bool, at: usize) -> EventRea
 }
 
 fn control_at(bytes: &[u8], words: &[u32], keypad: bool, at: usize) -> EventRead
-    ensures { eventIs result ≡ controlFrom (source_of bytes.now words.now keypad) at }
+    ensures { event_is result ≡ control_from (source_of bytes.now words.now keypad) at }
 {
     match small_at(bytes, words, keypad, at, 1, 1) {
         IntegerRead::Of(has_label, p) => {
@@ -296,7 +296,7 @@ fn control_at(bytes: &[u8], words: &[u32], keypad: bool, at: usize) -> EventRead
 }
 
 fn tempo_at(bytes: &[u8], words: &[u32], keypad: bool, at: usize) -> EventRead
-    ensures { eventIs result ≡ tempoFrom (source_of bytes.now words.now keypad) at }
+    ensures { event_is result ≡ tempo_from (source_of bytes.now words.now keypad) at }
 {
     match float_at(bytes, words, keypad, at, Range::Tempo) {
         FloatRead::Of(tempo, p) => EventRead::Of(Event::Tempo(tempo), p),
@@ -306,7 +306,7 @@ fn tempo_at(bytes: &[u8], words: &[u32], keypad: bool, at: usize) -> EventRead
 
 // The event of a line's type.
 pub fn event_at(bytes: &[u8], words: &[u32], keypad: bool, at: usize, kind: u32) -> EventRead
-    ensures { eventIs result ≡ eventFrom (source_of bytes.now words.now keypad) kind at }
+    ensures { event_is result ≡ event_from (source_of bytes.now words.now keypad) kind at }
 {
     if kind == INSTR {
         return instr_at(bytes, words, keypad, at);
@@ -325,7 +325,7 @@ pub fn event_at(bytes: &[u8], words: &[u32], keypad: bool, at: usize, kind: u32)
 
 // A line for places that hold none.
 pub fn blank_line() -> Line
-    ensures { result ≡ blankLine }
+    ensures { result ≡ blank_line }
 {
     Line {
         when: When::Untimed,
@@ -338,7 +338,7 @@ pub fn blank_line() -> Line
 
 // A refusal: a blank line and the position 0.
 pub fn refused(a: Answer) -> LineRead
-    ensures { result ≡ refusedLine a }
+    ensures { result ≡ refused_line a }
 {
     LineRead {
         answer: a,

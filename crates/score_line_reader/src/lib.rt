@@ -3,8 +3,8 @@ ghost use Rattle.std.specs.Prelude.{◌≡◌, ◌≤◌, []};
 ghost use Rattle.base_bitstream.specs.Bits.{bits_of};
 ghost use Rattle.base_formats.specs.inside.Source.{source_of};
 ghost use Rattle.base_formats.specs.Format.{got};
-ghost use Rattle.score_line.specs.Reading.{answer_of, lineFrom, refusedLine, lineRead, line_at, lineInWords, keypadLine};
-ghost use Rattle.score_line.specs.inside.Reading.{valuesFrom, withValues, afterCount, afterEvent, afterWhen};
+ghost use Rattle.score_line.specs.Reading.{answer_of, line_from, refused_line, line_read, line_at, line_in_words, keypad_line};
+ghost use Rattle.score_line.specs.inside.Reading.{values_from, with_values, after_count, after_event, after_when};
 
 use base_answer::Answer;
 use base_formats::Fault;
@@ -24,7 +24,7 @@ fn answer_of(f: Fault) -> Answer
 }
 
 fn faulty(f: Fault) -> LineRead
-    ensures { result ≡ refusedLine (answer_of f) }
+    ensures { result ≡ refused_line (answer_of f) }
 {
     score_line::refused(answer_of(f))
 }
@@ -41,7 +41,7 @@ fn values_line(
     event: Event,
 ) -> LineRead
     requires { n ≤ 8 }
-    ensures { result ≡ lineRead (withValues when priority event n (valuesFrom (source_of bytes.now words.now keypad) n at)) }
+    ensures { result ≡ line_read (with_values when priority event n (values_from (source_of bytes.now words.now keypad) n at)) }
 {
     let mut values = [0.0f32; 8];
     let mut p = at;
@@ -80,7 +80,7 @@ fn counted_line(
     priority: bool,
     event: Event,
 ) -> LineRead
-    ensures { result ≡ lineRead (afterCount (source_of bytes.now words.now keypad) when priority event at) }
+    ensures { result ≡ line_read (after_count (source_of bytes.now words.now keypad) when priority event at) }
 {
     match number_at(bytes, words, keypad, at, 8) {
         IntegerRead::Of(n, p) => {
@@ -95,7 +95,7 @@ fn counted_line(
 }
 
 fn no_values(at: usize, when: When, priority: bool, event: Event) -> LineRead
-    ensures { result ≡ lineRead (withValues when priority event 0 (got [] at)) }
+    ensures { result ≡ line_read (with_values when priority event 0 (got [] at)) }
 {
     LineRead {
         answer: Answer::Taken,
@@ -120,7 +120,7 @@ fn after_event(
     priority: bool,
     event: Event,
 ) -> LineRead
-    ensures { result ≡ lineRead (afterEvent (source_of bytes.now words.now keypad) when priority event at) }
+    ensures { result ≡ line_read (after_event (source_of bytes.now words.now keypad) when priority event at) }
 {
     match event {
         Event::Instr {
@@ -139,7 +139,7 @@ fn after_event(
 }
 
 fn after_when(bytes: &[u8], words: &[u32], keypad: bool, at: usize, when: When) -> LineRead
-    ensures { result ≡ lineRead (afterWhen (source_of bytes.now words.now keypad) when at) }
+    ensures { result ≡ line_read (after_when (source_of bytes.now words.now keypad) when at) }
 {
     match score_line::small_at(bytes, words, keypad, at, 1, 1) {
         IntegerRead::Of(priority, p) => match number_at(bytes, words, keypad, p, 3) {
@@ -163,7 +163,7 @@ fn after_when(bytes: &[u8], words: &[u32], keypad: bool, at: usize, when: When) 
 
 // The one reader of lines, from bits or from keypad numbers.
 fn line_from(bytes: &[u8], words: &[u32], keypad: bool, at: usize) -> LineRead
-    ensures { result ≡ lineRead (lineFrom (source_of bytes.now words.now keypad) at) }
+    ensures { result ≡ line_read (line_from (source_of bytes.now words.now keypad) at) }
 {
     match score_line::when_at(bytes, words, keypad, at) {
         WhenRead::Of(when, p) => after_when(bytes, words, keypad, p, when),
@@ -181,7 +181,7 @@ pub fn line_at(bytes: &[u8], at: usize) -> LineRead
 
 // A line somewhere among keypad numbers.
 pub fn line_in_words(words: &[u32], at: usize) -> LineRead
-    ensures { result ≡ lineInWords words.now at }
+    ensures { result ≡ line_in_words words.now at }
 {
     let none = [0u8; 1];
     line_from(&none, words, true, at)
@@ -189,7 +189,7 @@ pub fn line_in_words(words: &[u32], at: usize) -> LineRead
 
 // A keypad line: the whole run of numbers.
 pub fn keypad_line(words: &[u32]) -> LineRead
-    ensures { result ≡ keypadLine words.now }
+    ensures { result ≡ keypad_line words.now }
 {
     let read = line_in_words(words, 0);
     let answer = read.answer;

@@ -13,17 +13,17 @@ use lib.Seq.{take_at, drop_at, length-take-le}
 use lib.Ieee.{Float, binary32, fits, of_bits, to_bits}
 use lib.Ieee.Bits.{of_bits-fits, of_bits-to_bits, to_bits-lt}
 use lib.Ieee.Fits.{and_i, and_l, and_r, eq→eqb}
-use Rattle.base_timebase.specs.Time.{finiteBits}
+use Rattle.base_timebase.specs.Time.{finite_bits}
 use Rattle.base_timebase.proofs.RangesAndTicks.{pattern-back, time-finite, duration-finite, tempo-finite}
 use Rattle.base_formats.specs.Format.{Format, all}
 use Rattle.base_formats.specs.Format as F
 use Rattle.base_formats.specs.Description.{format}
-use Rattle.base_formats.specs.inside.Lengths.{timesLength, length_of}
+use Rattle.base_formats.specs.inside.Lengths.{times_length, length_of}
 use Rattle.base_formats.specs.declared.Fault.{Fault}
 use Rattle.base_formats.specs.declared.Fault.TheVariants as fault
 use Rattle.base_formats.proofs.RoundTrips.{Law}
 use Rattle.base_formats.proofs.Descriptions.{Views, Proper, Raises, Every, Held, law}
-use Rattle.score_line.specs.LineFormat.{symbol, in_range, float, number, whenOf, whenParts, timed, when, label_of, labelParts, label, Kind, instr, control, end, tempo, kind, Body, labelled, body, counted, Values, values, Parts, afterTime, parts, eventOf, eventParts, count_of, list_of, values_of, zeroFloat, padded, lineWith, kind_of, parts_of, is_zero, used, filled, line}
+use Rattle.score_line.specs.LineFormat.{symbol, in_range, float, number, when_of, when_parts, timed, when, label_of, label_parts, label, Kind, instr, control, end, tempo, kind, Body, labelled, body, counted, Values, values, Parts, after_time, parts, event_of, event_parts, count_of, list_of, values_of, zero_float, padded, line_with, kind_of, parts_of, is_zero, used, filled, line}
 use Rattle.score_line.specs.declared.When.{When}
 use Rattle.score_line.specs.declared.When.TheVariants.{Timed, Untimed}
 use Rattle.score_line.specs.declared.Label.{Label}
@@ -33,14 +33,14 @@ use Rattle.score_line.specs.declared.Event.TheVariants.{Instr, Control, End, Tem
 use Rattle.score_line.specs.declared.Line.{Line}
 use Rattle.score_line.specs.declared.Range.{Range}
 use Rattle.score_line.specs.declared.Range.TheVariants as range
-use Rattle.score_line_writer.specs.Stored.{isSymbol, storedWhen, storedLabel, storedEvent, stored}
+use Rattle.score_line_writer.specs.Stored.{is_symbol, stored_when, stored_label, stored_event, stored}
 
 -- ---- one field
 
 symbol-proper : Proper symbol
 symbol-proper = (omega arith, omega arith, omega arith)
 
-finite-of : (r : Range) (b : ℕ) → in_range r b ≡ true → finiteBits b ≡ true
+finite-of : (r : Range) (b : ℕ) → in_range r b ≡ true → finite_bits b ≡ true
 unfolding in_range
 finite-of range.Time b e = time-finite b e
 finite-of range.Duration b e = duration-finite b e
@@ -81,13 +81,13 @@ when-proper : Proper when
 unfolding when timed
 when-proper = (
   (tt, λ b. float-proper range.Time),
-  same_view whenOf whenParts _ (λ w. elim w [ Untimed ↦ refl | Timed late t ↦ refl ])
+  same_view when_of when_parts _ (λ w. elim w [ Untimed ↦ refl | Timed late t ↦ refl ])
       (λ x. elim x [ none ↦ refl | some y ↦ refl ]),
 )
 
 label-proper : Proper label
 unfolding label
-label-proper = (symbol-proper, same_view label_of labelParts _ (λ l. elim l [ Unlabelled ↦ refl | Labelled n ↦ refl ]) (λ x. elim x [ none ↦ refl | some n ↦ refl ]))
+label-proper = (symbol-proper, same_view label_of label_parts _ (λ l. elim l [ Unlabelled ↦ refl | Labelled n ↦ refl ]) (λ x. elim x [ none ↦ refl | some n ↦ refl ]))
 
 kind-proper : Proper kind
 unfolding kind
@@ -107,23 +107,23 @@ kind-parts-proper end = (tt, tt)
 kind-parts-proper tempo = (float-proper range.Tempo, tt)
 
 pub parts-proper : Proper parts
-unfolding parts afterTime
+unfolding parts after_time
 parts-proper = (when-proper, λ w. (tt, λ b. (kind-proper, λ k. ((kind-parts-proper k).0, λ x. (kind-parts-proper k).1))))
 
 -- ---- the places for values
 
-zeros-valid : (n : ℕ) → T (all is_zero (replicate n zeroFloat))
+zeros-valid : (n : ℕ) → T (all is_zero (replicate n zero_float))
 unfolding is_zero of_bits to_bits fits
 zeros-valid zero = tt
 zeros-valid (suc n) = zeros-valid n
 
-zero_is : (x : Float) → T (is_zero x) → x ≡ zeroFloat
+zero_is : (x : Float) → T (is_zero x) → x ≡ zero_float
 unfolding is_zero
 zero_is x h =
     let f = and_l (fits binary32 x) (eqb (to_bits binary32 x) 0) h in
     sym (of_bits-to_bits binary32 x f) ∙ ap (of_bits binary32) (eqb→eq (to_bits binary32 x) 0 (and_r (fits binary32 x) (eqb (to_bits binary32 x) 0) h))
 
-zeros-are : (xs : List Float) → T (all is_zero xs) → xs ≡ replicate (length xs) zeroFloat
+zeros-are : (xs : List Float) → T (all is_zero xs) → xs ≡ replicate (length xs) zero_float
 zeros-are [] h = refl
 zeros-are (x ∷ xs) h = λ i. zero_is x (and_l (is_zero x) (all is_zero xs) h) i ∷ zeros-are xs (and_r (is_zero x) (all is_zero xs) h) i
 
@@ -132,7 +132,7 @@ whole-values : (n : ℕ) (xs : List Float) → length xs ≡ 8 → T (all is_zer
 unfolding padded
 whole-values n xs m z =
     let d : length (drop n xs) ≡ 8 - length (take n xs) = omega (arith, length-drop n xs, length-take n xs) in
-    ap (λ (ys : List Float). take n xs ++ ys) (sym (zeros-are (drop n xs) z ∙ ap (λ (j : ℕ). replicate j zeroFloat) d)) ∙ take-append-drop n xs
+    ap (λ (ys : List Float). take n xs ++ ys) (sym (zeros-are (drop n xs) z ∙ ap (λ (j : ℕ). replicate j zero_float) d)) ∙ take-append-drop n xs
 
 pub padded-long : (xs : List Float) → length xs ≤ 8 → length (padded xs) ≡ 8
 unfolding padded
@@ -156,37 +156,37 @@ values-few control v h = record { count = refl; few = omega arith }
 values-few end v h = record { count = refl; few = omega arith }
 values-few tempo v h = record { count = refl; few = omega arith }
 
-pub event-again : (e : Event) → eventOf (eventParts e).0 (eventParts e).1 ≡ e
+pub event-again : (e : Event) → event_of (event_parts e).0 (event_parts e).1 ≡ e
 event-again (Instr l i d) = refl
 event-again (Control l v x) = refl
 event-again End = refl
 event-again (Tempo t) = refl
 
 module _ (w : When) (b : Bool) where
-  parts-back : (k : Kind) (x : Body k) (v : Values k) → Few (count_of k v) (list_of k v) → parts_of (lineWith (w, (b, (k, (x, v))))) ≡ (w, (b, (k, (x, v))))
+  parts-back : (k : Kind) (x : Body k) (v : Values k) → Few (count_of k v) (list_of k v) → parts_of (line_with (w, (b, (k, (x, v))))) ≡ (w, (b, (k, (x, v))))
   unfolding padded
-  parts-back instr x v f = ap (λ (ys : List Float). (w, (b, (instr, (x, (v.0, ys)))))) (take_at v.1 (replicate (8 - length v.1) zeroFloat) v.0 f.count)
+  parts-back instr x v f = ap (λ (ys : List Float). (w, (b, (instr, (x, (v.0, ys)))))) (take_at v.1 (replicate (8 - length v.1) zero_float) v.0 f.count)
   parts-back control x v f = refl
   parts-back end x v f = refl
   parts-back tempo x v f = refl
 
-  used-is : (k : Kind) (x : Body k) (v : Values k) → used (lineWith (w, (b, (k, (x, v))))) ≡ count_of k v
+  used-is : (k : Kind) (x : Body k) (v : Values k) → used (line_with (w, (b, (k, (x, v))))) ≡ count_of k v
   used-is instr x v = refl
   used-is control x v = refl
   used-is end x v = refl
   used-is tempo x v = refl
 
-  parts-filled : (k : Kind) (x : Body k) (v : Values k) → Few (count_of k v) (list_of k v) → T (filled (lineWith (w, (b, (k, (x, v))))))
+  parts-filled : (k : Kind) (x : Body k) (v : Values k) → Few (count_of k v) (list_of k v) → T (filled (line_with (w, (b, (k, (x, v))))))
   unfolding padded
   parts-filled k x v f =
-      let m = lineWith (w, (b, (k, (x, v)))) in
+      let m = line_with (w, (b, (k, (x, v)))) in
       let z = all is_zero (drop (used m) m.values) in
-      let d = ap (λ (n : ℕ). drop n m.values) (used-is k x v) ∙ drop_at (list_of k v) (replicate (8 - length (list_of k v)) zeroFloat) (count_of k v) f.count in
+      let d = ap (λ (n : ℕ). drop n m.values) (used-is k x v) ∙ drop_at (list_of k v) (replicate (8 - length (list_of k v)) zero_float) (count_of k v) f.count in
       and_i (eqb (length m.values) 8) (eqb m.count (used m) && z) (eq→eqb (padded-long (list_of k v) (omega (arith, f.count, f.few))))
       (and_i (eqb m.count (used m)) z (eq→eqb (sym (used-is k x v))) (subst (λ (y : List Float). T (all is_zero y)) (sym d) (zeros-valid (8 - length (list_of k v)))))
 
 parts-few : (x : Parts) → T ((format parts).valid x) → Few (count_of x.1.1.0 x.1.1.1.1) (list_of x.1.1.0 x.1.1.1.1)
-unfolding parts afterTime
+unfolding parts after_time
 parts-few x h =
     let k = x.1.1.0 in
     let v = (format (values k)).valid x.1.1.1.1 in
@@ -203,7 +203,7 @@ values-again (Control l i d) n xs m z = whole-values 0 xs m z
 values-again End n xs m z = whole-values 0 xs m z
 values-again (Tempo t) n xs m z = whole-values 0 xs m z
 
-line-again : (l : Line) → T (filled l) → lineWith (parts_of l) ≡ l
+line-again : (l : Line) → T (filled l) → line_with (parts_of l) ≡ l
 line-again l h i =
     let p = eqb (length l.values) 8 in
     let q = eqb l.count (used l) in
@@ -233,33 +233,33 @@ line-law = law line line-proper
 
 -- ---- a stored line is one that its fields hold
 
-symbol-held : (n : ℕ) → T (isSymbol n) → Held symbol n
+symbol-held : (n : ℕ) → T (is_symbol n) → Held symbol n
 symbol-held n h = let m = leb→le n 65535 h in omega arith
 
 float-held : (r : Range) (x : Float) → T (fits binary32 x) → Held (float r) x
 unfolding float
 float-held r x h = (h, to_bits-lt binary32 x h)
 
-when-held : (w : When) → T (storedWhen w) → Held when w
+when-held : (w : When) → T (stored_when w) → Held when w
 unfolding when timed
 when-held Untimed h = (tt, tt)
 when-held (Timed late t) h = (tt, (tt, λ l. float-held range.Time t h))
 
-label-held : (l : Label) → T (storedLabel l) → Held label l
+label-held : (l : Label) → T (stored_label l) → Held label l
 unfolding label
 label-held Unlabelled h = (tt, tt)
 label-held (Labelled n) h = (tt, symbol-held n h)
 
-event-held : (e : Event) → T (storedEvent e) → Held (body (kind_of e)) (eventParts e).1
+event-held : (e : Event) → T (stored_event e) → Held (body (kind_of e)) (event_parts e).1
 unfolding body labelled
 event-held (Instr l i d) h =
-    let r = and_r (storedLabel l) (isSymbol i && fits binary32 d) h in
-    let m = label-held l (and_l (storedLabel l) (isSymbol i && fits binary32 d) h) in
-    (m, λ a. (symbol-held i (and_l (isSymbol i) (fits binary32 d) r), λ b. float-held range.Duration d (and_r (isSymbol i) (fits binary32 d) r)))
+    let r = and_r (stored_label l) (is_symbol i && fits binary32 d) h in
+    let m = label-held l (and_l (stored_label l) (is_symbol i && fits binary32 d) h) in
+    (m, λ a. (symbol-held i (and_l (is_symbol i) (fits binary32 d) r), λ b. float-held range.Duration d (and_r (is_symbol i) (fits binary32 d) r)))
 event-held (Control l i d) h =
-    let r = and_r (isSymbol l) (isSymbol i && fits binary32 d) h in
-    let m = symbol-held l (and_l (isSymbol l) (isSymbol i && fits binary32 d) h) in
-    (m, λ a. (symbol-held i (and_l (isSymbol i) (fits binary32 d) r), λ b. float-held range.Value d (and_r (isSymbol i) (fits binary32 d) r)))
+    let r = and_r (is_symbol l) (is_symbol i && fits binary32 d) h in
+    let m = symbol-held l (and_l (is_symbol l) (is_symbol i && fits binary32 d) h) in
+    (m, λ a. (symbol-held i (and_l (is_symbol i) (fits binary32 d) r), λ b. float-held range.Value d (and_r (is_symbol i) (fits binary32 d) r)))
 event-held End h = tt
 event-held (Tempo t) h = float-held range.Tempo t h
 
@@ -277,14 +277,14 @@ values-held end n xs m h = tt
 values-held tempo n xs m h = tt
 
 pub parts_held : (l : Line) → T (stored l) → Held parts (parts_of l)
-unfolding parts afterTime kind
+unfolding parts after_time kind
 parts_held l h =
     let n = eqb (length l.values) 8 in
     let v = all (fits binary32) l.values in
-    let r = and_r (storedWhen l.when) (storedEvent l.event && (n && v)) h in
-    let t = and_r (storedEvent l.event) (n && v) r in
-    let w = when-held l.when (and_l (storedWhen l.when) (storedEvent l.event && (n && v)) h) in
-    let e = event-held l.event (and_l (storedEvent l.event) (n && v) r) in
+    let r = and_r (stored_when l.when) (stored_event l.event && (n && v)) h in
+    let t = and_r (stored_event l.event) (n && v) r in
+    let w = when-held l.when (and_l (stored_when l.when) (stored_event l.event && (n && v)) h) in
+    let e = event-held l.event (and_l (stored_event l.event) (n && v) r) in
     let x = values-held (kind_of l.event) l.count l.values (eqb→eq (length l.values) 8 (and_l n v t)) (and_r n v t) in
     (w, λ a. (tt, λ b. (tt, λ c. (e, λ d. x))))
 
@@ -302,7 +302,7 @@ kind-parts-raise end = (tt, tt)
 kind-parts-raise tempo = (range-fault, tt)
 
 pub parts-raises : Raises Own parts
-unfolding parts afterTime kind when timed float
+unfolding parts after_time kind when timed float
 parts-raises = ((tt, λ b. range-fault), λ w. (tt, λ b. (tt, λ k. ((kind-parts-raise k).0, λ x. (kind-parts-raise k).1))))
 
 -- ---- how long a line is, each field counted by its width
@@ -325,7 +325,7 @@ module _ (c : ℕ → ℕ) where
   body-most end x = omega arith
   body-most tempo x = omega arith
 
-  floats-most : (xs : List Float) (n : ℕ) → length xs ≤ n → timesLength (λ x. length_of c (float range.Value) x) xs ≤ n * c 32
+  floats-most : (xs : List Float) (n : ℕ) → length xs ≤ n → times_length (λ x. length_of c (float range.Value) x) xs ≤ n * c 32
   unfolding float
   floats-most [] n h = omega arith
   floats-most (x ∷ xs) zero h = absurd (omega arith)
@@ -341,8 +341,8 @@ module _ (c : ℕ → ℕ) where
   -- at least a flag; at most a timed instr line with a label and eight values
   pub line-most : (l : Line) → length l.values ≡ 8
       → (c 1 ≤ length_of c line l) × (length_of c line l ≤ (c 1 + (c 1 + c 32)) + (c 1 + (c 3 + ((c 1 + (c 16 + (c 16 + c 32))) + (c 8 + 8 * c 32)))))
-  unfolding line parts afterTime kind
+  unfolding line parts after_time kind
   line-most l h =
       let k = kind_of l.event in
       let w = when-most l.when in
-      (omega (arith, w.0), omega (arith, w.1, body-most k (eventParts l.event).1, values-most k l.count l.values h))
+      (omega (arith, w.0), omega (arith, w.1, body-most k (event_parts l.event).1, values-most k l.count l.values h))

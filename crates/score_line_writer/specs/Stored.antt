@@ -12,26 +12,26 @@ use Rattle.score_line.specs.declared.Event.{Event}
 use Rattle.score_line.specs.declared.Event.TheVariants.{Instr, Control, End, Tempo}
 use Rattle.score_line.specs.declared.Line.{Line}
 
-abbrev pub isSymbol : ℕ → Bool
-isSymbol n = leb n 65535
+abbrev pub is_symbol : ℕ → Bool
+is_symbol n = leb n 65535
 
-abbrev pub storedWhen : When → Bool
-storedWhen Untimed = true
-storedWhen (Timed late t) = fits binary32 t
+abbrev pub stored_when : When → Bool
+stored_when Untimed = true
+stored_when (Timed late t) = fits binary32 t
 
-abbrev pub storedLabel : Label → Bool
-storedLabel Unlabelled = true
-storedLabel (Labelled n) = isSymbol n
+abbrev pub stored_label : Label → Bool
+stored_label Unlabelled = true
+stored_label (Labelled n) = is_symbol n
 
-abbrev pub storedEvent : Event → Bool
-storedEvent (Instr label instrument duration) = storedLabel label && (isSymbol instrument && fits binary32 duration)
-storedEvent (Control label variable value) = isSymbol label && (isSymbol variable && fits binary32 value)
-storedEvent End = true
-storedEvent (Tempo tempo) = fits binary32 tempo
+abbrev pub stored_event : Event → Bool
+stored_event (Instr label instrument duration) = stored_label label && (is_symbol instrument && fits binary32 duration)
+stored_event (Control label variable value) = is_symbol label && (is_symbol variable && fits binary32 value)
+stored_event End = true
+stored_event (Tempo tempo) = fits binary32 tempo
 
 -- every float has 32 bits, every symbol 16, and there are eight places for values: a line as its type says
 abbrev pub stored : Line → Bool
-stored l = storedWhen l.when && (storedEvent l.event && (eqb (length l.values) 8 && all (fits binary32) l.values))
+stored l = stored_when l.when && (stored_event l.event && (eqb (length l.values) 8 && all (fits binary32) l.values))
 
 -- a line as it is meant: the places that it does not use are zero, and a line that is no instr line has no values
 abbrev pub normalized : Line → Line

@@ -2,52 +2,52 @@
 use Rattle.std.specs.Prelude.{ℕ, ◌+◌, ◌-◌, Bool, ◌&&◌, List, [], ◌++◌, ◌≡◌, leb, length, replicate}
 use Rattle.base_answer.specs.declared.Answer.{Answer}
 use Rattle.base_bitstream.specs.Fields.{farthest, over, pick}
-use Rattle.score_line.specs.Reading.{keypadLine}
+use Rattle.score_line.specs.Reading.{keypad_line}
 use Rattle.score_line.specs.declared.Line.{Line}
-use Rattle.base_formats.specs.Format.{Field, fieldBits, fieldWords}
+use Rattle.base_formats.specs.Format.{Field, field_bits, field_words}
 use Rattle.base_formats.specs.Description.{format}
-use Rattle.score_line.specs.LineFormat.{slotWords, line}
+use Rattle.score_line.specs.LineFormat.{slot_words, line}
 
 -- each field with its width and its number
-abbrev pub lineFields : Line → List Field
-lineFields l = (format line).fields l []
+abbrev pub line_fields : Line → List Field
+line_fields l = (format line).fields l []
 
-unfoldable pub lineBefore : Line → List Bool → List Bool
-unfolding fieldBits
-lineBefore l rest = fieldBits (lineFields l) rest
+unfoldable pub line_before : Line → List Bool → List Bool
+unfolding field_bits
+line_before l rest = field_bits (line_fields l) rest
 
-unfoldable pub lineBits : Line → List Bool
-unfolding lineBefore
-lineBits l = lineBefore l []
+unfoldable pub line_bits : Line → List Bool
+unfolding line_before
+line_bits l = line_before l []
 
-unfoldable pub lineWords : Line → List ℕ
-unfolding fieldWords
-lineWords l = fieldWords (lineFields l)
+unfoldable pub line_words : Line → List ℕ
+unfolding field_words
+line_words l = field_words (line_fields l)
 
 -- zeros to the end of a slot
-unfoldable pub toSlot : List ℕ → List ℕ
-toSlot l = l ++ replicate (slotWords - length l) 0
+unfoldable pub to_slot : List ℕ → List ℕ
+to_slot l = l ++ replicate (slot_words - length l) 0
 
 -- the fault that reading would meet in a line as it stands, 0 for none
-unfoldable pub lineFault : Line → Answer
-lineFault l = (keypadLine (lineWords l)).answer
+unfoldable pub line_fault : Line → Answer
+line_fault l = (keypad_line (line_words l)).answer
 
 -- a line's slot in an area of words: its keypad numbers, then zeros
-unfoldable pub lineSlot : Line → List ℕ
-lineSlot l = toSlot (lineWords l)
+unfoldable pub line_slot : Line → List ℕ
+line_slot l = to_slot (line_words l)
 
 -- whether n bits from a position on are within that many bits, and near enough to be read there
-unfoldable pub bitsFit : ℕ → ℕ → ℕ → Bool
-bitsFit bits at n = leb (at + n) farthest && leb (at + n) bits
+unfoldable pub bits_fit : ℕ → ℕ → ℕ → Bool
+bits_fit bits at n = leb (at + n) farthest && leb (at + n) bits
 
 -- bits with a line written over them, and the position past it; unchanged, and the position itself, where it has no room
-unfoldable pub lineOver : List Bool → ℕ → Line → List Bool
-lineOver bits at l = pick (bitsFit (length bits) at (length (lineBits l))) (over bits at (lineBits l)) bits
+unfoldable pub line_over : List Bool → ℕ → Line → List Bool
+line_over bits at l = pick (bits_fit (length bits) at (length (line_bits l))) (over bits at (line_bits l)) bits
 
-unfoldable pub pastLine : List Bool → ℕ → Line → ℕ
-pastLine bits at l = pick (bitsFit (length bits) at (length (lineBits l))) (at + length (lineBits l)) at
+unfoldable pub past_line : List Bool → ℕ → Line → ℕ
+past_line bits at l = pick (bits_fit (length bits) at (length (line_bits l))) (at + length (line_bits l)) at
 
 -- what writing a line leaves and answers
 pub record LineWritten (old : List Bool) (at : ℕ) (l : Line) (new : List Bool) (p : ℕ) : Type 0 where
-  pub past : p ≡ pastLine old at l
-  pub leaves : new ≡ lineOver old at l
+  pub past : p ≡ past_line old at l
+  pub leaves : new ≡ line_over old at l

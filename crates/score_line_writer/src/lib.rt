@@ -4,10 +4,10 @@ ghost use Rattle.std.specs.Float.{binary32};
 ghost use Rattle.std.specs.Float.Ieee.{to_bits};
 ghost use Rattle.base_bitstream.specs.Bits.{bits_of, digit};
 ghost use Rattle.base_formats.specs.Format.{of};
-ghost use Rattle.score_line_writer.specs.inside.Fields.{float, whenBefore, labelBefore, eventBefore, valueFields};
-ghost use Rattle.score_line_writer.specs.Writing.{lineFields, lineBits, lineFault, lineSlot, bitsFit, LineWritten};
-ghost use Rattle.score_line_writer.specs.inside.Packed.{packed, Room, Joined, fieldsIn, Writable, Wrote};
-ghost use Rattle.score_line.specs.Reading.{keypadLine};
+ghost use Rattle.score_line_writer.specs.inside.Fields.{float, when_before, label_before, event_before, value_fields};
+ghost use Rattle.score_line_writer.specs.Writing.{line_fields, line_bits, line_fault, line_slot, bits_fit, LineWritten};
+ghost use Rattle.score_line_writer.specs.inside.Packed.{packed, Room, Joined, fields_in, Writable, Wrote};
+ghost use Rattle.score_line.specs.Reading.{keypad_line};
 
 use base_answer::Answer;
 use score_line::{Event, Label, Line, MOST_VALUES, SLOT, When};
@@ -67,7 +67,7 @@ fn with_field(f: Fields, width: usize, value: u32) -> Fields
 
 fn with_when(f: Fields, when: When) -> Fields
     requires { Room f 3 }
-    ensures { Joined f (whenBefore when []) 3 result }
+    ensures { Joined f (when_before when []) 3 result }
 {
     match when {
         When::Timed { use_if_late, time } => {
@@ -81,7 +81,7 @@ fn with_when(f: Fields, when: When) -> Fields
 
 fn with_label(f: Fields, label: Label) -> Fields
     requires { Room f 2 }
-    ensures { Joined f (labelBefore label []) 2 result }
+    ensures { Joined f (label_before label []) 2 result }
 {
     match label {
         Label::Labelled(n) => {
@@ -94,7 +94,7 @@ fn with_label(f: Fields, label: Label) -> Fields
 
 fn with_event(f: Fields, event: Event) -> Fields
     requires { Room f 5 }
-    ensures { Joined f (eventBefore event []) 5 result }
+    ensures { Joined f (event_before event []) 5 result }
 {
     match event {
         Event::Instr {
@@ -144,7 +144,7 @@ fn with_floats(f: Fields, count: usize, values: [f32; MOST_VALUES]) -> Fields
 // The values of an instr line, after their number.
 fn with_values(f: Fields, event: Event, count: usize, values: [f32; MOST_VALUES]) -> Fields
     requires { Room f 9 }
-    ensures { Joined f (valueFields event count values) 9 result }
+    ensures { Joined f (value_fields event count values) 9 result }
 {
     match event {
         Event::Instr {
@@ -167,7 +167,7 @@ fn with_values(f: Fields, event: Event, count: usize, values: [f32; MOST_VALUES]
 
 // The fields of any line.
 pub fn line_fields(line: Line) -> Fields
-    ensures { result ≡ packed (lineFields line) }
+    ensures { result ≡ packed (line_fields line) }
 {
     let when = line.when;
     let event = line.event;
@@ -180,7 +180,7 @@ pub fn line_fields(line: Line) -> Fields
 
 // How many bits a line is written in.
 pub fn bit_length(line: Line) -> usize
-    ensures { result ≡ length (lineBits line) }
+    ensures { result ≡ length (line_bits line) }
 {
     let f = line_fields(line);
     f.bits
@@ -188,7 +188,7 @@ pub fn bit_length(line: Line) -> usize
 
 // A line's keypad numbers, then zeros.
 pub fn line_slot(line: Line) -> [u32; SLOT]
-    ensures { result ≡ lineSlot line }
+    ensures { result ≡ line_slot line }
 {
     let f = line_fields(line);
     f.values
@@ -196,7 +196,7 @@ pub fn line_slot(line: Line) -> [u32; SLOT]
 
 fn first_answer(words: &[u32], n: usize) -> Answer
     requires { n ≤ length words.now }
-    ensures { result ≡ (keypadLine (take n words.now)).answer }
+    ensures { result ≡ (keypad_line (take n words.now)).answer }
 {
     let read = score_line_reader::keypad_line(&words[0..n]);
     read.answer
@@ -204,7 +204,7 @@ fn first_answer(words: &[u32], n: usize) -> Answer
 
 // The fault that reading would meet in a line: 3, 5 or none.
 pub fn line_fault(line: Line) -> Answer
-    ensures { result ≡ lineFault line }
+    ensures { result ≡ line_fault line }
 {
     let f = line_fields(line);
     let n = f.count;
@@ -214,7 +214,7 @@ pub fn line_fault(line: Line) -> Answer
 
 // Whether that many bytes have n bits at a position.
 fn has_bits(bytes: usize, at: usize, n: usize) -> bool
-    ensures { result ≡ bitsFit (8 * bytes) at n }
+    ensures { result ≡ bits_fit (8 * bytes) at n }
 {
     if at > FARTHEST {
         return false;
@@ -237,7 +237,7 @@ fn write_fields(
     values: [u32; SLOT],
 ) -> usize
     requires { Writable (8 * length out.old) at n widths values }
-    ensures { Wrote (bits_of out.old) at (fieldsIn n widths values) (bits_of out.new) result }
+    ensures { Wrote (bits_of out.old) at (fields_in n widths values) (bits_of out.new) result }
 {
     let mut p = at;
     let mut i: usize = 0;

@@ -11,15 +11,15 @@ use lib.ListN.{length}
 use Rattle.base_answer.specs.declared.Answer.{Answer}
 use Rattle.base_answer.specs.declared.Answer.TheVariants.{Taken, CutShort, NotCarried, LeftOver}
 use Rattle.base_answer.specs.Numbers.{is_taken}
-use Rattle.base_bitstream.specs.Fields.{readAt}
+use Rattle.base_bitstream.specs.Fields.{read_at}
 use Rattle.base_bitstream.specs.Filling.{filled}
 use Rattle.base_bitstream.specs.declared.FieldRead.{FieldRead}
 use Rattle.base_bitstream.specs.declared.FieldRead.TheVariants.{Value, Short}
-use Rattle.base_formats.specs.Format.{bitSource, Read, got, refused}
-use Rattle.score_line.specs.Reading.{lineFrom, line_at, lineRead, refusedLine, answer_of}
+use Rattle.base_formats.specs.Format.{bit_source, Read, got, refused}
+use Rattle.score_line.specs.Reading.{line_from, line_at, line_read, refused_line, answer_of}
 use Rattle.score_line.specs.declared.Line.{Line}
 use Rattle.score_line.specs.declared.LineRead.{LineRead}
-use Rattle.score_reader.specs.Score.{Lines, all, faulty, before, lineThen, lines_from, Score, taken, refusedScore, ended, counted, scoreOf, wholeLine, opened, unit_of}
+use Rattle.score_reader.specs.Score.{Lines, all, faulty, before, line_then, lines_from, Score, taken, refused_score, ended, counted, score_of, whole_line, opened, unit_of}
 use Rattle.score_reader.specs.inside.Walk.{first_of, next_of, walked, Ahead}
 use Rattle.score_reader.specs.declared.Cursor.{Cursor}
 use Rattle.score_reader.proofs.Readers.{fault-not-taken, whole-refused}
@@ -31,14 +31,14 @@ pub record Accepted (bits : List Bool) (ls : List Line) : Type 0 where
   pub count : ℕ
   pub start : ℕ
   pub end : ℕ
-  pub counted-there : readAt bits 0 20 ≡ Value count start
+  pub counted-there : read_at bits 0 20 ≡ Value count start
   pub lines-there : lines_from bits count 0 start ≡ all ls end
   pub filled-there : filled bits end ≡ true
 
-other : (a : Answer) (i : ℕ) (ls : List Line) → refusedScore a i ≡ taken ls → is_taken a ≡ false → ⊥
+other : (a : Answer) (i : ℕ) (ls : List Line) → refused_score a i ≡ taken ls → is_taken a ≡ false → ⊥
 other a i ls e f = true≢false (ap (λ (s : Score). is_taken s.answer) (sym e) ∙ f)
 
-end_back : (bits : List Bool) (n p : ℕ) (ls : List Line) (x : Lines) → readAt bits 0 20 ≡ Value n p → lines_from bits n 0 p ≡ x → ended bits x ≡ taken ls → Accepted bits ls
+end_back : (bits : List Bool) (n p : ℕ) (ls : List Line) (x : Lines) → read_at bits 0 20 ≡ Value n p → lines_from bits n 0 p ≡ x → ended bits x ≡ taken ls → Accepted bits ls
 unfolding ended
 end_back bits n p ls (faulty f i) g h e = absurd (other (answer_of f) i ls e (fault-not-taken f))
 end_back bits n p ls (all ms q) g h e =
@@ -46,29 +46,29 @@ end_back bits n p ls (all ms q) g h e =
     (λ f. record { count = n; start = p; end = q; counted-there = g; lines-there = h ∙ ap (λ (s : Score). all s.lines q) (rw f at e); filled-there = f })
     (λ f. absurd (other LeftOver 0 ls (rw f at e) refl))
 
-count-back : (bits : List Bool) (ls : List Line) (g : FieldRead) → readAt bits 0 20 ≡ g → counted bits g ≡ taken ls → Accepted bits ls
+count-back : (bits : List Bool) (ls : List Line) (g : FieldRead) → read_at bits 0 20 ≡ g → counted bits g ≡ taken ls → Accepted bits ls
 unfolding counted
 count-back bits ls (Value n p) h e = end_back bits n p ls (lines_from bits n 0 p) h refl e
 count-back bits ls Short h e = absurd (other CutShort 0 ls e refl)
 
-pub accepted : (bits : List Bool) (ls : List Line) → scoreOf bits ≡ taken ls → Accepted bits ls
-unfolding scoreOf
-accepted bits ls e = count-back bits ls (readAt bits 0 20) refl e
+pub accepted : (bits : List Bool) (ls : List Line) → score_of bits ≡ taken ls → Accepted bits ls
+unfolding score_of
+accepted bits ls e = count-back bits ls (read_at bits 0 20) refl e
 
 -- and back
-pub accepts : (bits : List Bool) (ls : List Line) → Accepted bits ls → scoreOf bits ≡ taken ls
-unfolding scoreOf counted ended
+pub accepts : (bits : List Bool) (ls : List Line) → Accepted bits ls → score_of bits ≡ taken ls
+unfolding score_of counted ended
 accepts bits ls a = ap (counted bits) a.counted-there ∙ ap (ended bits) a.lines-there ∙ rw a.filled-there
 
 -- an answer 0 has the lines that the definition gives
-pub answered : (bits : List Bool) → (scoreOf bits).answer ≡ Taken → scoreOf bits ≡ taken (scoreOf bits).lines
-unfolding scoreOf counted ended
-answered bits e = count (readAt bits 0 20) e
+pub answered : (bits : List Bool) → (score_of bits).answer ≡ Taken → score_of bits ≡ taken (score_of bits).lines
+unfolding score_of counted ended
+answered bits e = count (read_at bits 0 20) e
   where
-    no_more : (a : Answer) (i : ℕ) → is_taken a ≡ false → (refusedScore a i).answer ≡ Taken → refusedScore a i ≡ taken []
+    no_more : (a : Answer) (i : ℕ) → is_taken a ≡ false → (refused_score a i).answer ≡ Taken → refused_score a i ≡ taken []
     no_more a i f k = absurd (true≢false (ap is_taken (sym k) ∙ f))
 
-    filling : (b : Bool) (ms : List Line) → (cond b (taken ms) (refusedScore LeftOver 0)).answer ≡ Taken → cond b (taken ms) (refusedScore LeftOver 0) ≡ taken (cond b (taken ms) (refusedScore LeftOver 0)).lines
+    filling : (b : Bool) (ms : List Line) → (cond b (taken ms) (refused_score LeftOver 0)).answer ≡ Taken → cond b (taken ms) (refused_score LeftOver 0) ≡ taken (cond b (taken ms) (refused_score LeftOver 0)).lines
     filling true ms k = refl
     filling false ms k = no_more LeftOver 0 refl k
 
@@ -84,21 +84,21 @@ answered bits e = count (readAt bits 0 20) e
 
 pub record Unit-accepted (bits : List Bool) (x : Line) (p : ℕ) : Type 0 where
   pub start : ℕ
-  pub opened-there : readAt bits 0 2 ≡ Value 0 start
-  pub line-there : lineFrom (bitSource bits) start ≡ got x p
+  pub opened-there : read_at bits 0 2 ≡ Value 0 start
+  pub line-there : line_from (bit_source bits) start ≡ got x p
   pub filled-there : filled bits p ≡ true
 
-no_line : (a : Answer) (x : Line) (p : ℕ) → is_taken a ≡ false → refusedLine a ≡ lineRead (got x p) → ⊥
-unfolding refusedLine lineRead
+no_line : (a : Answer) (x : Line) (p : ℕ) → is_taken a ≡ false → refused_line a ≡ line_read (got x p) → ⊥
+unfolding refused_line line_read
 no_line a x p f e = true≢false (ap (λ (r : LineRead). is_taken r.answer) (sym e) ∙ f)
 
-same_line : (x y : Line) (p q : ℕ) → lineRead (got x p) ≡ lineRead (got y q) → got x p ≡ got y q
-unfolding lineRead
+same_line : (x y : Line) (p q : ℕ) → line_read (got x p) ≡ line_read (got y q) → got x p ≡ got y q
+unfolding line_read
 same_line x y p q e = ap₂ (λ (l : Line) (n : ℕ). got l n) (ap (λ (r : LineRead). r.line) e) (ap (λ (r : LineRead). r.next) e)
 
 module _ (bits : List Bool) (x : Line) (p : ℕ) where
-  line-part : (start : ℕ) (r : Read Line) → readAt bits 0 2 ≡ Value 0 start → lineFrom (bitSource bits) start ≡ r → wholeLine bits (lineRead r) ≡ lineRead (got x p) → Unit-accepted bits x p
-  unfolding wholeLine lineRead
+  line-part : (start : ℕ) (r : Read Line) → read_at bits 0 2 ≡ Value 0 start → line_from (bit_source bits) start ≡ r → whole_line bits (line_read r) ≡ line_read (got x p) → Unit-accepted bits x p
+  unfolding whole_line line_read
   line-part start (got y q) f g e =
       cases (filled bits q)
       (λ h.
@@ -108,23 +108,23 @@ module _ (bits : List Bool) (x : Line) (p : ℕ) where
       (λ h. absurd (no_line LeftOver x p refl (rw h at e)))
   line-part start (refused a) f g e =
       let n = fault-not-taken a in
-      absurd (no_line (answer_of a) x p n (whole-refused bits (refusedLine (answer_of a)) refl (unfold refusedLine in n) ∙ e))
+      absurd (no_line (answer_of a) x p n (whole-refused bits (refused_line (answer_of a)) refl (unfold refused_line in n) ∙ e))
 
-  open-part : (g : FieldRead) → readAt bits 0 2 ≡ g → opened bits g ≡ lineRead (got x p) → Unit-accepted bits x p
+  open-part : (g : FieldRead) → read_at bits 0 2 ≡ g → opened bits g ≡ line_read (got x p) → Unit-accepted bits x p
   unfolding opened line_at
   open-part (Value kind start) f e =
-      cases (eqb kind 0) (λ g. line-part start (lineFrom (bitSource bits) start) (f ∙ ap (λ (k : ℕ). Value k start) (eqb-true kind 0 g)) refl (rw g at e))
+      cases (eqb kind 0) (λ g. line-part start (line_from (bit_source bits) start) (f ∙ ap (λ (k : ℕ). Value k start) (eqb-true kind 0 g)) refl (rw g at e))
       (λ g. absurd (no_line NotCarried x p refl (rw g at e)))
   open-part Short f e = absurd (no_line CutShort x p refl e)
 
-  pub unit-accepted : unit_of bits ≡ lineRead (got x p) → Unit-accepted bits x p
+  pub unit-accepted : unit_of bits ≡ line_read (got x p) → Unit-accepted bits x p
   unfolding unit_of
-  unit-accepted e = open-part (readAt bits 0 2) refl e
+  unit-accepted e = open-part (read_at bits 0 2) refl e
 
 -- ---- the cursor
 
 -- before the first line, all lines of an accepted score lie ahead
-pub ahead-first : (bits : List Bool) (ls : List Line) → scoreOf bits ≡ taken ls → Ahead bits (first_of bits) ls
+pub ahead-first : (bits : List Bool) (ls : List Line) → score_of bits ≡ taken ls → Ahead bits (first_of bits) ls
 unfolding first_of
 ahead-first bits ls e =
     let a = accepted bits ls e in
@@ -135,7 +135,7 @@ pub record More (bits : List Bool) (n i at : ℕ) (ls : List Line) (end : ℕ) :
   pub line : Line
   pub next : ℕ
   pub others : List Line
-  pub line-there : lineFrom (bitSource bits) at ≡ got line next
+  pub line-there : line_from (bit_source bits) at ≡ got line next
   pub others-there : lines_from bits n (suc i) next ≡ all others end
   pub lines : ls ≡ line ∷ others
 
@@ -145,9 +145,9 @@ before_back l (faulty f i) ls q e = absurd (let z : ◌≡◌ {A = ℕ} 0 1 = cc
 
 pub lines-back : (bits : List Bool) (n i at : ℕ) (ls : List Line) (q : ℕ) → lines_from bits (suc n) i at ≡ all ls q → More bits n i at ls q
 unfolding lines_from
-lines-back bits n i at ls q e = go (lineFrom (bitSource bits) at) refl e
+lines-back bits n i at ls q e = go (line_from (bit_source bits) at) refl e
   where
-    go : (x : Read Line) → lineFrom (bitSource bits) at ≡ x → lineThen x i (λ p. lines_from bits n (suc i) p) ≡ all ls q → More bits n i at ls q
+    go : (x : Read Line) → line_from (bit_source bits) at ≡ x → line_then x i (λ p. lines_from bits n (suc i) p) ≡ all ls q → More bits n i at ls q
     go (got l p) h k =
         let b = before_back l (lines_from bits n (suc i) p) ls q k in
         record { line = l; next = p; others = b.0; line-there = h; others-there = b.1; lines = b.2 }
@@ -172,7 +172,7 @@ pub record Passed (bits : List Bool) (c : Cursor) (l : Line) (ls : List Line) : 
   pub ahead : Ahead bits (next_of bits c).rest ls
 
 pass : (bits : List Bool) (n i at : ℕ) (l : Line) (ls : List Line) (q : ℕ) → lines_from bits (suc n) i at ≡ all (l ∷ ls) q → Passed bits (record { at = at; left = suc n }) l ls
-unfolding next_of line_at lineRead
+unfolding next_of line_at line_read
 pass bits n i at l ls q e =
     let m = lines-back bits n i at (l ∷ ls) q e in
     let h : l ≡ m.line = cc in
@@ -210,7 +210,7 @@ walk bits (suc n) c (l ∷ ls) h a =
     cc (p.line, walk bits n (next_of bits c).rest ls (omega arith) p.ahead)
 
 -- walking the cursor over an accepted score gives exactly its lines
-pub walk-all : (bits : List Bool) → (scoreOf bits).answer ≡ Taken → walked bits (first_of bits).left (first_of bits) ≡ (scoreOf bits).lines
+pub walk-all : (bits : List Bool) → (score_of bits).answer ≡ Taken → walked bits (first_of bits).left (first_of bits) ≡ (score_of bits).lines
 walk-all bits e =
-    let a = ahead-first bits (scoreOf bits).lines (answered bits e) in
-    walk bits (first_of bits).left (first_of bits) (scoreOf bits).lines (ahead-left bits (first_of bits) (scoreOf bits).lines a) a
+    let a = ahead-first bits (score_of bits).lines (answered bits e) in
+    walk bits (first_of bits).left (first_of bits) (score_of bits).lines (ahead-left bits (first_of bits) (score_of bits).lines a) a

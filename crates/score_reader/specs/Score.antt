@@ -3,13 +3,13 @@ use Rattle.std.specs.Prelude.{ℕ, zero, suc, Bool, cond, List, [], ◌∷◌, e
 use Rattle.base_answer.specs.Numbers.{is_taken}
 use Rattle.base_answer.specs.declared.Answer.{Answer}
 use Rattle.base_answer.specs.declared.Answer.TheVariants.{Taken, CutShort, NotCarried, LeftOver}
-use Rattle.base_bitstream.specs.Fields.{readAt}
+use Rattle.base_bitstream.specs.Fields.{read_at}
 use Rattle.base_bitstream.specs.Filling.{filled}
 use Rattle.base_bitstream.specs.declared.FieldRead.{FieldRead}
 use Rattle.base_bitstream.specs.declared.FieldRead.TheVariants.{Value, Short}
-use Rattle.base_formats.specs.Format.{bitSource, Read, got, refused}
+use Rattle.base_formats.specs.Format.{bit_source, Read, got, refused}
 use Rattle.base_formats.specs.declared.Fault.{Fault}
-use Rattle.score_line.specs.Reading.{lineFrom, line_at, refusedLine, answer_of}
+use Rattle.score_line.specs.Reading.{line_from, line_at, refused_line, answer_of}
 use Rattle.score_line.specs.declared.Line.{Line}
 use Rattle.score_line.specs.declared.LineRead.{LineRead}
 
@@ -25,14 +25,14 @@ before l (all ls p) = all (l ∷ ls) p
 before l (faulty f i) = faulty f i
 
 -- the line of number i, then those from the position past it on
-abbrev pub lineThen : Read Line → ℕ → (ℕ → Lines) → Lines
-lineThen (got l p) i others = before l (others p)
-lineThen (refused f) i others = faulty f i
+abbrev pub line_then : Read Line → ℕ → (ℕ → Lines) → Lines
+line_then (got l p) i others = before l (others p)
+line_then (refused f) i others = faulty f i
 
 -- n lines without gap from a position on, the first of them number i
 unfoldable pub lines_from : List Bool → ℕ → ℕ → ℕ → Lines
 lines_from bits zero i at = all [] at
-lines_from bits (suc n) i at = lineThen (lineFrom (bitSource bits) at) i (λ p. lines_from bits n (suc i) p)
+lines_from bits (suc n) i at = line_then (line_from (bit_source bits) at) i (λ p. lines_from bits n (suc i) p)
 
 -- ---- a whole score
 
@@ -45,32 +45,32 @@ pub record Score : Type 0 where
 abbrev pub taken : List Line → Score
 taken ls = record { answer = Taken; line = 0; lines = ls }
 
-abbrev pub refusedScore : Answer → ℕ → Score
-refusedScore a i = record { answer = a; line = i; lines = [] }
+abbrev pub refused_score : Answer → ℕ → Score
+refused_score a i = record { answer = a; line = i; lines = [] }
 
 -- past the last line: zero bits to a whole byte
 unfoldable pub ended : List Bool → Lines → Score
-ended bits (all ls p) = cond (filled bits p) (taken ls) (refusedScore LeftOver 0)
-ended bits (faulty f i) = refusedScore (answer_of f) i
+ended bits (all ls p) = cond (filled bits p) (taken ls) (refused_score LeftOver 0)
+ended bits (faulty f i) = refused_score (answer_of f) i
 
 -- the number of lines, then the lines
 unfoldable pub counted : List Bool → FieldRead → Score
 counted bits (Value n p) = ended bits (lines_from bits n 0 p)
-counted bits Short = refusedScore CutShort 0
+counted bits Short = refused_score CutShort 0
 
-unfoldable pub scoreOf : List Bool → Score
-scoreOf bits = counted bits (readAt bits 0 20)
+unfoldable pub score_of : List Bool → Score
+score_of bits = counted bits (read_at bits 0 20)
 
 -- ---- an access unit
 
 -- one line, then zero bits to a whole byte
-unfoldable pub wholeLine : List Bool → LineRead → LineRead
-wholeLine bits r = cond (is_taken r.answer) (cond (filled bits r.next) r (refusedLine LeftOver)) r
+unfoldable pub whole_line : List Bool → LineRead → LineRead
+whole_line bits r = cond (is_taken r.answer) (cond (filled bits r.next) r (refused_line LeftOver)) r
 
 -- two bits 00, then the line
 unfoldable pub opened : List Bool → FieldRead → LineRead
-opened bits (Value kind p) = cond (eqb kind 0) (wholeLine bits (line_at bits p)) (refusedLine NotCarried)
-opened bits Short = refusedLine CutShort
+opened bits (Value kind p) = cond (eqb kind 0) (whole_line bits (line_at bits p)) (refused_line NotCarried)
+opened bits Short = refused_line CutShort
 
 unfoldable pub unit_of : List Bool → LineRead
-unit_of bits = opened bits (readAt bits 0 2)
+unit_of bits = opened bits (read_at bits 0 2)

@@ -1,8 +1,8 @@
 // Whole scores and access units, read without storing their lines (document 01, "Score lines, bit by bit").
 ghost use Rattle.std.specs.Prelude.{◌≡◌, []};
 ghost use Rattle.base_bitstream.specs.Bits.{bits_of};
-ghost use Rattle.score_reader.specs.Score.{scoreOf, ended, lines_from, all, unit_of, wholeLine};
-ghost use Rattle.score_reader.specs.inside.Walk.{scoreReadOf, first_of, next_of};
+ghost use Rattle.score_reader.specs.Score.{score_of, ended, lines_from, all, unit_of, whole_line};
+ghost use Rattle.score_reader.specs.inside.Walk.{score_read_of, first_of, next_of};
 
 use base_answer::Answer;
 use base_bitstream::FieldRead;
@@ -32,7 +32,7 @@ pub struct Step {
 
 // Past the last line: zero bits to a whole byte.
 fn end_of(s: &[u8], p: usize) -> ScoreRead
-    ensures { result ≡ scoreReadOf (ended (bits_of s.now) (all [] p)) }
+    ensures { result ≡ score_read_of (ended (bits_of s.now) (all [] p)) }
 {
     if base_bitstream::is_filled(s, p) {
         return ScoreRead {
@@ -48,7 +48,7 @@ fn end_of(s: &[u8], p: usize) -> ScoreRead
 
 // The lines from a position on, and the end of the score.
 fn read_lines(s: &[u8], count: usize, start: usize) -> ScoreRead
-    ensures { result ≡ scoreReadOf (ended (bits_of s.now) (lines_from (bits_of s.now) count 0 start)) }
+    ensures { result ≡ score_read_of (ended (bits_of s.now) (lines_from (bits_of s.now) count 0 start)) }
 {
     let mut at = start;
     let mut i: usize = 0;
@@ -70,7 +70,7 @@ fn read_lines(s: &[u8], count: usize, start: usize) -> ScoreRead
 
 // A whole score: the first fault with its line's number, or taken.
 pub fn read_score(s: &[u8]) -> ScoreRead
-    ensures { result ≡ scoreReadOf (scoreOf (bits_of s.now)) }
+    ensures { result ≡ score_read_of (score_of (bits_of s.now)) }
 {
     match base_bitstream::read(s, 0, 20) {
         FieldRead::Value(n, p) => read_lines(s, n as usize, p),
@@ -113,7 +113,7 @@ pub fn next(s: &[u8], c: Cursor) -> Step
 
 // A line that has to fill its bytes.
 fn whole_line(s: &[u8], read: LineRead) -> LineRead
-    ensures { result ≡ wholeLine (bits_of s.now) read }
+    ensures { result ≡ whole_line (bits_of s.now) read }
 {
     let answer = read.answer;
     if base_answer::is_taken(answer) {

@@ -3,9 +3,9 @@ ghost use Rattle.std.specs.Prelude.{◌≡◌, ◌*◌, ◌≤◌, false, length
 ghost use Rattle.base_bitstream.specs.Bits.{bits_of};
 ghost use Rattle.base_bitstream.specs.Fields.{over};
 ghost use Rattle.base_bitstream.specs.Filling.{missing};
-ghost use Rattle.score_line_writer.specs.Writing.{lineBits};
-ghost use Rattle.score_writer.specs.Writing.{linesBits, scoreBits, unitBits, mostLines};
-ghost use Rattle.score_writer.specs.Slots.{allZero, slotLine, slotRead, areaFault, areaLines};
+ghost use Rattle.score_line_writer.specs.Writing.{line_bits};
+ghost use Rattle.score_writer.specs.Writing.{lines_bits, score_bits, unit_bits, most_lines};
+ghost use Rattle.score_writer.specs.Slots.{all_zero, slot_line, slot_read, area_fault, area_lines};
 ghost use Rattle.score_writer.specs.inside.Laid.{Laid, RoomAt, Short};
 ghost use Rattle.score_writer.specs.Written.{ScoreDone, UnitDone, SlotDone};
 
@@ -37,7 +37,7 @@ pub fn refused(answer: Answer, line: usize) -> WriteResult
 
 // Whether all words from a position on are zero.
 fn zero_from(words: &[u32], at: usize) -> bool
-    ensures { result ≡ allZero (drop at words.now) }
+    ensures { result ≡ all_zero (drop at words.now) }
 {
     let mut i = at;
     while i < words.len() {
@@ -52,7 +52,7 @@ fn zero_from(words: &[u32], at: usize) -> bool
 
 // A slot: a line's numbers as the keypad reads them, then zeros.
 fn read_slot(slot: &[u32]) -> LineRead
-    ensures { result ≡ slotLine slot.now }
+    ensures { result ≡ slot_line slot.now }
 {
     let read = score_line_reader::line_in_words(slot, 0);
     let answer = read.answer;
@@ -67,7 +67,7 @@ fn read_slot(slot: &[u32]) -> LineRead
 
 // The slot of number i; numbers are lacking where the area does not hold it whole.
 pub fn slot_at(area: &[u32], i: usize) -> LineRead
-    ensures { result ≡ slotRead area.now i }
+    ensures { result ≡ slot_read area.now i }
 {
     if i < area.len() / SLOT {
         let start = SLOT * i;
@@ -79,7 +79,7 @@ pub fn slot_at(area: &[u32], i: usize) -> LineRead
 
 // The first fault among the first n slots.
 pub fn first_fault(area: &[u32], n: usize) -> ScoreRead
-    ensures { result ≡ areaFault area.now n 0 }
+    ensures { result ≡ area_fault area.now n 0 }
 {
     let mut i: usize = 0;
     while i < n {
@@ -101,15 +101,15 @@ pub fn first_fault(area: &[u32], n: usize) -> ScoreRead
 }
 
 fn line_length(line: Line) -> usize
-    ensures { Short (length (lineBits line)) 367 result }
+    ensures { Short (length (line_bits line)) 367 result }
 {
     score_line_writer::bit_length(line)
 }
 
 // The bits of the lines of the first n slots.
 fn lines_length(area: &[u32], n: usize) -> usize
-    requires { n ≤ mostLines }
-    ensures { Short (length (linesBits (areaLines area.now n 0))) (367 * n) result }
+    requires { n ≤ most_lines }
+    ensures { Short (length (lines_bits (area_lines area.now n 0))) (367 * n) result }
 {
     let mut total: usize = 0;
     let mut i: usize = 0;
@@ -124,8 +124,8 @@ fn lines_length(area: &[u32], n: usize) -> usize
 
 // Writes the lines of the first n slots at a position, and answers the position past them.
 fn write_lines(area: &[u32], n: usize, out: &mut [u8], start: usize) -> usize
-    requires { RoomAt (8 * length out.old) start (length (linesBits (areaLines area.now n 0))) }
-    ensures { Laid (bits_of out.old) start (linesBits (areaLines area.now n 0)) (bits_of out.new) result }
+    requires { RoomAt (8 * length out.old) start (length (lines_bits (area_lines area.now n 0))) }
+    ensures { Laid (bits_of out.old) start (lines_bits (area_lines area.now n 0)) (bits_of out.new) result }
 {
     let mut p = start;
     let mut i: usize = 0;
@@ -147,8 +147,8 @@ fn fill_byte(out: &mut [u8], p: usize)
 }
 
 fn put_score(area: &[u32], n: usize, out: &mut [u8])
-    requires { (n ≤ mostLines) × (RoomAt (8 * length out.old) 20 (length (linesBits (areaLines area.now n 0)))) }
-    ensures { bits_of out.new ≡ over (bits_of out.old) 0 (scoreBits (areaLines area.now n 0)) }
+    requires { (n ≤ most_lines) × (RoomAt (8 * length out.old) 20 (length (lines_bits (area_lines area.now n 0)))) }
+    ensures { bits_of out.new ≡ over (bits_of out.old) 0 (score_bits (area_lines area.now n 0)) }
 {
     base_bitstream::write(out, 0, 20, n as u32);
     let p = write_lines(area, n, out, 20);
@@ -156,8 +156,8 @@ fn put_score(area: &[u32], n: usize, out: &mut [u8])
 }
 
 fn put_unit(line: Line, out: &mut [u8])
-    requires { RoomAt (8 * length out.old) 2 (length (lineBits line)) }
-    ensures { bits_of out.new ≡ over (bits_of out.old) 0 (unitBits line) }
+    requires { RoomAt (8 * length out.old) 2 (length (line_bits line)) }
+    ensures { bits_of out.new ≡ over (bits_of out.old) 0 (unit_bits line) }
 {
     base_bitstream::write(out, 0, 2, 0);
     let p = score_line_writer::write_line(out, 2, line);

@@ -16,9 +16,9 @@ use Rattle.settings_records.specs.declared.Found.{Found}
 use Rattle.settings_records.specs.declared.InUse.{InUse}
 use Rattle.settings_records.specs.declared.Changed.{Changed}
 use Rattle.settings_records.specs.Form.{setting, found, Parses, IsRecord, Records, none, next}
-use Rattle.settings_records.specs.inside.Reading.{foundIn, recordsIn}
-use Rattle.settings_records.specs.Changes.{area_bytes, laidAt, changing, inUse, changed, noneInUse, changeOf, areaChanged, undoOf}
-use Rattle.settings_records.specs.Claims.{RefusedChange, RefusedUndo, Step, change, undo, Store, answerTo, afterStep, afterSteps, taken_of, standing, LastSets, AsStanding, LastStanding}
+use Rattle.settings_records.specs.inside.Reading.{found_in, records_in}
+use Rattle.settings_records.specs.Changes.{area_bytes, laid_at, changing, in_use, changed, none_in_use, change_of, area_changed, undo_of}
+use Rattle.settings_records.specs.Claims.{RefusedChange, RefusedUndo, Step, change, undo, Store, answer_to, after_step, after_steps, taken_of, standing, LastSets, AsStanding, LastStanding}
 use Rattle.settings_records.proofs.Changing.{change-joins}
 use Rattle.settings_records.proofs.Meaning.{every-record}
 use Rattle.settings_records.proofs.Areas.{records-found}
@@ -35,18 +35,18 @@ laid [] = []
 laid (b ∷ records) = laid records ++ b
 
 -- what the last of them sets
-lastSetting : (records : List (List ℕ)) → Each records → Setting
+last_setting : (records : List (List ℕ)) → Each records → Setting
 unfolding Each
-lastSetting [] e = setting 0 0 0
-lastSetting (b ∷ records) e = e.0.0
+last_setting [] e = setting 0 0 0
+last_setting (b ∷ records) e = e.0.0
 
-last-sets : (records : List (List ℕ)) (e : Each records) → LastSets records (lastSetting records e)
-unfolding Each lastSetting
+last-sets : (records : List (List ℕ)) (e : Each records) → LastSets records (last_setting records e)
+unfolding Each last_setting
 last-sets [] e = refl
 last-sets (b ∷ records) e = e.0.1
 
-are-records : (records : List (List ℕ)) (e : Each records) → Records (length records) (laid records) (lastSetting records e)
-unfolding Each laid lastSetting
+are-records : (records : List (List ℕ)) (e : Each records) → Records (length records) (laid records) (last_setting records e)
+unfolding Each laid last_setting
 are-records [] e = none
 are-records (b ∷ records) e = next (are-records records e.1) e.0.1
 
@@ -57,32 +57,32 @@ record Stands (records : List (List ℕ)) (l : Store) : Type 0 where
   area : l.area ≡ laid records ++ rest
   count : l.settings.count ≡ length records
   all : Each records
-  settings : l.settings.last ≡ lastSetting records all
+  settings : l.settings.last ≡ last_setting records all
 
 -- where the records end
-records-there : {records : List (List ℕ)} {l : Store} (s : Stands records l) → recordsIn l.settings.count l.area ≡ found (lastSetting records s.all) (length (laid records))
-records-there {records} s = (λ i. recordsIn (s.count i) (s.area i)) ∙ records-found (are-records records s.all) s.rest
+records-there : {records : List (List ℕ)} {l : Store} (s : Stands records l) → records_in l.settings.count l.area ≡ found (last_setting records s.all) (length (laid records))
+records-there {records} s = (λ i. records_in (s.count i) (s.area i)) ∙ records-found (are-records records s.all) s.rest
 
-pub changed-taken : (k : InUse) (area handed : List ℕ) → is_taken (changeOf k area handed).answer ≡ true → is_taken (changing k.count area handed).answer ≡ true
-unfolding changeOf
+pub changed-taken : (k : InUse) (area handed : List ℕ) → is_taken (change_of k area handed).answer ≡ true → is_taken (changing k.count area handed).answer ≡ true
+unfolding change_of
 changed-taken k area handed t = go (changing k.count area handed) t
   where
-    go : (j : Found) → is_taken (cond (is_taken j.answer) (changed (inUse (k.count + 1) j.setting) Taken) (changed k j.answer)).answer ≡ true → is_taken j.answer ≡ true
+    go : (j : Found) → is_taken (cond (is_taken j.answer) (changed (in_use (k.count + 1) j.setting) Taken) (changed k j.answer)).answer ≡ true → is_taken j.answer ≡ true
     go j t = by (is_taken j.answer) refl t
       where
-        by : (b : Bool) → is_taken j.answer ≡ b → is_taken (cond b (changed (inUse (k.count + 1) j.setting) Taken) (changed k j.answer)).answer ≡ true → is_taken j.answer ≡ true
+        by : (b : Bool) → is_taken j.answer ≡ b → is_taken (cond b (changed (in_use (k.count + 1) j.setting) Taken) (changed k j.answer)).answer ≡ true → is_taken j.answer ≡ true
         by true e u = e
         by false e u = u
 
 -- bytes laid behind others that stand at the start of an area
-laid-behind : (before handed rest : List ℕ) → laidAt (length before) handed (before ++ rest) ≡ before ++ handed ++ drop (length handed) rest
-unfolding laidAt
+laid-behind : (before handed rest : List ℕ) → laid_at (length before) handed (before ++ rest) ≡ before ++ handed ++ drop (length handed) rest
+unfolding laid_at
 laid-behind before handed rest = (λ i. take-append_seam before rest i ++ handed ++ drop-append-add before rest (length handed) i)
 
 module _ (records : List (List ℕ)) (l : Store) (s : Stands records l) where
   -- a change that is taken
-  stands-change : (handed : List ℕ) → is_taken (answerTo l (change handed)) ≡ true → Stands (handed ∷ records) (afterStep l (change handed))
-  unfolding changeOf areaChanged laid Each lastSetting
+  stands-change : (handed : List ℕ) → is_taken (answer_to l (change handed)) ≡ true → Stands (handed ∷ records) (after_step l (change handed))
+  unfolding change_of area_changed laid Each last_setting
   stands-change handed t =
       let c = changed-taken l.settings l.area handed t in
       let j = change-joins l.settings.count l.area handed c in
@@ -90,10 +90,10 @@ module _ (records : List (List ℕ)) (l : Store) (s : Stands records l) where
       record {
         rest = drop (length handed) s.rest;
         area =
-            cond-true _ _ c ∙ (λ i. laidAt (place i) handed (s.area i))
+            cond-true _ _ c ∙ (λ i. laid_at (place i) handed (s.area i))
             ∙ laid-behind (laid records) handed s.rest;
         count = ap (λ (x : Changed). x.settings.count) (cond-true _ _ c) ∙ omega (arith, s.count);
-        all = (((foundIn handed).setting, subst (Parses handed) j.new (every-record handed)), s.all);
+        all = (((found_in handed).setting, subst (Parses handed) j.new (every-record handed)), s.all);
         settings = ap (λ (x : Changed). x.settings.last) (cond-true _ _ c) ∙ ap (λ (x : Found). x.setting) j.gives;
       }
 
@@ -115,15 +115,15 @@ module _ {A : Type 0} (f : A → Bool) (x y : A) where
 -- what an undo that is taken leaves
 pub record Undone (k : InUse) (area : List ℕ) : Type 0 where
   pub several : 2 ≤ k.count
-  pub stands : is_taken (recordsIn k.count area).answer ≡ true
-  pub gives : (undoOf k area).settings ≡ inUse (k.count - 1) (recordsIn (k.count - 1) area).setting
+  pub stands : is_taken (records_in k.count area).answer ≡ true
+  pub gives : (undo_of k area).settings ≡ in_use (k.count - 1) (records_in (k.count - 1) area).setting
 
-pub undone : (k : InUse) (area : List ℕ) → is_taken (undoOf k area).answer ≡ true → Undone k area
-unfolding undoOf
+pub undone : (k : InUse) (area : List ℕ) → is_taken (undo_of k area).answer ≡ true → Undone k area
+unfolding undo_of
 undone k area t =
     let f : Changed → Bool = λ (x : Changed). is_taken x.answer in
     let a = then-of f _ _ (eqb (length area) area_bytes) refl t in
-    let b = same_of f _ _ (is_taken (recordsIn k.count area).answer) refl a.1 in
+    let b = same_of f _ _ (is_taken (records_in k.count area).answer) refl a.1 in
     let c = else-of f _ _ (ltb k.count 2) refl b.1 in
     record {
       several = ltb-false k.count 2 c.0;
@@ -132,7 +132,7 @@ undone k area t =
     }
 
 -- an undo that is taken
-stands-undo : (records : List (List ℕ)) (l : Store) → Stands records l → is_taken (answerTo l undo) ≡ true → Stands (drop 1 records) (afterStep l undo)
+stands-undo : (records : List (List ℕ)) (l : Store) → Stands records l → is_taken (answer_to l undo) ≡ true → Stands (drop 1 records) (after_step l undo)
 unfolding laid Each
 stands-undo [] l s t = absurd (omega (arith, (undone l.settings l.area t).several, s.count))
 stands-undo (b ∷ records) l s t =
@@ -146,39 +146,39 @@ stands-undo (b ∷ records) l s t =
       all = s.all.1;
       settings =
           ap (λ (x : InUse). x.last) u.gives
-          ∙ ap (λ (x : Found). x.setting) ((λ i. recordsIn (n i) (q i)) ∙ records-found (are-records records s.all.1) (b ++ s.rest));
+          ∙ ap (λ (x : Found). x.setting) ((λ i. records_in (n i) (q i)) ∙ records-found (are-records records s.all.1) (b ++ s.rest));
     }
 
 -- ---- refusals change nothing
 
 pub refused-change : RefusedChange
-unfolding changeOf areaChanged
+unfolding change_of area_changed
 refused-change k area handed t =
     let j = changing k.count area handed in
     let e = refused-there (is_taken j.answer) t in
     (ap (λ (x : Changed). x.settings) (cond-false _ _ e), cond-false _ _ e)
   where
     refused-there : (b : Bool)
-        → is_taken (cond b (changed (inUse (k.count + 1) (changing k.count area handed).setting) Taken) (changed k (changing k.count area handed).answer)).answer ≡ false
+        → is_taken (cond b (changed (in_use (k.count + 1) (changing k.count area handed).setting) Taken) (changed k (changing k.count area handed).answer)).answer ≡ false
         → b ≡ false
     refused-there true t = t
     refused-there false t = refl
 
 pub refused-undo : RefusedUndo
-unfolding undoOf
-refused-undo k area t = one (eqb (length area) area_bytes) (is_taken (recordsIn k.count area).answer) (ltb k.count 2) t
+unfolding undo_of
+refused-undo k area t = one (eqb (length area) area_bytes) (is_taken (records_in k.count area).answer) (ltb k.count 2) t
   where
     last : Changed
-    last = changed (inUse (k.count - 1) (recordsIn (k.count - 1) area).setting) Taken
+    last = changed (in_use (k.count - 1) (records_in (k.count - 1) area).setting) Taken
 
-    one : (b c d : Bool) → is_taken (cond b (cond c (cond d (changed k NothingToUndo) last) (changed k (recordsIn k.count area).answer)) (changed k NoRoom)).answer ≡ false
-        → (cond b (cond c (cond d (changed k NothingToUndo) last) (changed k (recordsIn k.count area).answer)) (changed k NoRoom)).settings ≡ k
+    one : (b c d : Bool) → is_taken (cond b (cond c (cond d (changed k NothingToUndo) last) (changed k (records_in k.count area).answer)) (changed k NoRoom)).answer ≡ false
+        → (cond b (cond c (cond d (changed k NothingToUndo) last) (changed k (records_in k.count area).answer)) (changed k NoRoom)).settings ≡ k
     one true true true t = refl
     one true true false t = absurd (true≢false t)
     one true false d t = refl
     one false c d t = refl
 
-stands-refused : (records : List (List ℕ)) (l : Store) (c : Step) → Stands records l → is_taken (answerTo l c) ≡ false → Stands records (afterStep l c)
+stands-refused : (records : List (List ℕ)) (l : Store) (c : Step) → Stands records l → is_taken (answer_to l c) ≡ false → Stands records (after_step l c)
 stands-refused records l (change handed) s t =
     let r = refused-change l.settings l.area handed t in
     record {
@@ -201,26 +201,26 @@ stands-refused records l undo s t =
 -- ---- any list of changes and undos
 
 Goes : List Step → Type 0
-Goes cs = (records : List (List ℕ)) (l : Store) → Stands records l → AsStanding (standing records (taken_of l cs)) (afterSteps l cs).settings
+Goes cs = (records : List (List ℕ)) (l : Store) → Stands records l → AsStanding (standing records (taken_of l cs)) (after_steps l cs).settings
 
 next-step : (c : Step) (cs : List Step) → Goes cs → Goes (c ∷ cs)
-unfolding Goes taken_of afterSteps standing
-next-step c cs rec = λ records l s. go records l c s (is_taken (answerTo l c)) refl
+unfolding Goes taken_of after_steps standing
+next-step c cs rec = λ records l s. go records l c s (is_taken (answer_to l c)) refl
   where
-    go : (records : List (List ℕ)) (l : Store) (c : Step) → Stands records l → (b : Bool) → is_taken (answerTo l c) ≡ b
-        → AsStanding (standing records (cond b (c ∷ taken_of (afterStep l c) cs) (taken_of (afterStep l c) cs))) (afterSteps (afterStep l c) cs).settings
-    go records l c s false e = rec records (afterStep l c) (stands-refused records l c s e)
-    go records l (change handed) s true e = rec (handed ∷ records) (afterStep l (change handed)) (stands-change records l s handed e)
-    go records l undo s true e = rec (drop 1 records) (afterStep l undo) (stands-undo records l s e)
+    go : (records : List (List ℕ)) (l : Store) (c : Step) → Stands records l → (b : Bool) → is_taken (answer_to l c) ≡ b
+        → AsStanding (standing records (cond b (c ∷ taken_of (after_step l c) cs) (taken_of (after_step l c) cs))) (after_steps (after_step l c) cs).settings
+    go records l c s false e = rec records (after_step l c) (stands-refused records l c s e)
+    go records l (change handed) s true e = rec (handed ∷ records) (after_step l (change handed)) (stands-change records l s handed e)
+    go records l undo s true e = rec (drop 1 records) (after_step l undo) (stands-undo records l s e)
 
 goes : (cs : List Step) → Goes cs
-unfolding Goes taken_of afterSteps standing
+unfolding Goes taken_of after_steps standing
 goes [] = λ records l s. record { count = s.count; settings = subst⁻¹ (LastSets records) s.settings (last-sets records s.all) }
 goes (c ∷ cs) = next-step c cs (goes cs)
 
 pub last-standing : LastStanding
-unfolding LastStanding Goes laid Each lastSetting
+unfolding LastStanding Goes laid Each last_setting
 last-standing area first cs t =
-    let start : Store = record { settings = noneInUse; area = area } in
+    let start : Store = record { settings = none_in_use; area = area } in
     let empty : Stands [] start = record { rest = area; area = refl; count = refl; all = tt; settings = refl } in
-    goes cs (first ∷ []) (afterStep start (change first)) (stands-change [] start empty first t)
+    goes cs (first ∷ []) (after_step start (change first)) (stands-change [] start empty first t)

@@ -14,9 +14,9 @@ use Rattle.base_answer.specs.declared.Answer.{Answer}
 use Rattle.base_answer.specs.declared.Answer.TheVariants.{CutShort, OutOfRange, LeftOver, UnknownVersion}
 use Rattle.settings_records.specs.declared.Setting.{Setting}
 use Rattle.settings_records.specs.declared.Found.{Found}
-use Rattle.settings_records.specs.Form.{sixteenBits, setting, found, refusedAs}
-use Rattle.settings_records.specs.inside.Reading.{withinOf, judgedOf, ofVersion, behindLength, foundIn, walked, recordsIn}
-use Rattle.settings_records.specs.Changes.{laidAt}
+use Rattle.settings_records.specs.Form.{sixteen_bits, setting, found, refused_as}
+use Rattle.settings_records.specs.inside.Reading.{within_of, judged_of, of_version, behind_length, found_in, walked, records_in}
+use Rattle.settings_records.specs.Changes.{laid_at}
 
 -- ---- a record that was found is all there, and has at least six bytes
 
@@ -25,7 +25,7 @@ pub record Fits (s : List ℕ) (f : Found) : Type 0 where
   pub most : is_taken f.answer ≡ true → f.size ≤ length s
   pub shape : is_taken f.answer ≡ true → f ≡ found f.setting f.size
 
-refusal-fits : (s : List ℕ) (a : Answer) → is_taken a ≡ false → Fits s (refusedAs a)
+refusal-fits : (s : List ℕ) (a : Answer) → is_taken a ≡ false → Fits s (refused_as a)
 refusal-fits s a e = record { least = λ t. absurd (true≢false (sym t ∙ e)); most = λ t. omega arith; shape = λ t. absurd (true≢false (sym t ∙ e)) }
 
 -- both ways of a test
@@ -33,17 +33,17 @@ pub by-test : (P : Found → Type 0) (b : Bool) (x y : Found) → (b ≡ true �
 by-test P true x y f g = f refl
 by-test P false x y f g = g refl
 
-judged-fits : (s : List ℕ) (c n t size : ℕ) → 6 ≤ size → size ≤ length s → Fits s (judgedOf c n t size)
-unfolding judgedOf
+judged-fits : (s : List ℕ) (c n t size : ℕ) → 6 ≤ size → size ≤ length s → Fits s (judged_of c n t size)
+unfolding judged_of
 judged-fits s c n t size l h =
     let bad = refusal-fits s OutOfRange refl in
-    by-test (Fits s) (withinOf c 32767) _ _ (λ e. by-test (Fits s) (withinOf n 16) _ _
-    (λ e. by-test (Fits s) (withinOf t 960) _ _ (λ e. record { least = λ u. l; most = λ u. h; shape = λ u. refl }) (λ e. bad)) (λ e. bad)) (λ e. bad)
+    by-test (Fits s) (within_of c 32767) _ _ (λ e. by-test (Fits s) (within_of n 16) _ _
+    (λ e. by-test (Fits s) (within_of t 960) _ _ (λ e. record { least = λ u. l; most = λ u. h; shape = λ u. refl }) (λ e. bad)) (λ e. bad)) (λ e. bad)
 
-pub found-fits : (s : List ℕ) → Fits s (foundIn s)
-unfolding foundIn behindLength ofVersion
+pub found-fits : (s : List ℕ) → Fits s (found_in s)
+unfolding found_in behind_length of_version
 found-fits s =
-    let k = sixteenBits (get_or s 0 0) (get_or s 1 0) in
+    let k = sixteen_bits (get_or s 0 0) (get_or s 1 0) in
     let cut = refusal-fits s CutShort refl in
     let wrong = refusal-fits s LeftOver refl in
     by-test (Fits s) (ltb (length s) 2) _ _ (λ e. cut) (λ e. by-test (Fits s) (ltb (length s - 2) k) _ _ (λ f. cut)
@@ -61,7 +61,7 @@ pub record Walking (area : List ℕ) (used at : ℕ) (last : Setting) (n : ℕ) 
   pub count : n + left ≡ used
   pub inside : at ≤ length area
   pub long : 6 * n ≤ at
-  pub same : walked left area at last ≡ recordsIn used area
+  pub same : walked left area at last ≡ records_in used area
 
 pub walk_start : (area : List ℕ) (used : ℕ) → Walking area used 0 (setting 0 0 0) 0
 walk_start area used = record { left = used; count = omega arith; inside = omega arith; long = omega arith; same = refl }
@@ -71,18 +71,18 @@ module _ {area : List ℕ} {used at : ℕ} {last : Setting} {n : ℕ} (w : Walki
   one_more h zero e = absurd (omega (arith, h, e, w.count))
   one_more h (suc l) e = (l, e)
 
-  module _ (h : n < used) {f : Found} (p : f ≡ foundIn (take (length area - at) (drop at area))) {t : Bool} (u : t ≡ is_taken f.answer) where
-    q : f ≡ foundIn (drop at area)
-    q = p ∙ ap foundIn (take_all (length area - at) (drop at area) (omega (arith, length-drop at area)))
+  module _ (h : n < used) {f : Found} (p : f ≡ found_in (take (length area - at) (drop at area))) {t : Bool} (u : t ≡ is_taken f.answer) where
+    q : f ≡ found_in (drop at area)
+    q = p ∙ ap found_in (take_all (length area - at) (drop at area) (omega (arith, length-drop at area)))
 
-    ahead : cond (is_taken f.answer) (walked (one_more h w.left refl).0 area (at + f.size) f.setting) (refusedAs f.answer) ≡ recordsIn used area
+    ahead : cond (is_taken f.answer) (walked (one_more h w.left refl).0 area (at + f.size) f.setting) (refused_as f.answer) ≡ records_in used area
     unfolding walked
     ahead =
         let l = (one_more h w.left refl).0 in
-        ap (λ (x : Found). cond (is_taken x.answer) (walked l area (at + x.size) x.setting) (refusedAs x.answer)) q
+        ap (λ (x : Found). cond (is_taken x.answer) (walked l area (at + x.size) x.setting) (refused_as x.answer)) q
         ∙ ap (λ (m : ℕ). walked m area at last) (sym (one_more h w.left refl).1) ∙ w.same
 
-    pub walk-fault : not t ≡ true → {r : Found} → r ≡ refusedAs f.answer → r ≡ recordsIn used area
+    pub walk-fault : not t ≡ true → {r : Found} → r ≡ refused_as f.answer → r ≡ records_in used area
     walk-fault v e = e ∙ sym (cond-false _ _ (sym u ∙ not-true t v)) ∙ ahead
 
     fits : Fits (drop at area) f
@@ -105,7 +105,7 @@ module _ {area : List ℕ} {used at : ℕ} {last : Setting} {n : ℕ} (w : Walki
           same = sym (cond-true _ _ (sym u ∙ not-false t v)) ∙ ahead;
         }
 
-  pub walk_end : used ≤ n → found last at ≡ recordsIn used area
+  pub walk_end : used ≤ n → found last at ≡ records_in used area
   unfolding walked
   walk_end h =
       let e : w.left ≡ 0 = omega (arith, w.count) in
@@ -120,23 +120,23 @@ pub walked-ends : (n : ℕ) (area : List ℕ) (at : ℕ) (last : Setting) → at
 unfolding walked
 walked-ends zero area at last h t = record { least = omega arith; most = h }
 walked-ends (suc n) area at last h t =
-    go (is_taken (foundIn (drop at area)).answer) refl (λ i u. walked-ends n area (at + (foundIn (drop at area)).size) (foundIn (drop at area)).setting i u) t
+    go (is_taken (found_in (drop at area)).answer) refl (λ i u. walked-ends n area (at + (found_in (drop at area)).size) (found_in (drop at area)).setting i u) t
   where
     f : Found
-    f = foundIn (drop at area)
+    f = found_in (drop at area)
 
     next : Found
     next = walked n area (at + f.size) f.setting
 
     go : (b : Bool) → is_taken f.answer ≡ b → (at + f.size ≤ length area → is_taken next.answer ≡ true → Ends area n (at + f.size) next)
-        → is_taken (cond b next (refusedAs f.answer)).answer ≡ true → Ends area (suc n) at (cond b next (refusedAs f.answer))
+        → is_taken (cond b next (refused_as f.answer)).answer ≡ true → Ends area (suc n) at (cond b next (refused_as f.answer))
     go true e rec t' =
         let g = found-fits (drop at area) in
         let r = rec (omega (arith, g.most e, length-drop at area)) t' in
         record { least = omega (arith, r.least, g.least e); most = r.most }
     go false e rec t' = absurd (true≢false (sym t' ∙ e))
 
-pub records-end : (used : ℕ) (area : List ℕ) → is_taken (recordsIn used area).answer ≡ true → Ends area used 0 (recordsIn used area)
+pub records-end : (used : ℕ) (area : List ℕ) → is_taken (records_in used area).answer ≡ true → Ends area used 0 (records_in used area)
 records-end used area t = walked-ends used area 0 (setting 0 0 0) (omega arith) t
 
 -- ---- bytes laid at a place
@@ -164,8 +164,8 @@ module _ {at : ℕ} {bytes area₀ area : List ℕ} {i : ℕ} (l : Laying at byt
             ∙ ap (paste area₀ at bytes) e;
       }
 
-  pub lay-end : length bytes ≤ i → area ≡ laidAt at bytes area₀
-  unfolding laidAt
+  pub lay-end : length bytes ≤ i → area ≡ laid_at at bytes area₀
+  unfolding laid_at
   lay-end h =
       let e : i ≡ length bytes = omega (arith, l.within) in
       l.same ∙ ap (paste area₀ at bytes) e ∙ ap (λ (x : List ℕ). take at area₀ ++ x ++ drop (at + length bytes) area₀) (take-length bytes)

@@ -9,59 +9,59 @@ use Rattle.settings_records.specs.declared.Setting.{Setting}
 use Rattle.settings_records.specs.declared.Found.{Found}
 use Rattle.settings_records.specs.declared.InUse.{InUse}
 use Rattle.settings_records.specs.declared.Changed.{Changed}
-use Rattle.settings_records.specs.Form.{setting, found, refusedAs}
-use Rattle.settings_records.specs.inside.Reading.{foundIn, recordsIn}
+use Rattle.settings_records.specs.Form.{setting, found, refused_as}
+use Rattle.settings_records.specs.inside.Reading.{found_in, records_in}
 
 -- the bytes of an area
 abbrev pub area_bytes : ℕ
 area_bytes = 4096
 
 -- bytes laid at a place of an area; the others stay
-unfoldable pub laidAt : ℕ → List ℕ → List ℕ → List ℕ
-laidAt at bytes area = take at area ++ bytes ++ drop (at + length bytes) area
+unfoldable pub laid_at : ℕ → List ℕ → List ℕ → List ℕ
+laid_at at bytes area = take at area ++ bytes ++ drop (at + length bytes) area
 
 -- the new record, behind those in use: what it sets and where it goes, or the first check that fails
 unfoldable pub joining : ℕ → List ℕ → Found → Found
 joining at handed f =
     cond (is_taken f.answer)
-    (cond (ltb f.size (length handed)) (refusedAs LeftOver) (cond (ltb (area_bytes - at) f.size) (refusedAs NoRoom) (found f.setting at)))
-    (refusedAs f.answer)
+    (cond (ltb f.size (length handed)) (refused_as LeftOver) (cond (ltb (area_bytes - at) f.size) (refused_as NoRoom) (found f.setting at)))
+    (refused_as f.answer)
 
 unfoldable pub changing : ℕ → List ℕ → List ℕ → Found
 unfolding joining
 changing count area handed =
     cond (eqb (length area) area_bytes)
-    (cond (is_taken (recordsIn count area).answer) (joining (recordsIn count area).size handed (foundIn handed)) (refusedAs (recordsIn count area).answer))
-    (refusedAs NoRoom)
+    (cond (is_taken (records_in count area).answer) (joining (records_in count area).size handed (found_in handed)) (refused_as (records_in count area).answer))
+    (refused_as NoRoom)
 
 -- so many records in use, and what the last of them sets
-abbrev pub inUse : ℕ → Setting → InUse
-inUse count s = record { count = count; last = s }
+abbrev pub in_use : ℕ → Setting → InUse
+in_use count s = record { count = count; last = s }
 
 abbrev pub changed : InUse → Answer → Changed
 changed k a = record { settings = k; answer = a }
 
 -- nothing is in use before the first record
-abbrev pub noneInUse : InUse
-noneInUse = inUse 0 (setting 0 0 0)
+abbrev pub none_in_use : InUse
+none_in_use = in_use 0 (setting 0 0 0)
 
-unfoldable pub changeOf : InUse → List ℕ → List ℕ → Changed
+unfoldable pub change_of : InUse → List ℕ → List ℕ → Changed
 unfolding changing
-changeOf k area handed =
-    cond (is_taken (changing k.count area handed).answer) (changed (inUse (k.count + 1) (changing k.count area handed).setting) Taken)
+change_of k area handed =
+    cond (is_taken (changing k.count area handed).answer) (changed (in_use (k.count + 1) (changing k.count area handed).setting) Taken)
     (changed k (changing k.count area handed).answer)
 
 -- the area afterwards
-unfoldable pub areaChanged : ℕ → List ℕ → List ℕ → List ℕ
-unfolding changing laidAt
-areaChanged count area handed =
-    cond (is_taken (changing count area handed).answer) (laidAt (changing count area handed).size handed area) area
+unfoldable pub area_changed : ℕ → List ℕ → List ℕ → List ℕ
+unfolding changing laid_at
+area_changed count area handed =
+    cond (is_taken (changing count area handed).answer) (laid_at (changing count area handed).size handed area) area
 
 -- an undo: the settings of what is then the last record in use, as its bytes stand in the area
-unfoldable pub undoOf : InUse → List ℕ → Changed
-undoOf k area =
+unfoldable pub undo_of : InUse → List ℕ → Changed
+undo_of k area =
     cond (eqb (length area) area_bytes)
-    (cond (is_taken (recordsIn k.count area).answer)
-    (cond (ltb k.count 2) (changed k NothingToUndo) (changed (inUse (k.count - 1) (recordsIn (k.count - 1) area).setting) Taken))
-    (changed k (recordsIn k.count area).answer))
+    (cond (is_taken (records_in k.count area).answer)
+    (cond (ltb k.count 2) (changed k NothingToUndo) (changed (in_use (k.count - 1) (records_in (k.count - 1) area).setting) Taken))
+    (changed k (records_in k.count area).answer))
     (changed k NoRoom)

@@ -7,11 +7,11 @@ use Rattle.settings_records.specs.declared.Setting.{Setting}
 use Rattle.settings_records.specs.declared.Found.{Found}
 
 -- the number that two bytes are, and the two bytes of a number
-abbrev pub sixteenBits : ℕ → ℕ → ℕ
-sixteenBits high low = 256 * high + low
+abbrev pub sixteen_bits : ℕ → ℕ → ℕ
+sixteen_bits high low = 256 * high + low
 
-abbrev pub twoBytes : ℕ → List ℕ
-twoBytes n = n / 256 ∷ n % 256 ∷ []
+abbrev pub two_bytes : ℕ → List ℕ
+two_bytes n = n / 256 ∷ n % 256 ∷ []
 
 -- ---- what a record sets
 
@@ -24,22 +24,22 @@ pub record Valid (s : Setting) : Type 0 where
   pub tempo : (1 ≤ s.tempo) × (s.tempo ≤ 960)
 
 -- the tempo that version 1 means
-abbrev pub versionOneTempo : ℕ
-versionOneTempo = 60
+abbrev pub version_one_tempo : ℕ
+version_one_tempo = 60
 
 -- ---- records as they are encoded
 
 pub data SettingsRecord : Type 0 where
-  versionOne : (ceiling notes : ℕ) → SettingsRecord
-  versionTwo : (ceiling notes tempo : ℕ) → SettingsRecord
+  version_one : (ceiling notes : ℕ) → SettingsRecord
+  version_two : (ceiling notes tempo : ℕ) → SettingsRecord
 
 abbrev pub sets : SettingsRecord → Setting
-sets (versionOne ceiling notes) = setting ceiling notes versionOneTempo
-sets (versionTwo ceiling notes tempo) = setting ceiling notes tempo
+sets (version_one ceiling notes) = setting ceiling notes version_one_tempo
+sets (version_two ceiling notes tempo) = setting ceiling notes tempo
 
 abbrev pub encoded : SettingsRecord → List ℕ
-encoded (versionOne ceiling notes) = twoBytes 4 ++ (1 ∷ twoBytes ceiling ++ (notes ∷ []))
-encoded (versionTwo ceiling notes tempo) = twoBytes 6 ++ (2 ∷ twoBytes ceiling ++ (notes ∷ twoBytes tempo))
+encoded (version_one ceiling notes) = two_bytes 4 ++ (1 ∷ two_bytes ceiling ++ (notes ∷ []))
+encoded (version_two ceiling notes tempo) = two_bytes 6 ++ (2 ∷ two_bytes ceiling ++ (notes ∷ two_bytes tempo))
 
 -- ---- what stands at the start of bytes
 
@@ -48,28 +48,28 @@ abbrev pub found : Setting → ℕ → Found
 found s size = record { answer = Taken; setting = s; size = size }
 
 -- or a fault
-abbrev pub refusedAs : Answer → Found
-refusedAs a = record { answer = a; setting = setting 0 0 0; size = 0 }
+abbrev pub refused_as : Answer → Found
+refused_as a = record { answer = a; setting = setting 0 0 0; size = 0 }
 
 -- the bytes behind a version byte, and what they set
 pub data Body : ℕ → List ℕ → Setting → Type 0 where
-  first : {a b n : ℕ} → Body 1 (a ∷ b ∷ n ∷ []) (setting (sixteenBits a b) n versionOneTempo)
-  second : {a b n c d : ℕ} → Body 2 (a ∷ b ∷ n ∷ c ∷ d ∷ []) (setting (sixteenBits a b) n (sixteenBits c d))
+  first : {a b n : ℕ} → Body 1 (a ∷ b ∷ n ∷ []) (setting (sixteen_bits a b) n version_one_tempo)
+  second : {a b n c d : ℕ} → Body 2 (a ∷ b ∷ n ∷ c ∷ d ∷ []) (setting (sixteen_bits a b) n (sixteen_bits c d))
 
 -- "each for cut 1, length zero 11, another version 17, a wrong length 11, a bad number 3"
 pub data Parses : List ℕ → Found → Type 0 where
   -- cut in the length, or behind it: fewer bytes than it counts
-  cutLength : {bs : List ℕ} → length bs < 2 → Parses bs (refusedAs CutShort)
-  cutRecord : {high low : ℕ} {part : List ℕ} → length part < sixteenBits high low → Parses (high ∷ low ∷ part) (refusedAs CutShort)
-  lengthZero : {high low : ℕ} {rest : List ℕ} → sixteenBits high low ≡ 0 → Parses (high ∷ low ∷ rest) (refusedAs LeftOver)
-  otherVersion : {high low version : ℕ} (body rest : List ℕ) → sixteenBits high low ≡ suc (length body) → (version ≡ 1 → ⊥) → (version ≡ 2 → ⊥)
-      → Parses (high ∷ low ∷ version ∷ (body ++ rest)) (refusedAs UnknownVersion)
-  wrongLength : {high low version : ℕ} (body rest : List ℕ) → sixteenBits high low ≡ suc (length body) → (version ≡ 1) ⊎ (version ≡ 2)
-      → ((s : Setting) → Body version body s → ⊥) → Parses (high ∷ low ∷ version ∷ (body ++ rest)) (refusedAs LeftOver)
-  badNumber : {high low version : ℕ} {s : Setting} {body : List ℕ} (rest : List ℕ) → sixteenBits high low ≡ suc (length body) → Body version body s
-      → (Valid s → ⊥) → Parses (high ∷ low ∷ version ∷ (body ++ rest)) (refusedAs OutOfRange)
+  cut_length : {bs : List ℕ} → length bs < 2 → Parses bs (refused_as CutShort)
+  cut_record : {high low : ℕ} {part : List ℕ} → length part < sixteen_bits high low → Parses (high ∷ low ∷ part) (refused_as CutShort)
+  length_zero : {high low : ℕ} {rest : List ℕ} → sixteen_bits high low ≡ 0 → Parses (high ∷ low ∷ rest) (refused_as LeftOver)
+  other_version : {high low version : ℕ} (body rest : List ℕ) → sixteen_bits high low ≡ suc (length body) → (version ≡ 1 → ⊥) → (version ≡ 2 → ⊥)
+      → Parses (high ∷ low ∷ version ∷ (body ++ rest)) (refused_as UnknownVersion)
+  wrong_length : {high low version : ℕ} (body rest : List ℕ) → sixteen_bits high low ≡ suc (length body) → (version ≡ 1) ⊎ (version ≡ 2)
+      → ((s : Setting) → Body version body s → ⊥) → Parses (high ∷ low ∷ version ∷ (body ++ rest)) (refused_as LeftOver)
+  bad_number : {high low version : ℕ} {s : Setting} {body : List ℕ} (rest : List ℕ) → sixteen_bits high low ≡ suc (length body) → Body version body s
+      → (Valid s → ⊥) → Parses (high ∷ low ∷ version ∷ (body ++ rest)) (refused_as OutOfRange)
   -- a valid record, and what stands behind it
-  valid : {high low version : ℕ} {s : Setting} {body : List ℕ} (rest : List ℕ) → sixteenBits high low ≡ suc (length body) → Body version body s
+  valid : {high low version : ℕ} {s : Setting} {body : List ℕ} (rest : List ℕ) → sixteen_bits high low ≡ suc (length body) → Body version body s
       → Valid s → Parses (high ∷ low ∷ version ∷ (body ++ rest)) (found s (3 + length body))
 
 -- ---- records that stand one after another
@@ -85,6 +85,6 @@ pub data Records : ℕ → List ℕ → Setting → Type 0 where
 
 -- what stands at the start of an area of which so many records are in use: all of them, or the first that has a fault
 pub data ParsesRecords (count : ℕ) : List ℕ → Found → Type 0 where
-  allValid : {bytes : List ℕ} {s : Setting} (rest : List ℕ) → Records count bytes s → ParsesRecords count (bytes ++ rest) (found s (length bytes))
-  firstFault : {n : ℕ} {bytes rest : List ℕ} {s : Setting} {a : Answer} → Records n bytes s → n < count → Parses rest (refusedAs a)
-      → ParsesRecords count (bytes ++ rest) (refusedAs a)
+  all_valid : {bytes : List ℕ} {s : Setting} (rest : List ℕ) → Records count bytes s → ParsesRecords count (bytes ++ rest) (found s (length bytes))
+  first_fault : {n : ℕ} {bytes rest : List ℕ} {s : Setting} {a : Answer} → Records n bytes s → n < count → Parses rest (refused_as a)
+      → ParsesRecords count (bytes ++ rest) (refused_as a)

@@ -1,8 +1,8 @@
 // Settings records in a lent area (document 02, M-107): read, changed and undone.
 ghost use Rattle.std.specs.Prelude.{◌≡◌, length, ◌+◌, ◌≤◌};
-ghost use Rattle.settings_records.specs.Form.{sixteenBits, refusedAs};
-ghost use Rattle.settings_records.specs.inside.Reading.{withinOf, judgedOf, foundIn, recordsIn};
-ghost use Rattle.settings_records.specs.Changes.{noneInUse, changing, changeOf, areaChanged, undoOf, laidAt};
+ghost use Rattle.settings_records.specs.Form.{sixteen_bits, refused_as};
+ghost use Rattle.settings_records.specs.inside.Reading.{within_of, judged_of, found_in, records_in};
+ghost use Rattle.settings_records.specs.Changes.{none_in_use, changing, change_of, area_changed, undo_of, laid_at};
 
 use base_answer::Answer;
 
@@ -52,7 +52,7 @@ pub const STARTING_TEMPO: u16 = 60;
 
 // A refusal.
 fn refused(a: Answer) -> Found
-    ensures { result ≡ refusedAs a }
+    ensures { result ≡ refused_as a }
 {
     let none = Setting {
         ceiling: 0,
@@ -68,14 +68,14 @@ fn refused(a: Answer) -> Found
 
 // The number that two bytes are.
 fn two(high: u8, low: u8) -> u16
-    ensures { result ≡ sixteenBits high low }
+    ensures { result ≡ sixteen_bits high low }
 {
     256 * (high as u16) + (low as u16)
 }
 
 // Whether a number is from 1 to the most.
 fn within(x: u16, most: u16) -> bool
-    ensures { result ≡ withinOf x most }
+    ensures { result ≡ within_of x most }
 {
     if x < 1 {
         return false;
@@ -85,7 +85,7 @@ fn within(x: u16, most: u16) -> bool
 
 // A record whose bytes are all there: 3 where a number is bad.
 fn judged(ceiling: u16, notes: u8, tempo: u16, size: usize) -> Found
-    ensures { result ≡ judgedOf ceiling notes tempo size }
+    ensures { result ≡ judged_of ceiling notes tempo size }
 {
     if !within(ceiling, HIGHEST_CEILING) {
         return refused(Answer::OutOfRange);
@@ -110,7 +110,7 @@ fn judged(ceiling: u16, notes: u8, tempo: u16, size: usize) -> Found
 
 // The record at the start of bytes: cut 1, length zero 11, another version 17, a wrong length 11, a bad number 3.
 pub fn read(s: &[u8]) -> Found
-    ensures { result ≡ foundIn s.now }
+    ensures { result ≡ found_in s.now }
 {
     if s.len() < LENGTH_BYTES {
         return refused(Answer::CutShort);
@@ -140,7 +140,7 @@ pub fn read(s: &[u8]) -> Found
 
 // The records in use, from byte 0: the last of them and where it ends, or the first fault.
 pub fn read_records(area: &[u8], count: usize) -> Found
-    ensures { result ≡ recordsIn count area.now }
+    ensures { result ≡ records_in count area.now }
 {
     let mut at: usize = 0;
     let mut last = Setting {
@@ -200,7 +200,7 @@ fn judge_change(count: usize, area: &[u8], handed: &[u8]) -> Found
 // Lays bytes at a place of the area.
 fn lay(area: &mut [u8], at: usize, handed: &[u8])
     requires { at + length handed.now ≤ length area.old }
-    ensures { area.new ≡ laidAt at handed.now area.old }
+    ensures { area.new ≡ laid_at at handed.now area.old }
 {
     let mut i: usize = 0;
     while i < handed.len() {
@@ -211,7 +211,7 @@ fn lay(area: &mut [u8], at: usize, handed: &[u8])
 
 // What a change would leave, and nothing is written.
 pub fn judge(settings: InUse, area: &[u8], handed: &[u8]) -> Changed
-    ensures { result ≡ changeOf settings area.now handed.now }
+    ensures { result ≡ change_of settings area.now handed.now }
 {
     let j = judge_change(settings.count, area, handed);
     let fault = j.answer;
@@ -233,8 +233,8 @@ pub fn judge(settings: InUse, area: &[u8], handed: &[u8]) -> Changed
 
 // A change: the record goes behind those in use, or nothing changes.
 pub fn change(settings: InUse, area: &mut [u8], handed: &[u8]) -> Changed
-    ensures value { result ≡ changeOf settings area.old handed.now }
-    ensures area_after { area.new ≡ areaChanged settings.count area.old handed.now }
+    ensures value { result ≡ change_of settings area.old handed.now }
+    ensures area_after { area.new ≡ area_changed settings.count area.old handed.now }
 {
     let j = judge_change(settings.count, area, handed);
     let fault = j.answer;
@@ -257,7 +257,7 @@ pub fn change(settings: InUse, area: &mut [u8], handed: &[u8]) -> Changed
 
 // An undo: the last record goes out of use, and its bytes stay.
 pub fn undo(settings: InUse, area: &[u8]) -> Changed
-    ensures { result ≡ undoOf settings area.now }
+    ensures { result ≡ undo_of settings area.now }
 {
     if area.len() != AREA {
         return Changed {
@@ -292,7 +292,7 @@ pub fn undo(settings: InUse, area: &[u8]) -> Changed
 
 // No record is in use, as before a fresh start.
 pub fn none_in_use() -> InUse
-    ensures { result ≡ noneInUse }
+    ensures { result ≡ none_in_use }
 {
     let none = Setting {
         ceiling: 0,

@@ -14,8 +14,8 @@ use lib.Seq.{drop-cons, drop-drop}
 use lib.Dec.{leb, eqb}
 use Rattle.base_laws.proofs.Choice.{cond-true, cond-false}
 use Rattle.symbol_names.specs.Form.{Names}
-use Rattle.symbol_names.specs.inside.Asking.{before, list_of, nameAmong, nameIn}
-use Rattle.symbol_names.specs.Asking.{unlessEmpty, nameFound}
+use Rattle.symbol_names.specs.inside.Asking.{before, list_of, name_among, name_in}
+use Rattle.symbol_names.specs.Asking.{unless_empty, name_found}
 use Rattle.symbol_names.proofs.Lists.{list-none, list-entry, list-cut}
 use Rattle.symbol_lookup.specs.Places.{between, Stands}
 use Rattle.symbol_lookup.specs.declared.Span.{Span}
@@ -62,13 +62,13 @@ pub record Walked (s : List ℕ) (symbol at i : ℕ) (p : Span) : Type 0 where
   pub inside : at ≤ length s
   pub ordered : p.from ≤ p.to
   pub within : p.to ≤ length s
-  pub name : ahead (list_of (drop at s)) i symbol (between s p) ≡ nameIn s symbol
+  pub name : ahead (list_of (drop at s)) i symbol (between s p) ≡ name_in s symbol
 
 pub starts : (s : List ℕ) (symbol : ℕ) → Walked s symbol 0 0 (place 0 0)
-unfolding between nameIn
+unfolding between name_in
 starts s symbol = record { counted = omega arith; inside = omega arith; ordered = omega arith; within = omega arith; name = go (list_of s) }
   where
-    go : (o : Option Names) → ahead o 0 symbol [] ≡ nameAmong o symbol
+    go : (o : Option Names) → ahead o 0 symbol [] ≡ name_among o symbol
     go none = refl
     go (some names) = let h : 0 ≤ symbol = omega arith in rw (le-leb _ _ h, sub-zero symbol)
 
@@ -100,7 +100,7 @@ again {s} {symbol} {at} {i} {b} {p} {q} w h e k f = subst (Walked s symbol (at +
     step true g = sym own
     step false g = refl
 
-    named : (t : Bool) → eqb i symbol ≡ t → ahead (list_of (drop (at + 1 + b) s)) (i + 1) symbol (between s (cond t new p)) ≡ nameIn s symbol
+    named : (t : Bool) → eqb i symbol ≡ t → ahead (list_of (drop (at + 1 + b) s)) (i + 1) symbol (between s (cond t new p)) ≡ name_in s symbol
     named t g =
         ap (ahead (list_of (drop (at + 1 + b) s)) (i + 1) symbol) (sym (ap (λ (u : Bool). cond u (take b rest) (between s p)) g ∙ step t g))
         ∙ sym (passed (list_of (drop (at + 1 + b) s)) i symbol (take b rest) (between s p))
@@ -140,25 +140,25 @@ is-noted its old e = sym (cond-true its old (eq-eqb _ _ e))
 pub not_noted : {i wanted : ℕ} (its old : Span) → (i ≡ wanted → ⊥) → old ≡ cond (eqb i wanted) its old
 not_noted its old n = sym (cond-false its old (ne_eqb _ _ n))
 
-pub name-there : (s : List ℕ) (symbol : ℕ) (p : Span) → Stands s symbol p → take (p.to - p.from) (drop p.from s) ≡ nameIn s symbol
+pub name-there : (s : List ℕ) (symbol : ℕ) (p : Span) → Stands s symbol p → take (p.to - p.from) (drop p.from s) ≡ name_in s symbol
 unfolding between
 name-there s symbol p h = h.name
 
 -- ---- the piece's, else the panel's own
 
-pub in-piece : {name : List ℕ} (piece own : List ℕ) (symbol : ℕ) → name ≡ nameIn piece symbol → (length name ≡ 0 → ⊥) → name ≡ nameFound symbol piece own
-unfolding nameFound
-in-piece {name} piece own symbol e h = go name h ∙ ap (λ (n : List ℕ). unlessEmpty n (nameIn own symbol)) e
+pub in-piece : {name : List ℕ} (piece own : List ℕ) (symbol : ℕ) → name ≡ name_in piece symbol → (length name ≡ 0 → ⊥) → name ≡ name_found symbol piece own
+unfolding name_found
+in-piece {name} piece own symbol e h = go name h ∙ ap (λ (n : List ℕ). unless_empty n (name_in own symbol)) e
   where
-    go : (n : List ℕ) → (length n ≡ 0 → ⊥) → n ≡ unlessEmpty n (nameIn own symbol)
+    go : (n : List ℕ) → (length n ≡ 0 → ⊥) → n ≡ unless_empty n (name_in own symbol)
     go [] g = absurd (g refl)
     go (b ∷ n) g = refl
 
-pub in-own : {name other : List ℕ} (piece own : List ℕ) (symbol : ℕ) → name ≡ nameIn piece symbol → length name ≡ 0 → other ≡ nameIn own symbol
-    → other ≡ nameFound symbol piece own
-unfolding nameFound
-in-own {name} {other} piece own symbol e h f = go name h ∙ ap₂ unlessEmpty e f
+pub in-own : {name other : List ℕ} (piece own : List ℕ) (symbol : ℕ) → name ≡ name_in piece symbol → length name ≡ 0 → other ≡ name_in own symbol
+    → other ≡ name_found symbol piece own
+unfolding name_found
+in-own {name} {other} piece own symbol e h f = go name h ∙ ap₂ unless_empty e f
   where
-    go : (n : List ℕ) → length n ≡ 0 → other ≡ unlessEmpty n other
+    go : (n : List ℕ) → length n ≡ 0 → other ≡ unless_empty n other
     go [] g = refl
     go (b ∷ n) g = absurd (omega arith)

@@ -1,7 +1,7 @@
 // A symbol's name, as a part of the list that has it.
 ghost use Rattle.std.specs.Prelude.{◌≡◌, cond, eqb};
-ghost use Rattle.symbol_names.specs.inside.Asking.{nameIn};
-ghost use Rattle.symbol_names.specs.Asking.{nameFound};
+ghost use Rattle.symbol_names.specs.inside.Asking.{name_in};
+ghost use Rattle.symbol_names.specs.Asking.{name_found};
 ghost use Rattle.symbol_lookup.specs.Places.{Stands};
 
 // A stretch of a list, from one place to another.
@@ -53,7 +53,7 @@ fn place_in(list: &[u8], symbol: u16) -> Span
 
 // A symbol's name in a list, without its length byte.
 pub fn name_in(list: &[u8], symbol: u16) -> &[u8]
-    ensures { result.now ≡ nameIn list.now symbol }
+    ensures { result.now ≡ name_in list.now symbol }
 {
     let place = place_in(list, symbol);
     let from = place.from;
@@ -63,7 +63,7 @@ pub fn name_in(list: &[u8], symbol: u16) -> &[u8]
 
 // A symbol's name in the piece's names, else in the panel's own list, else none: a part of the one that has it.
 pub fn name_of<'a>(symbol: u16, piece: &'a [u8], own: &'a [u8]) -> &'a [u8]
-    ensures { result.now ≡ nameFound symbol piece.now own.now }
+    ensures { result.now ≡ name_found symbol piece.now own.now }
 {
     let name = name_in(piece, symbol);
     if name.len() == 0 {

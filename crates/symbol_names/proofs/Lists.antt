@@ -10,8 +10,8 @@ use lib.ListN.{length, take, drop, length-drop, length-append, take-append-drop}
 use lib.Seq.{take_at, drop_at, length-take-le}
 use lib.Dec.{leb}
 use Rattle.base_laws.proofs.Choice.{cond-true, cond-false}
-use Rattle.symbol_names.specs.Form.{Names, listBytes}
-use Rattle.symbol_names.specs.inside.Asking.{before, entries, list_of, nameAmong, nameIn}
+use Rattle.symbol_names.specs.Form.{Names, list_bytes}
+use Rattle.symbol_names.specs.inside.Asking.{before, entries, list_of, name_among, name_in}
 use Rattle.symbol_names.specs.Claims.{ListRead, ListEncoded, OneList, NameInList, NoNameInOther}
 
 -- ---- enough steps
@@ -46,11 +46,11 @@ list-cut b s h = cond-false _ _ (lt-leb _ _ h)
 
 -- ---- both ways
 
-pub list-here : (names : Names) → list_of (listBytes names) ≡ some names
-unfolding listBytes
+pub list-here : (names : Names) → list_of (list_bytes names) ≡ some names
+unfolding list_bytes
 list-here [] = list-none
 list-here (name ∷ names) =
-    let r = listBytes names in
+    let r = list_bytes names in
     let l : length (name ++ r) ≡ length name + length r = length-append name r in
     cc (list-entry (length name) (name ++ r) (omega arith), take_at name r (length name) refl, drop_at name r (length name) refl, list-here names)
 
@@ -61,23 +61,23 @@ pub one_list : OneList
 one_list names others e = cc (list-here names, list-here others)
 
 -- what is read stands there
-back : (k : ℕ) (s : List ℕ) (names : Names) → entries k s ≡ some names → listBytes names ≡ s
-unfolding entries listBytes
+back : (k : ℕ) (s : List ℕ) (names : Names) → entries k s ≡ some names → list_bytes names ≡ s
+unfolding entries list_bytes
 back zero [] names e = cc
 back (suc k) [] names e = cc
 back zero (b ∷ s) names e = go (leb b (length s)) e
   where
-    go : (t : Bool) → cond t none none ≡ some names → listBytes names ≡ b ∷ s
+    go : (t : Bool) → cond t none none ≡ some names → list_bytes names ≡ b ∷ s
     go true f = cc
     go false f = cc
 back (suc k) (b ∷ s) names e = go (λ others f. back k (drop b s) others f) (leb b (length s)) refl
   where
-    found : ((others : Names) → entries k (drop b s) ≡ some others → listBytes others ≡ drop b s)
-        → (o : Option Names) → entries k (drop b s) ≡ o → b ≤ length s → before (take b s) o ≡ some names → listBytes names ≡ b ∷ s
+    found : ((others : Names) → entries k (drop b s) ≡ some others → list_bytes others ≡ drop b s)
+        → (o : Option Names) → entries k (drop b s) ≡ o → b ≤ length s → before (take b s) o ≡ some names → list_bytes names ≡ b ∷ s
     found ih none f h g = cc
     found ih (some others) f h g = cc (length-take-le b s h, ih others f, take-append-drop b s)
 
-    go : ((others : Names) → entries k (drop b s) ≡ some others → listBytes others ≡ drop b s) → (t : Bool) → leb b (length s) ≡ t → listBytes names ≡ b ∷ s
+    go : ((others : Names) → entries k (drop b s) ≡ some others → list_bytes others ≡ drop b s) → (t : Bool) → leb b (length s) ≡ t → list_bytes names ≡ b ∷ s
     go ih true f = found ih (entries k (drop b s)) refl (leb-true _ _ f) (sym (cond-true _ _ f) ∙ e)
     go ih false f = let g : none ≡ some names = sym (cond-false _ _ f) ∙ e in cc
 
@@ -86,13 +86,13 @@ unfolding list_of
 list-encoded bytes names e = back (length bytes) bytes names e
 
 pub name-in-list : NameInList
-unfolding nameIn
-name-in-list names symbol = ap (λ (o : Option Names). nameAmong o symbol) (list-here names)
+unfolding name_in
+name-in-list names symbol = ap (λ (o : Option Names). name_among o symbol) (list-here names)
 
 pub no-name-in-other : NoNameInOther
-unfolding nameIn
+unfolding name_in
 no-name-in-other bytes symbol h = go (list_of bytes) refl
   where
-    go : (o : Option Names) → list_of bytes ≡ o → nameAmong o symbol ≡ []
+    go : (o : Option Names) → list_of bytes ≡ o → name_among o symbol ≡ []
     go none e = refl
     go (some names) e = absurd (h names (list-encoded bytes names e))

@@ -13,11 +13,11 @@ use lib.Dec.{leb, ltb, eqb}
 use Rattle.base_laws.proofs.Choice.{cond-true, both_true}
 use Rattle.base_answer.specs.declared.Answer.TheVariants as answers
 use Rattle.base_bitstream.specs.Bits.{field, bits_of, value_of}
-use Rattle.base_bitstream.specs.Filling.{missing, filledUp, bytesFrom}
-use Rattle.base_bitstream.proofs.BitValues.{length-field, valueOf-field, field-valueOf, valueOf-lt, length-bitsOf}
-use Rattle.base_bitstream.proofs.Filling.{zeros-value, value-zeros, filled-up, bytesFrom-bits, length-bytesFrom}
-use Rattle.symbol_names.specs.Form.{Names, countBits, lengthBits, nameBits, namesBits, tableBits, Bytes, ValidName, ValidNames, ValidTable, holds, refused}
-use Rattle.symbol_names.specs.inside.Reading.{Read, got, cut, and_then, numberFrom, stretchFrom, nameFrom, namesFrom, tableFrom, isFilling, judged, table_of}
+use Rattle.base_bitstream.specs.Filling.{missing, filled_up, bytes_from}
+use Rattle.base_bitstream.proofs.BitValues.{length-field, value_of-field, field-value_of, value_of-lt, length-bits_of}
+use Rattle.base_bitstream.proofs.Filling.{zeros-value, value-zeros, filled-up, bytes_from-bits, length-bytes_from}
+use Rattle.symbol_names.specs.Form.{Names, count_bits, length_bits, name_bits, names_bits, table_bits, Bytes, ValidName, ValidNames, ValidTable, holds, refused}
+use Rattle.symbol_names.specs.inside.Reading.{Read, got, cut, and_then, number_from, stretch_from, name_from, names_from, table_from, is_filling, judged, table_of}
 use Rattle.symbol_names.specs.Claims.{LeftOver, Verdict, encodes, is_cut, left_over, EveryTable, TableRead, TableCut, TableLeftOver, OneTable}
 
 -- what reading bits met: something valid that stands there, or the beginning of it
@@ -48,33 +48,33 @@ fixed-met n value encode Law is l = go (dec_le n (length l))
 
 -- the bits are the field of their number
 own-field : (n : ℕ) (l : List Bool) → length l ≡ n → (field n (value_of l) ≡ l) × (value_of l < 2 ^ n)
-own-field n l e = (cc (field-valueOf l), rw e at (valueOf-lt l))
+own-field n l e = (cc (field-value_of l), rw e at (value_of-lt l))
 
-number-met : (n : ℕ) (l : List Bool) → Met (field n) (λ v. v < 2 ^ n) l (numberFrom n l)
-unfolding numberFrom
+number-met : (n : ℕ) (l : List Bool) → Met (field n) (λ v. v < 2 ^ n) l (number_from n l)
+unfolding number_from
 number-met n l = fixed-met n (λ x. value_of (take n x)) (field n) (λ v. v < 2 ^ n) (λ x h. own-field n (take n x) (length-take-le n x h)) l
 
-number-here : (n v : ℕ) (r : List Bool) → v < 2 ^ n → numberFrom n (field n v ++ r) ≡ got v r
-unfolding numberFrom
+number-here : (n v : ℕ) (r : List Bool) → v < 2 ^ n → number_from n (field n v ++ r) ≡ got v r
+unfolding number_from
 number-here n v r h =
     let k = length-field n v in
     let g : n ≤ length (field n v ++ r) = simp length-append (omega arith) in
-    cc (le-leb n (length (field n v ++ r)) g, take_at (field n v) r n k, valueOf-field n v, mod-eq_of_lt h, drop_at (field n v) r n k)
+    cc (le-leb n (length (field n v ++ r)) g, take_at (field n v) r n k, value_of-field n v, mod-eq_of_lt h, drop_at (field n v) r n k)
 
 -- ---- bytes
 
 abbrev Stretch : ℕ → List ℕ → Type 0
 Stretch n s = (length s ≡ n) × Bytes s
 
-bytes-from : (n : ℕ) (l : List Bool) → 8 * n ≤ length l → Bytes (bytesFrom n l)
-unfolding bytesFrom
+bytes-from : (n : ℕ) (l : List Bool) → 8 * n ≤ length l → Bytes (bytes_from n l)
+unfolding bytes_from
 bytes-from zero l h i = omega arith
 bytes-from (suc n) l h zero = (own-field 8 (take 8 l) (length-take-le 8 l (omega arith))).1
 bytes-from (suc n) l h (suc i) = let d : length (drop 8 l) ≡ length l - 8 = length-drop 8 l in bytes-from n (drop 8 l) (omega arith) i
 
 -- only so many bits are looked at
-from-take : (n : ℕ) (l : List Bool) → 8 * n ≤ length l → bits_of (bytesFrom n l) ≡ take (8 * n) l
-unfolding bytesFrom bits_of
+from-take : (n : ℕ) (l : List Bool) → 8 * n ≤ length l → bits_of (bytes_from n l) ≡ take (8 * n) l
+unfolding bytes_from bits_of
 from-take zero l h = refl
 from-take (suc n) l h =
     let f = own-field 8 (take 8 l) (length-take-le 8 l (omega arith)) in
@@ -82,33 +82,33 @@ from-take (suc n) l h =
     let e : 8 + 8 * n ≡ 8 * suc n = omega arith in
     cc (f.0, from-take n (drop 8 l) (omega arith), take-add 8 (8 * n) l)
 
-stretch-met : (n : ℕ) (l : List Bool) → Met bits_of (Stretch n) l (stretchFrom n l)
-unfolding stretchFrom
-stretch-met n l = fixed-met (8 * n) (bytesFrom n) bits_of (Stretch n) (λ x h. (from-take n x h, (length-bytesFrom n x, bytes-from n x h))) l
+stretch-met : (n : ℕ) (l : List Bool) → Met bits_of (Stretch n) l (stretch_from n l)
+unfolding stretch_from
+stretch-met n l = fixed-met (8 * n) (bytes_from n) bits_of (Stretch n) (λ x h. (from-take n x h, (length-bytes_from n x, bytes-from n x h))) l
 
 -- what follows does not matter
-from-append : (n : ℕ) (x r : List Bool) → 8 * n ≤ length x → bytesFrom n (x ++ r) ≡ bytesFrom n x
-unfolding bytesFrom
+from-append : (n : ℕ) (x r : List Bool) → 8 * n ≤ length x → bytes_from n (x ++ r) ≡ bytes_from n x
+unfolding bytes_from
 from-append zero x r h = refl
 from-append (suc n) x r h =
     let d = length-drop 8 x in
     cc (take-append-le 8 x r (omega arith), drop-append-le 8 x r (omega arith), from-append n (drop 8 x) r (omega arith))
 
-stretch-here : (s : List ℕ) (r : List Bool) → Bytes s → stretchFrom (length s) (bits_of s ++ r) ≡ got s r
-unfolding stretchFrom
+stretch-here : (s : List ℕ) (r : List Bool) → Bytes s → stretch_from (length s) (bits_of s ++ r) ≡ got s r
+unfolding stretch_from
 stretch-here s r h =
     let n = 8 * length s in
-    let k = length-bitsOf s in
+    let k = length-bits_of s in
     let g : n ≤ length (bits_of s ++ r) = simp length-append (omega arith) in
-    cc (le-leb n (length (bits_of s ++ r)) g, from-append (length s) (bits_of s) r (omega arith), bytesFrom-bits s h, drop_at (bits_of s) r n k)
+    cc (le-leb n (length (bits_of s ++ r)) g, from-append (length s) (bits_of s) r (omega arith), bytes_from-bits s h, drop_at (bits_of s) r n k)
 
 -- ---- a number, and so many things behind it
 
 module _ {B : Type 0} (w : ℕ) (size : B → ℕ) (encode all : B → List Bool) (Law Valid : B → Type 0) (encoded : (b : B) → all b ≡ field w (size b) ++ encode b)
     (valid : (b : B) → size b < 2 ^ w → Law b → Valid b) (from : ℕ → List Bool → Read B) where
   counted-met : ((n : ℕ) (r : List Bool) → Met encode (λ b. (size b ≡ n) × Law b) r (from n r)) → ((n : ℕ) → (b : B) × ((size b ≡ n) × Law b)) → (l : List Bool)
-      → Met all Valid l (and_then (numberFrom w l) from)
-  counted-met met some l = go (numberFrom w l) (number-met w l)
+      → Met all Valid l (and_then (number_from w l) from)
+  counted-met met some l = go (number_from w l) (number-met w l)
     where
       behind : (n : ℕ) (r : List Bool) → n < 2 ^ w → l ≡ field w n ++ r → (m : Read B) → Met encode (λ b. (size b ≡ n) × Law b) r m → Met all Valid l m
       behind n r h e m (whole b q (k, g) f) = whole b q (valid b (omega arith) g) (cc (encoded b, append_assoc (field w (size b)) (encode b) q))
@@ -123,7 +123,7 @@ module _ {B : Type 0} (w : ℕ) (size : B → ℕ) (encode all : B → List Bool
           begun b c (d ++ encode b) (valid b (omega arith) o.1.1) (cc (encoded b, append_assoc l (c ∷ d) (encode b)))
 
   counted-here : ((b : B) (r : List Bool) → Law b → from (size b) (encode b ++ r) ≡ got b r) → (b : B) (r : List Bool) → size b < 2 ^ w → Law b
-      → and_then (numberFrom w (all b ++ r)) from ≡ got b r
+      → and_then (number_from w (all b ++ r)) from ≡ got b r
   counted-here here b r h g = cc (encoded b, append_assoc (field w (size b)) (encode b) r, number-here w (size b) (encode b ++ r) h, here b r g)
 
 -- ---- a name
@@ -133,16 +133,16 @@ zero-bytes zero i = omega arith
 zero-bytes (suc n) zero = omega arith
 zero-bytes (suc n) (suc i) = zero-bytes n i
 
-name-met : (l : List Bool) → Met nameBits ValidName l (nameFrom l)
-unfolding nameFrom nameBits
+name-met : (l : List Bool) → Met name_bits ValidName l (name_from l)
+unfolding name_from name_bits
 name-met l =
-    counted-met lengthBits length bits_of nameBits Bytes ValidName (λ s. refl) (λ s h b. record { short = h; bytes = b }) stretchFrom stretch-met
+    counted-met length_bits length bits_of name_bits Bytes ValidName (λ s. refl) (λ s h b. record { short = h; bytes = b }) stretch_from stretch-met
     (λ n. (replicate n 0, (length-replicate n 0, zero-bytes n))) l
 
-name-here : (name : List ℕ) (r : List Bool) → ValidName name → nameFrom (nameBits name ++ r) ≡ got name r
-unfolding nameFrom nameBits
+name-here : (name : List ℕ) (r : List Bool) → ValidName name → name_from (name_bits name ++ r) ≡ got name r
+unfolding name_from name_bits
 name-here name r h =
-    counted-here lengthBits length bits_of nameBits Bytes ValidName (λ s. refl) (λ s h b. record { short = h; bytes = b }) stretchFrom stretch-here name r h.short
+    counted-here length_bits length bits_of name_bits Bytes ValidName (λ s. refl) (λ s h b. record { short = h; bytes = b }) stretch_from stretch-here name r h.short
     h.bytes
 
 -- ---- so many names
@@ -156,91 +156,91 @@ unfolding ValidNames
 nameless zero = (refl, tt)
 nameless (suc k) = (ap suc (nameless k).0, (record { short = omega arith; bytes = zero-bytes 0 }, (nameless k).1))
 
-with-names : (k : ℕ) (l : List Bool) (name : List ℕ) (r : List Bool) → ValidName name → l ≡ nameBits name ++ r → (m : Read Names) → Met namesBits (Many k) r m
-    → Met namesBits (Many (suc k)) l (and_then m (λ names q. got (name ∷ names) q))
-unfolding namesBits ValidNames
+with-names : (k : ℕ) (l : List Bool) (name : List ℕ) (r : List Bool) → ValidName name → l ≡ name_bits name ++ r → (m : Read Names) → Met names_bits (Many k) r m
+    → Met names_bits (Many (suc k)) l (and_then m (λ names q. got (name ∷ names) q))
+unfolding names_bits ValidNames
 with-names k l name r h e m (whole names q (n, g) f) =
-    whole (name ∷ names) q (ap suc n, (h, g)) (cc (append_assoc (nameBits name) (namesBits names) q))
+    whole (name ∷ names) q (ap suc n, (h, g)) (cc (append_assoc (name_bits name) (names_bits names) q))
 with-names k l name r h e m (begun names b d (n, g) f) =
-    begun (name ∷ names) b d (ap suc n, (h, g)) (cc (append_assoc (nameBits name) r (b ∷ d)))
+    begun (name ∷ names) b d (ap suc n, (h, g)) (cc (append_assoc (name_bits name) r (b ∷ d)))
 
-pub names-met : (k : ℕ) (l : List Bool) → Met namesBits (Many k) l (namesFrom k l)
-unfolding namesFrom namesBits ValidNames
+pub names-met : (k : ℕ) (l : List Bool) → Met names_bits (Many k) l (names_from k l)
+unfolding names_from names_bits ValidNames
 names-met zero l = whole [] l (refl, tt) refl
-names-met (suc k) l = go (λ r. names-met k r) (nameFrom l) (name-met l)
+names-met (suc k) l = go (λ r. names-met k r) (name_from l) (name-met l)
   where
-    go : ((r : List Bool) → Met namesBits (Many k) r (namesFrom k r)) → (m : Read (List ℕ)) → Met nameBits ValidName l m
-        → Met namesBits (Many (suc k)) l (and_then m (λ name r. and_then (namesFrom k r) (λ names q. got (name ∷ names) q)))
-    go ih m (whole name r h e) = with-names k l name r h e (namesFrom k r) (ih r)
+    go : ((r : List Bool) → Met names_bits (Many k) r (names_from k r)) → (m : Read (List ℕ)) → Met name_bits ValidName l m
+        → Met names_bits (Many (suc k)) l (and_then m (λ name r. and_then (names_from k r) (λ names q. got (name ∷ names) q)))
+    go ih m (whole name r h e) = with-names k l name r h e (names_from k r) (ih r)
     go ih m (begun name b d h e) =
         let others : Names = replicate k [] in
-        begun (name ∷ others) b (d ++ namesBits others) (ap suc (nameless k).0, (h, (nameless k).1)) (cc (append_assoc l (b ∷ d) (namesBits others)))
+        begun (name ∷ others) b (d ++ names_bits others) (ap suc (nameless k).0, (h, (nameless k).1)) (cc (append_assoc l (b ∷ d) (names_bits others)))
 
-names-here : (names : Names) (r : List Bool) → ValidNames names → namesFrom (length names) (namesBits names ++ r) ≡ got names r
-unfolding namesFrom namesBits ValidNames
+names-here : (names : Names) (r : List Bool) → ValidNames names → names_from (length names) (names_bits names ++ r) ≡ got names r
+unfolding names_from names_bits ValidNames
 names-here [] r h = refl
 names-here (name ∷ names) r (g, h) =
-    ap (namesFrom (suc (length names))) (append_assoc (nameBits name) (namesBits names) r) ∙ rw (name-here name (namesBits names ++ r) g, names-here names r h)
+    ap (names_from (suc (length names))) (append_assoc (name_bits name) (names_bits names) r) ∙ rw (name-here name (names_bits names ++ r) g, names-here names r h)
 
 -- ---- the table
 
-table-met : (l : List Bool) → Met tableBits ValidTable l (tableFrom l)
-unfolding tableFrom tableBits
+table-met : (l : List Bool) → Met table_bits ValidTable l (table_from l)
+unfolding table_from table_bits
 table-met l =
-    counted-met countBits length namesBits tableBits ValidNames ValidTable (λ names. refl) (λ names h g. record { few = h; valid = g }) namesFrom names-met
+    counted-met count_bits length names_bits table_bits ValidNames ValidTable (λ names. refl) (λ names h g. record { few = h; valid = g }) names_from names-met
     (λ k. (replicate k [], nameless k)) l
 
-table_here : (names : Names) (r : List Bool) → ValidTable names → tableFrom (tableBits names ++ r) ≡ got names r
-unfolding tableFrom tableBits
+table_here : (names : Names) (r : List Bool) → ValidTable names → table_from (table_bits names ++ r) ≡ got names r
+unfolding table_from table_bits
 table_here names r h =
-    counted-here countBits length namesBits tableBits ValidNames ValidTable (λ names. refl) (λ names h g. record { few = h; valid = g }) namesFrom names-here names r
+    counted-here count_bits length names_bits table_bits ValidNames ValidTable (λ names. refl) (λ names h g. record { few = h; valid = g }) names_from names-here names r
     h.few h.valid
 
 -- ---- the filling
 
-filling-zeros : (n : ℕ) → n < 8 → isFilling (replicate n false) ≡ true
+filling-zeros : (n : ℕ) → n < 8 → is_filling (replicate n false) ≡ true
 filling-zeros n h = let g : length (replicate n false) < 8 = simp length-replicate (omega arith) in rw (lt-ltb _ _ g, zeros-value n)
 
 -- bits behind a table are filling exactly where they fill it up
-fills : (bytes : List ℕ) (b r : List Bool) → bits_of bytes ≡ b ++ r → isFilling r ≡ true → bits_of bytes ≡ filledUp b
+fills : (bytes : List ℕ) (b r : List Bool) → bits_of bytes ≡ b ++ r → is_filling r ≡ true → bits_of bytes ≡ filled_up b
 fills bytes b r e f =
     let p = both_true (ltb (length r) 8) (eqb (value_of r) 0) f in
-    let l : length (bits_of bytes) ≡ 8 * length bytes = length-bitsOf bytes in
+    let l : length (bits_of bytes) ≡ 8 * length bytes = length-bits_of bytes in
     let m : length (bits_of bytes) ≡ length b + length r = ap length e ∙ length-append b r in
     let s : length r < 8 = ltb-true _ _ p.0 in
     let k : length (bits_of bytes) - length b ≡ length r = omega arith in
     filled-up (bits_of bytes) b (omega arith) (omega arith)
     (e ∙ ap (λ (x : List Bool). b ++ x) (value-zeros r (eqb-true _ _ p.1) ∙ ap (λ (x : ℕ). replicate x false) (sym k)))
 
-filled-by : (b r : List Bool) → b ++ r ≡ filledUp b → isFilling r ≡ true
-unfolding filledUp
+filled-by : (b r : List Bool) → b ++ r ≡ filled_up b → is_filling r ≡ true
+unfolding filled_up
 filled-by b r e =
     let f : r ≡ replicate (missing (length b)) false = sym (drop_at b r (length b) refl) ∙ ap (drop (length b)) e ∙ drop_at b (replicate (missing (length b)) false)
     (length b) refl in
-    ap isFilling f ∙ filling-zeros (missing (length b)) (omega arith)
+    ap is_filling f ∙ filling-zeros (missing (length b)) (omega arith)
 
 -- ---- the claims
 
 pub table-read : TableRead
-unfolding table_of filledUp
+unfolding table_of filled_up
 table-read bytes names h =
-    let n = missing (length (tableBits names)) in
-    ap (λ (l : List Bool). judged (tableFrom l)) h.encoded ∙ ap judged (table_here names (replicate n false) h.valid) ∙ cond-true _ _
+    let n = missing (length (table_bits names)) in
+    ap (λ (l : List Bool). judged (table_from l)) h.encoded ∙ ap judged (table_here names (replicate n false) h.valid) ∙ cond-true _ _
     (filling-zeros n (omega arith))
 
 pub one_table : OneTable
 one_table bytes names others g h = cc (table-read bytes names g, table-read bytes others h)
 
 -- what is cut short is read as nothing: the table that goes on would be another one
-cut-read : (l : List Bool) (names : Names) (b : Bool) (d : List Bool) → ValidTable names → l ++ (b ∷ d) ≡ tableBits names → tableFrom l ≡ cut
-cut-read l names b d h e = go (tableFrom l) (table-met l)
+cut-read : (l : List Bool) (names : Names) (b : Bool) (d : List Bool) → ValidTable names → l ++ (b ∷ d) ≡ table_bits names → table_from l ≡ cut
+cut-read l names b d h e = go (table_from l) (table-met l)
   where
-    go : (m : Read Names) → Met tableBits ValidTable l m → m ≡ cut
+    go : (m : Read Names) → Met table_bits ValidTable l m → m ≡ cut
     go m (begun a c f g k) = refl
     go m (whole others r g k) =
         let q : [] ≡ r ++ (b ∷ d) = cc (
-          append-nil (tableBits names),
-          append_assoc (tableBits others) r (b ∷ d),
+          append-nil (table_bits names),
+          append_assoc (table_bits others) r (b ∷ d),
           table_here names [] h,
           table_here others (r ++ (b ∷ d))
               g,
@@ -254,26 +254,26 @@ table-cut bytes c = ap judged (cut-read (bits_of bytes) c.names c.next c.others 
 pub table-left-over : TableLeftOver
 unfolding table_of
 table-left-over bytes c =
-    ap (λ (l : List Bool). judged (tableFrom l)) c.encoded ∙ ap judged (table_here c.names c.others c.valid) ∙ go (isFilling c.others) refl
+    ap (λ (l : List Bool). judged (table_from l)) c.encoded ∙ ap judged (table_here c.names c.others c.valid) ∙ go (is_filling c.others) refl
   where
-    go : (t : Bool) → isFilling c.others ≡ t → cond t (holds c.names) (refused answers.LeftOver) ≡ refused answers.LeftOver
-    go true f = absurd (c.unfilled (fills bytes (tableBits c.names) c.others c.encoded f))
+    go : (t : Bool) → is_filling c.others ≡ t → cond t (holds c.names) (refused answers.LeftOver) ≡ refused answers.LeftOver
+    go true f = absurd (c.unfilled (fills bytes (table_bits c.names) c.others c.encoded f))
     go false f = refl
 
 pub every-table : EveryTable
-every-table bytes = go (tableFrom (bits_of bytes)) (table-met (bits_of bytes))
+every-table bytes = go (table_from (bits_of bytes)) (table-met (bits_of bytes))
   where
-    go : (m : Read Names) → Met tableBits ValidTable (bits_of bytes) m → Verdict bytes
+    go : (m : Read Names) → Met table_bits ValidTable (bits_of bytes) m → Verdict bytes
     go m (begun names b d h e) = is_cut (record { names = names; valid = h; next = b; others = d; encoded = e })
-    go m (whole names r h e) = ended (isFilling r) refl
+    go m (whole names r h e) = ended (is_filling r) refl
       where
-        ended : (t : Bool) → isFilling r ≡ t → Verdict bytes
-        ended true f = encodes names (record { valid = h; encoded = fills bytes (tableBits names) r e f })
+        ended : (t : Bool) → is_filling r ≡ t → Verdict bytes
+        ended true f = encodes names (record { valid = h; encoded = fills bytes (table_bits names) r e f })
         ended false f =
             left_over (record {
               names = names;
               valid = h;
               others = r;
               encoded = e;
-              unfilled = λ g. true≢false (sym (filled-by (tableBits names) r (sym e ∙ g)) ∙ f);
+              unfilled = λ g. true≢false (sym (filled-by (table_bits names) r (sym e ∙ g)) ∙ f);
             })

@@ -2,19 +2,19 @@
 use Rattle.std.specs.Prelude.{ℕ, cond, List, [], ◌∷◌, ◌++◌, length, drop, leb}
 use Rattle.base_answer.specs.declared.Answer.{Answer}
 use Rattle.base_answer.specs.declared.Answer.TheVariants.{Taken, NoRoom}
-use Rattle.symbol_names.specs.Form.{listBytes, Table, holds, refused}
-use Rattle.symbol_names.specs.inside.Asking.{nameIn}
+use Rattle.symbol_names.specs.Form.{list_bytes, Table, holds, refused}
+use Rattle.symbol_names.specs.inside.Asking.{name_in}
 
 -- ---- asking
 
-abbrev pub unlessEmpty : List ℕ → List ℕ → List ℕ
-unlessEmpty [] other = other
-unlessEmpty (b ∷ name) other = b ∷ name
+abbrev pub unless_empty : List ℕ → List ℕ → List ℕ
+unless_empty [] other = other
+unless_empty (b ∷ name) other = b ∷ name
 
 -- in the piece's names, else in the panel's own list
-unfoldable pub nameFound : ℕ → List ℕ → List ℕ → List ℕ
-unfolding nameIn
-nameFound symbol piece own = unlessEmpty (nameIn piece symbol) (nameIn own symbol)
+unfoldable pub name_found : ℕ → List ℕ → List ℕ → List ℕ
+unfolding name_in
+name_found symbol piece own = unless_empty (name_in piece symbol) (name_in own symbol)
 
 -- ---- unpacking: an answer, the whole length of the names, and what the lent buffer then holds
 
@@ -30,8 +30,8 @@ unpacking a n b = record { answer = a; length-of = n; buffer = b }
 unfoldable pub laid : List ℕ → List ℕ → List ℕ
 laid bytes buffer = bytes ++ drop (length bytes) buffer
 
-unfoldable pub unpackingOf : Table → List ℕ → Unpacking
+unfoldable pub unpacking_of : Table → List ℕ → Unpacking
 unfolding laid
-unpackingOf (holds names) old =
-    cond (leb (length (listBytes names)) (length old)) (unpacking Taken (length (listBytes names)) (laid (listBytes names) old)) (unpacking NoRoom 0 old)
-unpackingOf (refused a) old = unpacking a 0 old
+unpacking_of (holds names) old =
+    cond (leb (length (list_bytes names)) (length old)) (unpacking Taken (length (list_bytes names)) (laid (list_bytes names) old)) (unpacking NoRoom 0 old)
+unpacking_of (refused a) old = unpacking a 0 old

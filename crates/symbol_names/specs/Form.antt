@@ -13,29 +13,29 @@ name_of names symbol = get_or names symbol []
 
 -- ---- the symbol table, as bits: a 16-bit count, then for each symbol from 0 a 4-bit length and that many bytes
 
-abbrev pub countBits : ℕ
-countBits = 16
+abbrev pub count_bits : ℕ
+count_bits = 16
 
-abbrev pub lengthBits : ℕ
-lengthBits = 4
+abbrev pub length_bits : ℕ
+length_bits = 4
 
-unfoldable pub nameBits : List ℕ → List Bool
-nameBits name = field lengthBits (length name) ++ bits_of name
+unfoldable pub name_bits : List ℕ → List Bool
+name_bits name = field length_bits (length name) ++ bits_of name
 
-unfoldable pub namesBits : Names → List Bool
-unfolding nameBits
-namesBits [] = []
-namesBits (name ∷ names) = nameBits name ++ namesBits names
+unfoldable pub names_bits : Names → List Bool
+unfolding name_bits
+names_bits [] = []
+names_bits (name ∷ names) = name_bits name ++ names_bits names
 
-unfoldable pub tableBits : Names → List Bool
-unfolding namesBits
-tableBits names = field countBits (length names) ++ namesBits names
+unfoldable pub table_bits : Names → List Bool
+unfolding names_bits
+table_bits names = field count_bits (length names) ++ names_bits names
 
 -- ---- a list, as bytes: each name as a length byte and its bytes, in symbol order
 
-unfoldable pub listBytes : Names → List ℕ
-listBytes [] = []
-listBytes (name ∷ names) = length name ∷ (name ++ listBytes names)
+unfoldable pub list_bytes : Names → List ℕ
+list_bytes [] = []
+list_bytes (name ∷ names) = length name ∷ (name ++ list_bytes names)
 
 -- ---- what a table can hold
 
@@ -43,7 +43,7 @@ abbrev pub Bytes : List ℕ → Type 0
 Bytes s = (i : ℕ) → get_or s i 0 < 2 ^ 8
 
 pub record ValidName (name : List ℕ) : Type 0 where
-  pub short : length name < 2 ^ lengthBits
+  pub short : length name < 2 ^ length_bits
   pub bytes : Bytes name
 
 unfoldable pub ValidNames : Names → Type 0
@@ -51,7 +51,7 @@ ValidNames [] = Unit {0}
 ValidNames (name ∷ names) = ValidName name × ValidNames names
 
 pub record ValidTable (names : Names) : Type 0 where
-  pub few : length names < 2 ^ countBits
+  pub few : length names < 2 ^ count_bits
   pub valid : ValidNames names
 
 -- the names of a table, or the number that refuses it

@@ -9,19 +9,19 @@ use native.Mathlib.Numerals.{add-one}
 use borrow.Author.Tests.{lt-leb}
 use lib.ListN.{length, get_or, set, take, drop, length-drop, length-append, length-set, take-append-drop}
 use lib.Seq.{take_at, drop-drop, drop-append-add, length-take-le, take-suc-set, drop-set-lt, paste, paste-zero, paste-suc, take_all, append_snoc}
-use Rattle.base_bitstream.proofs.Filling.{length-bytesFrom}
+use Rattle.base_bitstream.proofs.Filling.{length-bytes_from}
 use Rattle.base_laws.proofs.Choice.{cond-false}
 use Rattle.base_answer.specs.declared.Answer.{Answer}
 use Rattle.base_answer.specs.declared.Answer.TheVariants.{Taken, NoRoom}
 use Rattle.base_bitstream.specs.Bits.{bits_of, value_of}
 use Rattle.base_bitstream.specs.inside.Fields.{Room}
-use Rattle.base_bitstream.specs.Filling.{bytesFrom}
-use Rattle.base_bitstream.proofs.BitValues.{length-bitsOf}
-use Rattle.symbol_names.specs.Form.{Names, lengthBits, listBytes, Table, holds, refused}
-use Rattle.symbol_names.specs.inside.Reading.{Read, namesFrom, table_of}
-use Rattle.symbol_names.specs.Asking.{Unpacking, unpacking, laid, unpackingOf}
+use Rattle.base_bitstream.specs.Filling.{bytes_from}
+use Rattle.base_bitstream.proofs.BitValues.{length-bits_of}
+use Rattle.symbol_names.specs.Form.{Names, length_bits, list_bytes, Table, holds, refused}
+use Rattle.symbol_names.specs.inside.Reading.{Read, names_from, table_of}
+use Rattle.symbol_names.specs.Asking.{Unpacking, unpacking, laid, unpacking_of}
 use Rattle.symbol_names.proofs.Asked.{unpacked}
-use Rattle.symbol_unpacker.specs.Passes.{number_at, names_of, judgement, listed, is_whole, Fits, laidAt, entry_at, Copies, Entry, NameLaid, UnpacksTo}
+use Rattle.symbol_unpacker.specs.Passes.{number_at, names_of, judgement, listed, is_whole, Fits, laid_at, entry_at, Copies, Entry, NameLaid, UnpacksTo}
 use Rattle.symbol_unpacker.specs.declared.Judged.{Judged}
 use Rattle.symbol_unpacker.specs.declared.Judged.TheVariants.{Names as Holds, Refused}
 use Rattle.symbol_unpacker.specs.declared.Unpacked.{Unpacked}
@@ -33,15 +33,15 @@ answered a n = record { answer = a; length = n }
 
 -- ---- bytes laid from a place on
 
-pub length-laid : (to : ℕ) (bytes buffer : List ℕ) → to + length bytes ≤ length buffer → length (laidAt to bytes buffer) ≡ length buffer
-unfolding laidAt
+pub length-laid : (to : ℕ) (bytes buffer : List ℕ) → to + length bytes ≤ length buffer → length (laid_at to bytes buffer) ≡ length buffer
+unfolding laid_at
 length-laid to bytes buffer h =
     let d = drop (to + length bytes) buffer in
     omega (arith, length-take-le to buffer (omega arith), length-drop (to + length bytes) buffer, length-append bytes d, length-append (take to buffer) (bytes ++ d))
 
 -- two stretches, one behind the other, are one
-laid-laid : (to : ℕ) (a b buffer : List ℕ) → to + length a ≤ length buffer → laidAt (to + length a) b (laidAt to a buffer) ≡ laidAt to (a ++ b) buffer
-unfolding laidAt
+laid-laid : (to : ℕ) (a b buffer : List ℕ) → to + length a ≤ length buffer → laid_at (to + length a) b (laid_at to a buffer) ≡ laid_at to (a ++ b) buffer
+unfolding laid_at
 laid-laid to a b buffer h =
     let n = to + length a in
     let x = take to buffer ++ a in
@@ -58,15 +58,15 @@ pub record Copying (table buffer₀ buffer : List ℕ) (at n to j : ℕ) : Type 
   pub copies : Copies table buffer₀ at n to
   pub counted : j ≤ n
   pub same : length buffer ≡ length buffer₀
-  pub stands : buffer ≡ paste buffer₀ to (bytesFrom n (drop at (bits_of table))) j
+  pub stands : buffer ≡ paste buffer₀ to (bytes_from n (drop at (bits_of table))) j
 
 pub copy-starts : (table buffer : List ℕ) (at n to : ℕ) → Copies table buffer at n to → Copying table buffer buffer at n to 0
 copy-starts table buffer at n to h =
-    record { copies = h; counted = omega arith; same = refl; stands = paste-zero buffer to (bytesFrom n (drop at (bits_of table))) }
+    record { copies = h; counted = omega arith; same = refl; stands = paste-zero buffer to (bytes_from n (drop at (bits_of table))) }
 
 -- a byte among others
-byte-among : (n : ℕ) (l : List Bool) (j : ℕ) → j < n → get_or (bytesFrom n l) j 0 ≡ value_of (take 8 (drop (8 * j) l))
-unfolding bytesFrom
+byte-among : (n : ℕ) (l : List Bool) (j : ℕ) → j < n → get_or (bytes_from n l) j 0 ≡ value_of (take 8 (drop (8 * j) l))
+unfolding bytes_from
 byte-among zero l j h = absurd (omega arith)
 byte-among (suc n) l zero h = refl
 byte-among (suc n) l (suc j) h =
@@ -75,7 +75,7 @@ byte-among (suc n) l (suc j) h =
 
 module _ {table buffer₀ buffer : List ℕ} {at n to j : ℕ} (c : Copying table buffer₀ buffer at n to j) where
   abbrev bytes : List ℕ
-  bytes = bytesFrom n (drop at (bits_of table))
+  bytes = bytes_from n (drop at (bits_of table))
 
   pub copy-room : j < n → Room (8 * length table) (at + 8 * j) 8
   copy-room h = record { width = omega arith; near = omega (arith, c.copies.near); within = omega (arith, c.copies.there) }
@@ -83,7 +83,7 @@ module _ {table buffer₀ buffer : List ℕ} {at n to j : ℕ} (c : Copying tabl
   pub copy-again : {b : ℕ} → j < n → b ≡ number_at (bits_of table) (at + 8 * j) 8 → Copying table buffer₀ (set buffer (to + j) b) at n to (j + 1)
   unfolding number_at
   copy-again {b} h e =
-      let k = length-bytesFrom n (drop at (bits_of table)) in
+      let k = length-bytes_from n (drop at (bits_of table)) in
       let p = paste-suc buffer₀ to bytes j 0 (omega (arith, c.copies.place)) (omega arith) in
       record {
         copies = c.copies;
@@ -92,10 +92,10 @@ module _ {table buffer₀ buffer : List ℕ} {at n to j : ℕ} (c : Copying tabl
         stands = cc (c.stands, drop-drop (8 * j) at (bits_of table), byte-among n (drop at (bits_of table)) j h, p, add-one j);
       }
 
-  pub copy-ends : n ≤ j → buffer ≡ laidAt to bytes buffer₀
-  unfolding laidAt
+  pub copy-ends : n ≤ j → buffer ≡ laid_at to bytes buffer₀
+  unfolding laid_at
   copy-ends h =
-      let k = length-bytesFrom n (drop at (bits_of table)) in
+      let k = length-bytes_from n (drop at (bits_of table)) in
       let e : j ≡ n = omega (arith, c.counted) in
       cc (c.stands, append_assoc (take to buffer₀) (take n bytes) (drop (to + n) buffer₀), take_all n bytes (omega arith))
 
@@ -114,11 +114,11 @@ entry-copies {table} {buffer} {at} {to} {n} x h e =
     }
 
 pub entry-laid : {table buffer new : List ℕ} {at to n : ℕ} → Entry table buffer at to → (n ≡ number_at (bits_of table) at 4) × (n < 2 ^ 4)
-    → new ≡ laidAt (to + 1) (bytesFrom n (drop (at + 4) (bits_of table))) (set buffer to n)
+    → new ≡ laid_at (to + 1) (bytes_from n (drop (at + 4) (bits_of table))) (set buffer to n)
     → NameLaid table buffer new at to n
-unfolding entry_at laidAt
+unfolding entry_at laid_at
 entry-laid {table} {buffer} {new} {at} {to} {n} h e f =
-    let s = bytesFrom n (drop (at + 4) (bits_of table)) in
+    let s = bytes_from n (drop (at + 4) (bits_of table)) in
     let m : to < length buffer = omega (arith, h.place) in
     let k : to + 1 + length s ≡ to + suc (length s) = omega arith in
     let d = drop-set-lt (to + 1 + length s) buffer to n (omega arith) in
@@ -136,14 +136,14 @@ pub record Laying (table : List ℕ) (count : ℕ) (buffer₀ buffer : List ℕ)
   pub near : at ≤ 16 + 124 * i
   pub far : to ≤ 16 * i
   pub same : length buffer ≡ length buffer₀
-  pub whole : is_whole (namesFrom (count - i) (drop at (bits_of table))) ≡ true
-  pub room : to + length (listed (namesFrom (count - i) (drop at (bits_of table)))) ≤ length buffer
-  pub stands : laidAt to (listed (namesFrom (count - i) (drop at (bits_of table)))) buffer ≡ laid (listed (names_of table count)) buffer₀
+  pub whole : is_whole (names_from (count - i) (drop at (bits_of table))) ≡ true
+  pub room : to + length (listed (names_from (count - i) (drop at (bits_of table)))) ≤ length buffer
+  pub stands : laid_at to (listed (names_from (count - i) (drop at (bits_of table)))) buffer ≡ laid (listed (names_of table count)) buffer₀
 
 pub lay-starts : (table : List ℕ) (count : ℕ) (buffer : List ℕ) → Fits table count (length buffer) → Laying table count buffer buffer 16 0 0
-unfolding names_of laid laidAt
+unfolding names_of laid laid_at
 lay-starts table count buffer h =
-    let names = namesFrom count (drop 16 (bits_of table)) in
+    let names = names_from count (drop 16 (bits_of table)) in
     let z : 0 + length (listed names) ≡ length (listed names) = omega arith in
     let c : count - 0 ≡ count = omega arith in
     record {
@@ -159,7 +159,7 @@ lay-starts table count buffer h =
 
 length-entry : (bits : List Bool) (at : ℕ) → length (entry_at bits at) ≡ 1 + size bits at
 unfolding entry_at
-length-entry bits at = omega (arith, length-bytesFrom (size bits at) (drop (at + lengthBits) bits))
+length-entry bits at = omega (arith, length-bytes_from (size bits at) (drop (at + length_bits) bits))
 
 module _ {table : List ℕ} {count : ℕ} {buffer₀ buffer : List ℕ} {at to i : ℕ} (l : Laying table count buffer₀ buffer at to i) (h : i < count) where
   abbrev bits : List Bool
@@ -176,17 +176,17 @@ module _ {table : List ℕ} {count : ℕ} {buffer₀ buffer : List ℕ} {at to i
 
   -- what is listed behind the next name
   abbrev rest : List ℕ
-  rest = listed (namesFrom others (drop (past bits at) bits))
+  rest = listed (names_from others (drop (past bits at) bits))
 
-  lists : listed (namesFrom (count - i) (drop at bits)) ≡ entry_at bits at ++ rest
+  lists : listed (names_from (count - i) (drop at bits)) ≡ entry_at bits at ++ rest
   lists = rw left here.lists
 
-  length-lists : length (listed (namesFrom (count - i) (drop at bits))) ≡ 1 + size bits at + length rest
+  length-lists : length (listed (names_from (count - i) (drop at bits))) ≡ 1 + size bits at + length rest
   length-lists = omega (arith, ap length lists, length-append (entry_at bits at) rest, length-entry bits at)
 
   pub lay-entry : Entry table buffer at to
   lay-entry =
-      let b = length-bitsOf table in
+      let b = length-bits_of table in
       let m = length-lists in
       record { near = omega (arith, l.near, l.few); opened = omega (arith, here.opened); there = omega (arith, here.there); place = omega (arith, l.room) }
 
@@ -212,7 +212,7 @@ module _ {table : List ℕ} {count : ℕ} {buffer₀ buffer : List ℕ} {at to i
 
 pub lay-ends : {table : List ℕ} {count : ℕ} {buffer₀ buffer : List ℕ} {at to i : ℕ} → Laying table count buffer₀ buffer at to i → count ≤ i
     → buffer ≡ laid (listed (names_of table count)) buffer₀
-unfolding namesFrom laidAt listBytes
+unfolding names_from laid_at list_bytes
 lay-ends {table} {count} {buffer₀} {buffer} {at} {to} {i} l h =
     let z : count - i ≡ 0 = omega arith in
     let o : to + 0 ≡ to = omega arith in
@@ -231,10 +231,10 @@ held_fits table buffer e f h =
     }
 
 pub unpack-taken : {count total : ℕ} {j : Judged} (table buffer new : List ℕ) → j ≡ judgement (table_of table) → j ≡ Holds count total → total ≤ length buffer
-    → new ≡ laid (listed (names_of table count)) buffer → UnpacksTo (unpackingOf (table_of table) buffer) new (record { answer = Taken; length = total })
+    → new ≡ laid (listed (names_of table count)) buffer → UnpacksTo (unpacking_of (table_of table) buffer) new (record { answer = Taken; length = total })
 unpack-taken {count} {total} table buffer new e f h g =
     let k = held table e f in
-    let u : unpackingOf (table_of table) buffer ≡ unpacking Taken (length (listBytes k.names)) (laid (listBytes k.names) buffer) =
+    let u : unpacking_of (table_of table) buffer ≡ unpacking Taken (length (list_bytes k.names)) (laid (list_bytes k.names) buffer) =
     rw k.same (unpacked k.names buffer (omega (arith, k.size))) in
     record {
       told = ap (answered Taken) (sym k.size) ∙ ap (λ (x : Unpacking). answered x.answer x.length-of) (sym u);
@@ -242,12 +242,12 @@ unpack-taken {count} {total} table buffer new e f h g =
     }
 
 pub unpack-short : {count total : ℕ} {j : Judged} (table buffer : List ℕ) → j ≡ judgement (table_of table) → j ≡ Holds count total → length buffer < total
-    → UnpacksTo (unpackingOf (table_of table) buffer) buffer (record { answer = NoRoom; length = 0 })
-unfolding unpackingOf
+    → UnpacksTo (unpacking_of (table_of table) buffer) buffer (record { answer = NoRoom; length = 0 })
+unfolding unpacking_of
 unpack-short table buffer e f h =
     let k = held table e f in
-    let r : length buffer < length (listBytes k.names) = omega (arith, k.size) in
-    let u : unpackingOf (table_of table) buffer ≡ unpacking NoRoom 0 buffer = rw k.same (cond-false _ _ (lt-leb _ _ r)) in
+    let r : length buffer < length (list_bytes k.names) = omega (arith, k.size) in
+    let u : unpacking_of (table_of table) buffer ≡ unpacking NoRoom 0 buffer = rw k.same (cond-false _ _ (lt-leb _ _ r)) in
     record { told = cc; buffer = cc }
 
 refusal : {a : Answer} (t : Table) → judgement t ≡ Refused a → t ≡ refused a
@@ -255,8 +255,8 @@ refusal (holds names) e = let z : ◌≡◌ {A = ℕ} 0 1 = cc in absurd (omega 
 refusal (refused b) e = cc
 
 pub unpack-refused : {a : Answer} {j : Judged} (table buffer : List ℕ) → j ≡ judgement (table_of table) → j ≡ Refused a
-    → UnpacksTo (unpackingOf (table_of table) buffer) buffer (record { answer = a; length = 0 })
-unfolding unpackingOf
+    → UnpacksTo (unpacking_of (table_of table) buffer) buffer (record { answer = a; length = 0 })
+unfolding unpacking_of
 unpack-refused {a} table buffer e f =
     let u = refusal (table_of table) (sym e ∙ f) in
     record { told = cc; buffer = cc }

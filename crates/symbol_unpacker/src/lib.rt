@@ -2,10 +2,10 @@
 ghost use Rattle.std.specs.Prelude.{◌≡◌, ◌*◌, ◌^◌, ◌<◌, length, drop, ltb};
 ghost use Rattle.base_bitstream.specs.Bits.{bits_of};
 ghost use Rattle.base_bitstream.specs.inside.Fields.{Room};
-ghost use Rattle.base_bitstream.specs.Filling.{bytesFrom};
+ghost use Rattle.base_bitstream.specs.Filling.{bytes_from};
 ghost use Rattle.symbol_names.specs.inside.Reading.{table_of};
-ghost use Rattle.symbol_names.specs.Asking.{laid, unpackingOf};
-ghost use Rattle.symbol_unpacker.specs.Passes.{number_at, names_of, Counted, measured, judgement, listed, Fits, laidAt, Copies, Entry, NameLaid, UnpacksTo};
+ghost use Rattle.symbol_names.specs.Asking.{laid, unpacking_of};
+ghost use Rattle.symbol_unpacker.specs.Passes.{number_at, names_of, Counted, measured, judgement, listed, Fits, laid_at, Copies, Entry, NameLaid, UnpacksTo};
 
 use base_answer::Answer;
 use base_bitstream::FieldRead;
@@ -116,7 +116,7 @@ fn judge(table: &[u8]) -> Judged
 // Copies n bytes from a position of the table to a place of the buffer.
 fn copy_bytes(table: &[u8], at: usize, n: usize, buffer: &mut [u8], to: usize)
     requires { Copies table.now buffer.old at n to }
-    ensures { buffer.new ≡ laidAt to (bytesFrom n (drop at (bits_of table.now))) buffer.old }
+    ensures { buffer.new ≡ laid_at to (bytes_from n (drop at (bits_of table.now))) buffer.old }
 {
     let mut j: usize = 0;
     while j < n {
@@ -154,7 +154,7 @@ fn lay_names(table: &[u8], count: usize, buffer: &mut [u8])
 
 // Unpacks a symbol table's names into the buffer: 1, 11, then 8 where it is too short. On refusal no byte changes.
 pub fn unpack(table: &[u8], buffer: &mut [u8]) -> Unpacked
-    ensures { UnpacksTo (unpackingOf (table_of table.now) buffer.old) buffer.new result }
+    ensures { UnpacksTo (unpacking_of (table_of table.now) buffer.old) buffer.new result }
 {
     match judge(table) {
         Judged::Names(count, total) => {

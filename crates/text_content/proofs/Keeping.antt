@@ -12,17 +12,17 @@ use lib.Ieee.{Float}
 use Rattle.base_laws.proofs.Choice.{cond-true, cond-false}
 use Rattle.base_laws.proofs.Lists.{map-append}
 use Rattle.text_format.specs.Content.{bits}
-use Rattle.text_content.specs.Judged.{eight, keptOf, withValue}
+use Rattle.text_content.specs.Judged.{eight, kept_of, with_value}
 use Rattle.text_content.specs.declared.ValueBits.{ValueBits}
 
 -- ---- the ways through `with_value`
 
-pub stored : (k : ValueBits) (x : Float) {b : ℕ} → k.count < 8 → b ≡ bits x → record { count = k.count + 1; bits = set k.bits k.count b } ≡ withValue k x
-unfolding withValue
+pub stored : (k : ValueBits) (x : Float) {b : ℕ} → k.count < 8 → b ≡ bits x → record { count = k.count + 1; bits = set k.bits k.count b } ≡ with_value k x
+unfolding with_value
 stored k x h e = ap (λ (y : ℕ). record { count = k.count + 1; bits = set k.bits k.count y }) e ∙ sym (cond-true _ _ (lt-ltb k.count 8 h))
 
-pub counted : (k : ValueBits) (x : Float) → 8 ≤ k.count → record { count = 9; bits = k.bits } ≡ withValue k x
-unfolding withValue
+pub counted : (k : ValueBits) (x : Float) → 8 ≤ k.count → record { count = 9; bits = k.bits } ≡ with_value k x
+unfolding with_value
 counted k x h = sym (cond-false _ _ (le-ltb k.count 8 h))
 
 -- ---- one value more
@@ -39,8 +39,8 @@ module _ (vs : List Float) (x : Float) where
   long : length (map bits (vs ++ (x ∷ []))) ≡ length vs + 1
   long = length-map (vs ++ (x ∷ [])) bits ∙ length-append vs (x ∷ [])
 
-  few : length vs < 8 → withValue (keptOf vs) x ≡ keptOf (vs ++ (x ∷ []))
-  unfolding keptOf withValue
+  few : length vs < 8 → with_value (kept_of vs) x ≡ kept_of (vs ++ (x ∷ []))
+  unfolding kept_of with_value
   few h =
       let ws = map bits vs in
       let n : length ws ≡ length vs = length-map vs bits in
@@ -51,8 +51,8 @@ module _ (vs : List Float) (x : Float) where
       let b : set (eight (take 8 ws)) (lesser (length vs) 9) (bits x) ≡ eight (take 8 (map bits (vs ++ (x ∷ [])))) = cc (set_next ws (bits x) (omega arith)) in
       cond-true _ _ (lt-ltb (lesser (length vs) 9) 8 (omega arith)) ∙ (λ i. record { count = d i; bits = b i })
 
-  many : 8 ≤ length vs → withValue (keptOf vs) x ≡ keptOf (vs ++ (x ∷ []))
-  unfolding keptOf withValue
+  many : 8 ≤ length vs → with_value (kept_of vs) x ≡ kept_of (vs ++ (x ∷ []))
+  unfolding kept_of with_value
   many h =
       let ws = map bits vs in
       let n : length ws ≡ length vs = length-map vs bits in
@@ -60,9 +60,9 @@ module _ (vs : List Float) (x : Float) where
       let d : 9 ≡ lesser (length (vs ++ (x ∷ []))) 9 = omega (arith, length-append vs (x ∷ [])) in
       cond-false _ _ (le-ltb (lesser (length vs) 9) 8 (omega arith)) ∙ (λ i. record { count = d i; bits = eight (t i) })
 
-  pub kept_more : withValue (keptOf vs) x ≡ keptOf (vs ++ (x ∷ []))
+  pub kept_more : with_value (kept_of vs) x ≡ kept_of (vs ++ (x ∷ []))
   kept_more = go (ltb (length vs) 8) refl
     where
-      go : (b : Bool) → ltb (length vs) 8 ≡ b → withValue (keptOf vs) x ≡ keptOf (vs ++ (x ∷ []))
+      go : (b : Bool) → ltb (length vs) 8 ≡ b → with_value (kept_of vs) x ≡ kept_of (vs ++ (x ∷ []))
       go true e = few (ltb-true (length vs) 8 e)
       go false e = many (ltb-false (length vs) 8 e)

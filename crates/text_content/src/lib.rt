@@ -1,11 +1,11 @@
 // What a line of text says, judged by the stick's rules: its keypad numbers, read by the one reader of lines.
 ghost use Rattle.std.specs.Prelude.{◌≡◌, min as lesser, take};
 ghost use Rattle.std.proofs.Math.Option.{none, some};
-ghost use Rattle.score_line.specs.LineFormat.{labelParts};
-ghost use Rattle.score_line.specs.Reading.{lineInWords};
+ghost use Rattle.score_line.specs.LineFormat.{label_parts};
+ghost use Rattle.score_line.specs.Reading.{line_in_words};
 ghost use Rattle.text_format.specs.Content.{flag};
 ghost use Rattle.text_format.specs.Content as content;
-ghost use Rattle.text_content.specs.Judged.{judgedAt, withValue, instrNumbers, instrWords};
+ghost use Rattle.text_content.specs.Judged.{judged_at, with_value, instr_numbers, instr_words};
 
 use score_line::{CONTROL, END, INSTR, Label, LineRead, MOST_VALUES, TEMPO};
 
@@ -18,7 +18,7 @@ pub struct ValueBits {
 
 // One value more.
 pub fn with_value(k: ValueBits, x: f32) -> ValueBits
-    ensures { result ≡ withValue k x }
+    ensures { result ≡ with_value k x }
 {
     let n = k.count;
     let mut bits = k.bits;
@@ -49,7 +49,7 @@ fn count_of(n: usize) -> u32
 
 // The first n of some keypad numbers.
 fn first_words(words: &[u32], n: usize) -> LineRead
-    ensures { result ≡ lineInWords (take n words.now) 0 }
+    ensures { result ≡ line_in_words (take n words.now) 0 }
 {
     if n < words.len() {
         return score_line_reader::line_in_words(&words[..n], 0);
@@ -58,7 +58,7 @@ fn first_words(words: &[u32], n: usize) -> LineRead
 }
 
 pub fn end_line(priority: bool, time: f32) -> LineRead
-    ensures { result ≡ judgedAt priority time content.end }
+    ensures { result ≡ judged_at priority time content.end }
 {
     let words = [
         1u32,
@@ -71,7 +71,7 @@ pub fn end_line(priority: bool, time: f32) -> LineRead
 }
 
 pub fn tempo_line(priority: bool, time: f32, tempo: f32) -> LineRead
-    ensures { result ≡ judgedAt priority time (content.tempo tempo) }
+    ensures { result ≡ judged_at priority time (content.tempo tempo) }
 {
     let words = [
         1u32,
@@ -85,7 +85,7 @@ pub fn tempo_line(priority: bool, time: f32, tempo: f32) -> LineRead
 }
 
 pub fn control_line(priority: bool, time: f32, label: Label, name: u16, value: f32) -> LineRead
-    ensures { result ≡ judgedAt priority time (content.control (labelParts label) name value) }
+    ensures { result ≡ judged_at priority time (content.control (label_parts label) name value) }
 {
     let t = base_numbers::float_bits(time);
     let p = flag_of(priority);
@@ -104,7 +104,7 @@ pub fn control_line(priority: bool, time: f32, label: Label, name: u16, value: f
 
 // An instr line with a label, or one without, from its keypad numbers.
 fn labelled_instr(t: u32, p: u32, l: u32, name: u32, d: u32, k: ValueBits) -> LineRead
-    ensures { result ≡ lineInWords (instrNumbers t p (some l) name d k) 0 }
+    ensures { result ≡ line_in_words (instr_numbers t p (some l) name d k) 0 }
 {
     let v = k.bits;
     let words = [
@@ -131,7 +131,7 @@ fn labelled_instr(t: u32, p: u32, l: u32, name: u32, d: u32, k: ValueBits) -> Li
 }
 
 fn unlabelled_instr(t: u32, p: u32, name: u32, d: u32, k: ValueBits) -> LineRead
-    ensures { result ≡ lineInWords (instrNumbers t p none name d k) 0 }
+    ensures { result ≡ line_in_words (instr_numbers t p none name d k) 0 }
 {
     let v = k.bits;
     let words = [
@@ -164,7 +164,7 @@ pub fn instr_line(
     duration: f32,
     k: ValueBits,
 ) -> LineRead
-    ensures { result ≡ lineInWords (instrWords priority time (labelParts label) name duration k) 0 }
+    ensures { result ≡ line_in_words (instr_words priority time (label_parts label) name duration k) 0 }
 {
     let t = base_numbers::float_bits(time);
     let p = flag_of(priority);

@@ -8,15 +8,15 @@ use lib.ListN.{length}
 use Rattle.base_answer.specs.Numbers.{is_taken}
 use Rattle.base_answer.specs.declared.Answer.TheVariants.{Taken, NoRoom}
 use Rattle.score_line.specs.declared.Line.{Line}
-use Rattle.score_line.specs.LineFormat.{slotWords}
-use Rattle.score_line_writer.specs.Writing.{lineSlot}
-use Rattle.score_decoder.specs.Area.{areaWords, laid, DecodesTo}
+use Rattle.score_line.specs.LineFormat.{slot_words}
+use Rattle.score_line_writer.specs.Writing.{line_slot}
+use Rattle.score_decoder.specs.Area.{area_words, laid, DecodesTo}
 use Rattle.score_decoder.specs.inside.Area.{SlotPut}
 use Rattle.score_decoder.proofs.Filling.{passed, Filling, filling-start, filling-more, filling-end}
 use Rattle.score_decoder.proofs.Slots.{taken_is, left-refused, left-short, left-taken}
 use Rattle.text_format.specs.inside.Reading.{text_of}
 use Rattle.text_event_reader.specs.declared.TextLineRead.{TextLineRead}
-use Rattle.text_reader.specs.Texts.{textTold, line_at, walked}
+use Rattle.text_reader.specs.Texts.{text_told, line_at, walked}
 use Rattle.text_reader.specs.declared.TextRead.{TextRead}
 use Rattle.text_reader.proofs.Walk.{walk-all}
 
@@ -34,36 +34,36 @@ module _ (s : List ℕ) (n : ℕ) (old : List ℕ) where
   pub fill_start : Filled old 0 0
   fill_start = filling-start (λ x. (line_at s x).read.line) (λ x. (line_at s x).next) n 0 old
 
-  pub fill_more : (new next slot : List ℕ) (at i : ℕ) {l : TextLineRead} → Filled new at i → i < n → l ≡ line_at s at → slot ≡ lineSlot l.read.line → length next ≡ length new → SlotPut new (slotWords * i) slot next
+  pub fill_more : (new next slot : List ℕ) (at i : ℕ) {l : TextLineRead} → Filled new at i → i < n → l ≡ line_at s at → slot ≡ line_slot l.read.line → length next ≡ length new → SlotPut new (slot_words * i) slot next
       → Filled next l.next (i + 1)
   fill_more new next slot at i f h e g k p =
-      filling-more (λ x. (line_at s x).read.line) (λ x. (line_at s x).next) n 0 old new next slot at i f h (ap (λ (x : TextLineRead). x.next) e) (g ∙ ap (λ (x : TextLineRead). lineSlot x.read.line) e) k p
+      filling-more (λ x. (line_at s x).read.line) (λ x. (line_at s x).next) n 0 old new next slot at i f h (ap (λ (x : TextLineRead). x.next) e) (g ∙ ap (λ (x : TextLineRead). line_slot x.read.line) e) k p
 
-  pub fill_end : (new : List ℕ) (at i : ℕ) → Filled new at i → n ≤ i → new ≡ laid (areaWords (walked s n 0)) old
+  pub fill_end : (new : List ℕ) (at i : ℕ) → Filled new at i → n ≤ i → new ≡ laid (area_words (walked s n 0)) old
   fill_end new at i f h =
-      filling-end (λ x. (line_at s x).read.line) (λ x. (line_at s x).next) n 0 old new at i f h ∙ ap (λ (ls : List Line). laid (areaWords ls) old) (walked-passes s n 0)
+      filling-end (λ x. (line_at s x).read.line) (λ x. (line_at s x).next) n 0 old new at i f h ∙ ap (λ (ls : List Line). laid (area_words ls) old) (walked-passes s n 0)
 
 -- ---- the answers
 
-module _ (s old : List ℕ) {r : TextRead} {b : Bool} (e : r ≡ textTold (text_of s)) (f : b ≡ is_taken r.answer) where
+module _ (s old : List ℕ) {r : TextRead} {b : Bool} (e : r ≡ text_told (text_of s)) (f : b ≡ is_taken r.answer) where
   answer-is : is_taken (text_of s).answer ≡ b
-  unfolding textTold
+  unfolding text_told
   answer-is = sym (f ∙ ap (λ (x : TextRead). is_taken x.answer) e)
 
   lines_are : length (text_of s).lines ≡ r.count
-  unfolding textTold
+  unfolding text_told
   lines_are = sym (ap (λ (x : TextRead). x.count) e)
 
   pub text-refused : b ≡ false → DecodesTo (text_of s) old old (record { answer = r.answer; line = r.line; count = 0 })
-  unfolding textTold
+  unfolding text_told
   text-refused g = subst (λ (x : TextRead). DecodesTo (text_of s) old old (record { answer = x.answer; line = x.line; count = 0 })) (sym e) (left-refused (text_of s) old (answer-is ∙ g))
 
   module _ (g : b ≡ true) where
-    pub text-short : length old / slotWords < r.count → DecodesTo (text_of s) old old (record { answer = NoRoom; line = 0; count = 0 })
+    pub text-short : length old / slot_words < r.count → DecodesTo (text_of s) old old (record { answer = NoRoom; line = 0; count = 0 })
     text-short h = left-short (text_of s) old (answer-is ∙ g) (omega (arith, lines_are))
 
-    pub text-taken : (new : List ℕ) → r.count ≤ length old / slotWords → new ≡ laid (areaWords (walked s r.count 0)) old → DecodesTo (text_of s) old new (record { answer = Taken; line = 0; count = r.count })
+    pub text-taken : (new : List ℕ) → r.count ≤ length old / slot_words → new ≡ laid (area_words (walked s r.count 0)) old → DecodesTo (text_of s) old new (record { answer = Taken; line = 0; count = r.count })
     text-taken new h n =
         subst (λ (j : ℕ). DecodesTo (text_of s) old new (record { answer = Taken; line = 0; count = j })) lines_are
         (left-taken (text_of s) old new (answer-is ∙ g) (omega (arith, lines_are))
-        (n ∙ ap (λ (ls : List Line). laid (areaWords ls) old) (ap (λ (j : ℕ). walked s j 0) (sym lines_are) ∙ walk-all s (taken_is (text_of s).answer (answer-is ∙ g)))))
+        (n ∙ ap (λ (ls : List Line). laid (area_words ls) old) (ap (λ (j : ℕ). walked s j 0) (sym lines_are) ∙ walk-all s (taken_is (text_of s).answer (answer-is ∙ g)))))

@@ -1,7 +1,7 @@
 // Texts decoded into a lent area of words, as scores are.
 ghost use Rattle.std.specs.Prelude.{◌≡◌, ◌*◌, ◌≤◌, length};
-ghost use Rattle.score_line.specs.LineFormat.{slotWords};
-ghost use Rattle.score_decoder.specs.Area.{areaWords, laid, DecodesTo};
+ghost use Rattle.score_line.specs.LineFormat.{slot_words};
+ghost use Rattle.score_decoder.specs.Area.{area_words, laid, DecodesTo};
 ghost use Rattle.text_format.specs.inside.Reading.{text_of};
 ghost use Rattle.text_reader.specs.Texts.{walked};
 
@@ -11,8 +11,8 @@ use score_line::SLOT;
 
 // Puts the first n lines of a text into the area, from its start on.
 fn fill(bytes: &[u8], area: &mut [u32], n: usize)
-    requires { slotWords * n ≤ length area.old }
-    ensures { area.new ≡ laid (areaWords (walked bytes.now n 0)) area.old }
+    requires { slot_words * n ≤ length area.old }
+    ensures { area.new ≡ laid (area_words (walked bytes.now n 0)) area.old }
 {
     let mut at: usize = 0;
     let mut i: usize = 0;

@@ -8,7 +8,7 @@ use borrow.Author.Tests.{eq-eqb, ne_eqb}
 use lib.ListN.{length, get_or, drop, length-drop}
 use lib.Ieee.{Float}
 use Rattle.base_laws.proofs.Choice.{cond-true, cond-false}
-use Rattle.text_numerals.specs.inside.Reading.{Read, got, refused, starts_with, rest, numberFrom, nameFrom}
+use Rattle.text_numerals.specs.inside.Reading.{Read, got, refused, starts_with, rest, number_from, name_from}
 use Rattle.text_number_reader.specs.Results.{NumberAt, NameAt, Starts}
 use Rattle.text_number_reader.specs.declared.NumberRead.{NumberRead}
 use Rattle.text_number_reader.specs.declared.NumberRead.TheVariants as number
@@ -16,8 +16,8 @@ use Rattle.text_number_reader.specs.declared.NameRead.{NameRead}
 use Rattle.text_number_reader.specs.declared.NameRead.TheVariants as name
 use Rattle.text_number_reader.proofs.Readers.{behind, number-as, number-no, name-as, name-no}
 use Rattle.text_number_reader.proofs.Bytes.{here, past, rest-drop}
-use Rattle.text_format.specs.inside.Reading.{pastSpaces, gapFrom, colonFrom, wordFrom, nextName, nextNumber}
-use Rattle.text_elements.specs.Passing.{passedIs, passedTold, PassedAt, SpacesPast, wordTold, WordAt, EveryPassedAnswer}
+use Rattle.text_format.specs.inside.Reading.{past_spaces, gap_from, colon_from, word_from, next_name, next_number}
+use Rattle.text_elements.specs.Passing.{passed_is, passed_told, PassedAt, SpacesPast, word_told, WordAt, EveryPassedAnswer}
 use Rattle.text_elements.specs.declared.Passed.{Passed}
 use Rattle.text_elements.specs.declared.Passed.TheVariants as passed
 
@@ -25,15 +25,15 @@ use Rattle.text_elements.specs.declared.Passed.TheVariants as passed
 
 module _ (s : List ℕ) where
   passed-of : (p : ℕ) {x : Read (Unit {0})} → p ≤ length s → got tt (drop p s) ≡ x → PassedAt s x (passed.At p)
-  unfolding passedTold
-  passed-of p h e = record { told = ap passed.At (behind s p h) ∙ ap (passedTold s) e; is = e }
+  unfolding passed_told
+  passed-of p h e = record { told = ap passed.At (behind s p h) ∙ ap (passed_told s) e; is = e }
 
   passed_none : {x : Read (Unit {0})} → refused ≡ x → PassedAt s x passed.Refused
-  unfolding passedTold
-  passed_none e = record { told = ap (passedTold s) e; is = e }
+  unfolding passed_told
+  passed_none e = record { told = ap (passed_told s) e; is = e }
 
 pub every-passed-answer : EveryPassedAnswer
-unfolding passedTold
+unfolding passed_told
 every-passed-answer s (got u after) = refl
 every-passed-answer s refused = refl
 
@@ -42,7 +42,7 @@ every-passed-answer s refused = refl
 module _ (s : List ℕ) (at : ℕ) where
   -- the spaces from i on are the last of them
   pub record Spaces (i : ℕ) : Type 0 where
-    pub same : pastSpaces (drop i s) ≡ pastSpaces (drop at s)
+    pub same : past_spaces (drop i s) ≡ past_spaces (drop at s)
     pub upto : at ≤ length s → i ≤ length s
 
   pub spaces-start : Spaces at
@@ -51,43 +51,43 @@ module _ (s : List ℕ) (at : ℕ) where
   module _ (i : ℕ) (g : Spaces i) where
     module _ (h : i < length s) where
       pub spaces-stop : (get_or s i 0 ≡ 32 → ⊥) → SpacesPast s at i
-      unfolding pastSpaces
+      unfolding past_spaces
       spaces-stop n = record {
-        is = here s i h ∙ sym (cond-false _ _ (ne_eqb (get_or s i 0) 32 n)) ∙ ap pastSpaces (sym (here s i h)) ∙ g.same;
+        is = here s i h ∙ sym (cond-false _ _ (ne_eqb (get_or s i 0) 32 n)) ∙ ap past_spaces (sym (here s i h)) ∙ g.same;
         within = λ k. omega arith;
       }
 
       pub spaces-on : get_or s i 0 ≡ 32 → Spaces (i + 1)
-      unfolding pastSpaces
-      spaces-on n = record { same = sym (cond-true _ _ (eq-eqb (get_or s i 0) 32 n)) ∙ ap pastSpaces (sym (here s i h)) ∙ g.same; upto = λ k. omega arith }
+      unfolding past_spaces
+      spaces-on n = record { same = sym (cond-true _ _ (eq-eqb (get_or s i 0) 32 n)) ∙ ap past_spaces (sym (here s i h)) ∙ g.same; upto = λ k. omega arith }
 
     pub spaces-end : length s ≤ i → SpacesPast s at i
-    unfolding pastSpaces
-    spaces-end h = record { is = past s i h ∙ ap pastSpaces (sym (past s i h)) ∙ g.same; within = g.upto }
+    unfolding past_spaces
+    spaces-end h = record { is = past s i h ∙ ap past_spaces (sym (past s i h)) ∙ g.same; within = g.upto }
 
 -- ---- a gap, a colon
 
 module _ (s : List ℕ) (at : ℕ) {t : Bool} (g : Starts s at 32 t) where
-  pub gap_is : t ≡ true → (p : ℕ) → SpacesPast s at p → PassedAt s (gapFrom (drop at s)) (passed.At p)
-  unfolding gapFrom
+  pub gap_is : t ≡ true → (p : ℕ) → SpacesPast s at p → PassedAt s (gap_from (drop at s)) (passed.At p)
+  unfolding gap_from
   gap_is y p e = passed-of s p (e.within (let h = g.within y in omega arith)) (ap (got tt) e.is ∙ sym (cond-true _ _ (sym g.is ∙ y)))
 
-  pub gap-no : t ≡ false → PassedAt s (gapFrom (drop at s)) passed.Refused
-  unfolding gapFrom
+  pub gap-no : t ≡ false → PassedAt s (gap_from (drop at s)) passed.Refused
+  unfolding gap_from
   gap-no y = passed_none s (sym (cond-false _ _ (sym g.is ∙ y)))
 
 module _ (s : List ℕ) (at : ℕ) {p : ℕ} (e : SpacesPast s at p) {t : Bool} (g : Starts s p 58 t) where
-  colon-there : starts_with 58 (pastSpaces (drop at s)) ≡ t
+  colon-there : starts_with 58 (past_spaces (drop at s)) ≡ t
   colon-there = ap (starts_with 58) (sym e.is) ∙ sym g.is
 
-  pub colon-is : t ≡ true → (q : ℕ) → SpacesPast s (p + 1) q → PassedAt s (colonFrom (drop at s)) (passed.At q)
-  unfolding colonFrom
+  pub colon-is : t ≡ true → (q : ℕ) → SpacesPast s (p + 1) q → PassedAt s (colon_from (drop at s)) (passed.At q)
+  unfolding colon_from
   colon-is y q f =
       passed-of s q (f.within (let h = g.within y in omega arith))
-      (ap (got tt) (f.is ∙ ap pastSpaces (sym (ap rest (sym e.is) ∙ rest-drop s p))) ∙ sym (cond-true _ _ (colon-there ∙ y)))
+      (ap (got tt) (f.is ∙ ap past_spaces (sym (ap rest (sym e.is) ∙ rest-drop s p))) ∙ sym (cond-true _ _ (colon-there ∙ y)))
 
-  pub colon-no : t ≡ false → PassedAt s (colonFrom (drop at s)) passed.Refused
-  unfolding colonFrom
+  pub colon-no : t ≡ false → PassedAt s (colon_from (drop at s)) passed.Refused
+  unfolding colon_from
   colon-no y = passed_none s (sym (cond-false _ _ (colon-there ∙ y)))
 
 -- ---- a word
@@ -96,66 +96,66 @@ module _ (s : List ℕ) (at : ℕ) (word : List ℕ) where
   pub record Matching (p i : ℕ) : Type 0 where
     pub upto : i ≤ length word
     pub on : p ≡ at + i
-    pub same : wordFrom (drop i word) (drop p s) ≡ wordFrom word (drop at s)
+    pub same : word_from (drop i word) (drop p s) ≡ word_from word (drop at s)
 
   pub word-starts : Matching at 0
   word-starts = record { upto = omega arith; on = omega arith; same = refl }
 
   module _ (p i : ℕ) (m : Matching p i) (h : i < length word) {t : Bool} (g : Starts s p (get_or word i 0) t) where
     pub word_on : t ≡ true → Matching (p + 1) (i + 1)
-    unfolding wordFrom starts_with
+    unfolding word_from starts_with
     word_on y =
         let k = g.within y in
         record {
           upto = omega arith;
           on = omega (arith, m.on);
           same =
-              sym (cond-true _ _ (ap (starts_with (get_or word i 0)) (sym (here s p k)) ∙ sym g.is ∙ y)) ∙ ap₂ wordFrom (sym (here word i h)) (sym (here s p k)) ∙ m.same;
+              sym (cond-true _ _ (ap (starts_with (get_or word i 0)) (sym (here s p k)) ∙ sym g.is ∙ y)) ∙ ap₂ word_from (sym (here word i h)) (sym (here s p k)) ∙ m.same;
         }
 
-    word-differs : t ≡ false → refused ≡ wordFrom word (drop at s)
-    unfolding wordFrom starts_with
-    word-differs y = sym (at_first (drop p s) (sym g.is ∙ y)) ∙ ap (λ (w : List ℕ). wordFrom w (drop p s)) (sym (here word i h)) ∙ m.same
+    word-differs : t ≡ false → refused ≡ word_from word (drop at s)
+    unfolding word_from starts_with
+    word-differs y = sym (at_first (drop p s) (sym g.is ∙ y)) ∙ ap (λ (w : List ℕ). word_from w (drop p s)) (sym (here word i h)) ∙ m.same
       where
-        at_first : (bs : List ℕ) → starts_with (get_or word i 0) bs ≡ false → wordFrom (get_or word i 0 ∷ drop (i + 1) word) bs ≡ refused
+        at_first : (bs : List ℕ) → starts_with (get_or word i 0) bs ≡ false → word_from (get_or word i 0 ∷ drop (i + 1) word) bs ≡ refused
         at_first [] e = refl
         at_first (b ∷ bs) e = cond-false _ _ e
 
-    pub word-no : t ≡ false → WordAt s (at + length word) (wordFrom word (drop at s)) passed.Refused
-    unfolding wordTold
-    word-no y = record { told = ap (wordTold (at + length word)) (word-differs y); is = word-differs y }
+    pub word-no : t ≡ false → WordAt s (at + length word) (word_from word (drop at s)) passed.Refused
+    unfolding word_told
+    word-no y = record { told = ap (word_told (at + length word)) (word-differs y); is = word-differs y }
 
-  word-matches : (p i : ℕ) → Matching p i → length word ≤ i → got tt (drop p s) ≡ wordFrom word (drop at s)
-  unfolding wordFrom
-  word-matches p i m h = ap (λ (w : List ℕ). wordFrom w (drop p s)) (sym (past word i h)) ∙ m.same
+  word-matches : (p i : ℕ) → Matching p i → length word ≤ i → got tt (drop p s) ≡ word_from word (drop at s)
+  unfolding word_from
+  word-matches p i m h = ap (λ (w : List ℕ). word_from w (drop p s)) (sym (past word i h)) ∙ m.same
 
-  pub word-is : (p i : ℕ) → Matching p i → length word ≤ i → WordAt s (at + length word) (wordFrom word (drop at s)) (passed.At p)
-  unfolding wordTold
+  pub word-is : (p i : ℕ) → Matching p i → length word ≤ i → WordAt s (at + length word) (word_from word (drop at s)) (passed.At p)
+  unfolding word_told
   word-is p i m h =
       let e : p ≡ at + length word = omega (arith, m.on, m.upto) in
-      record { told = ap passed.At e ∙ ap (wordTold (at + length word)) (word-matches p i m h); is = word-matches p i m h }
+      record { told = ap passed.At e ∙ ap (word_told (at + length word)) (word-matches p i m h); is = word-matches p i m h }
 
 -- ---- behind a gap
 
-pub passed-at : (s : List ℕ) {x : Read (Unit {0})} {r : Passed} {p : ℕ} → passedIs s r ≡ x → r ≡ passed.At p → x ≡ got tt (drop p s)
-passed-at s e f = sym e ∙ ap (passedIs s) f
+pub passed-at : (s : List ℕ) {x : Read (Unit {0})} {r : Passed} {p : ℕ} → passed_is s r ≡ x → r ≡ passed.At p → x ≡ got tt (drop p s)
+passed-at s e f = sym e ∙ ap (passed_is s) f
 
-pub passed-no : (s : List ℕ) {x : Read (Unit {0})} {r : Passed} → passedIs s r ≡ x → r ≡ passed.Refused → x ≡ refused
-passed-no s e f = sym e ∙ ap (passedIs s) f
+pub passed-no : (s : List ℕ) {x : Read (Unit {0})} {r : Passed} → passed_is s r ≡ x → r ≡ passed.Refused → x ≡ refused
+passed-no s e f = sym e ∙ ap (passed_is s) f
 
-module _ (s : List ℕ) (at : ℕ) {r : Passed} (e : passedIs s r ≡ gapFrom (drop at s)) where
-  pub name-next : {p : ℕ} {x : NameRead} → r ≡ passed.At p → NameAt s (nameFrom (drop p s)) x → NameAt s (nextName (drop at s)) x
-  unfolding nextName
+module _ (s : List ℕ) (at : ℕ) {r : Passed} (e : passed_is s r ≡ gap_from (drop at s)) where
+  pub name-next : {p : ℕ} {x : NameRead} → r ≡ passed.At p → NameAt s (name_from (drop p s)) x → NameAt s (next_name (drop at s)) x
+  unfolding next_name
   name-next f = name-as s (sym (rw (passed-at s e f)))
 
-  pub name-none : r ≡ passed.Refused → NameAt s (nextName (drop at s)) name.Refused
-  unfolding nextName
+  pub name-none : r ≡ passed.Refused → NameAt s (next_name (drop at s)) name.Refused
+  unfolding next_name
   name-none f = name-no s (sym (rw (passed-no s e f)))
 
-  pub number-next : {p : ℕ} {x : NumberRead} → r ≡ passed.At p → NumberAt s (numberFrom (drop p s)) x → NumberAt s (nextNumber (drop at s)) x
-  unfolding nextNumber
+  pub number-next : {p : ℕ} {x : NumberRead} → r ≡ passed.At p → NumberAt s (number_from (drop p s)) x → NumberAt s (next_number (drop at s)) x
+  unfolding next_number
   number-next f = number-as s (sym (rw (passed-at s e f)))
 
-  pub number-none : r ≡ passed.Refused → NumberAt s (nextNumber (drop at s)) number.Refused
-  unfolding nextNumber
+  pub number-none : r ≡ passed.Refused → NumberAt s (next_number (drop at s)) number.Refused
+  unfolding next_number
   number-none f = number-no s (sym (rw (passed-no s e f)))

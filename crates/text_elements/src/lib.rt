@@ -1,6 +1,6 @@
 // The elements of a line of text, read at any position among bytes: spaces, the colon, words, names and numbers behind a gap.
 ghost use Rattle.std.specs.Prelude.{◌≡◌, ◌+◌, length, drop};
-ghost use Rattle.text_format.specs.inside.Reading.{gapFrom, colonFrom, wordFrom, nextName, nextNumber};
+ghost use Rattle.text_format.specs.inside.Reading.{gap_from, colon_from, word_from, next_name, next_number};
 ghost use Rattle.text_number_reader.specs.Results.{NumberAt, NameAt};
 ghost use Rattle.text_elements.specs.Passing.{SpacesPast, PassedAt, WordAt};
 
@@ -32,7 +32,7 @@ fn past_spaces(s: &[u8], at: usize) -> usize
 
 // One space or more.
 pub fn gap_at(s: &[u8], at: usize) -> Passed
-    ensures { PassedAt s.now (gapFrom (drop at s.now)) result }
+    ensures { PassedAt s.now (gap_from (drop at s.now)) result }
 {
     if text_number_reader::starts_with(s, at, SPACE) {
         return Passed::At(past_spaces(s, at));
@@ -42,7 +42,7 @@ pub fn gap_at(s: &[u8], at: usize) -> Passed
 
 // A colon, spaces round it optional.
 pub fn colon_at(s: &[u8], at: usize) -> Passed
-    ensures { PassedAt s.now (colonFrom (drop at s.now)) result }
+    ensures { PassedAt s.now (colon_from (drop at s.now)) result }
 {
     let p = past_spaces(s, at);
     if text_number_reader::starts_with(s, p, COLON) {
@@ -52,7 +52,7 @@ pub fn colon_at(s: &[u8], at: usize) -> Passed
 }
 
 pub fn word_at(s: &[u8], at: usize, word: &[u8]) -> Passed
-    ensures { WordAt s.now (at + length word.now) (wordFrom word.now (drop at s.now)) result }
+    ensures { WordAt s.now (at + length word.now) (word_from word.now (drop at s.now)) result }
 {
     let mut p = at;
     let mut i: usize = 0;
@@ -68,7 +68,7 @@ pub fn word_at(s: &[u8], at: usize, word: &[u8]) -> Passed
 }
 
 pub fn next_name(s: &[u8], at: usize) -> NameRead
-    ensures { NameAt s.now (nextName (drop at s.now)) result }
+    ensures { NameAt s.now (next_name (drop at s.now)) result }
 {
     match gap_at(s, at) {
         Passed::At(p) => text_number_reader::name_at(s, p),
@@ -77,7 +77,7 @@ pub fn next_name(s: &[u8], at: usize) -> NameRead
 }
 
 pub fn next_number(s: &[u8], at: usize) -> NumberRead
-    ensures { NumberAt s.now (nextNumber (drop at s.now)) result }
+    ensures { NumberAt s.now (next_number (drop at s.now)) result }
 {
     match gap_at(s, at) {
         Passed::At(p) => text_number_reader::number_at(s, p),

@@ -8,8 +8,8 @@ use lib.Seq.{drop_at}
 use lib.Ieee.{Float}
 use Rattle.text_numerals.specs.inside.Reading.{Read, got, refused}
 use Rattle.text_format.specs.Content.{Content}
-use Rattle.text_format.specs.Form.{spaces, behindBytes, behindNumber, lineBytes}
-use Rattle.text_format.specs.inside.Reading.{nextNumber, lineFrom}
+use Rattle.text_format.specs.Form.{spaces, behind_bytes, behind_number, line_bytes}
+use Rattle.text_format.specs.inside.Reading.{next_number, line_from}
 use Rattle.text_format.proofs.Elements.{next-number-sound}
 use Rattle.text_format.proofs.Lines.{line-sound}
 
@@ -35,16 +35,16 @@ passed n bs bytes after e h =
           (ap (drop (length bytes)) e ∙ drop_at bytes after (length bytes) refl);
     }
 
-pub next-number-leaves : (bs : List ℕ) → Leaves 1 bs (nextNumber bs)
-next-number-leaves bs = go (nextNumber bs) refl
+pub next-number-leaves : (bs : List ℕ) → Leaves 1 bs (next_number bs)
+next-number-leaves bs = go (next_number bs) refl
   where
-    go : (x : Read Float) → nextNumber bs ≡ x → Leaves 1 bs x
-    go (got v after) e = let f = next-number-sound bs v after e in unfold behindBytes spaces in passed 1 bs (behindNumber f.one) after f.encodes (omega arith)
+    go : (x : Read Float) → next_number bs ≡ x → Leaves 1 bs x
+    go (got v after) e = let f = next-number-sound bs v after e in unfold behind_bytes spaces in passed 1 bs (behind_number f.one) after f.encodes (omega arith)
     go refused e = tt
 
-pub line-leaves : (bs : List ℕ) → Leaves 1 bs (lineFrom bs)
-line-leaves bs = go (lineFrom bs) refl
+pub line-leaves : (bs : List ℕ) → Leaves 1 bs (line_from bs)
+line-leaves bs = go (line_from bs) refl
   where
-    go : (x : Read Content) → lineFrom bs ≡ x → Leaves 1 bs x
-    go (got s after) e = let f = line-sound bs s after e in unfold lineBytes in passed 1 bs (lineBytes f.one) after f.encodes (simp length-append (omega arith))
+    go : (x : Read Content) → line_from bs ≡ x → Leaves 1 bs x
+    go (got s after) e = let f = line-sound bs s after e in unfold line_bytes in passed 1 bs (line_bytes f.one) after f.encodes (simp length-append (omega arith))
     go refused e = tt

@@ -9,38 +9,38 @@ use lib.Seq.{append_snoc}
 use lib.Ieee.{Float}
 use Rattle.base_laws.proofs.Choice.{cond-false}
 use Rattle.text_numerals.specs.inside.Reading.{Read, got, refused, and_then, starts_with, rest}
-use Rattle.text_number_reader.specs.Results.{Starts, numberIs}
+use Rattle.text_number_reader.specs.Results.{Starts, number_is}
 use Rattle.text_number_reader.specs.declared.NumberRead.{NumberRead}
 use Rattle.text_number_reader.specs.declared.NumberRead.TheVariants as number
 use Rattle.text_number_reader.proofs.Bytes.{rest-drop}
-use Rattle.text_format.specs.inside.Reading.{nextNumber, valuesFrom}
-use Rattle.text_content.specs.Judged.{eight, keptOf, withValue}
+use Rattle.text_format.specs.inside.Reading.{next_number, values_from}
+use Rattle.text_content.specs.Judged.{eight, kept_of, with_value}
 use Rattle.text_content.specs.declared.ValueBits.{ValueBits}
 use Rattle.text_content.proofs.Keeping.{kept_more}
-use Rattle.text_event_reader.specs.Results.{position, noValues, valuesTold}
+use Rattle.text_event_reader.specs.Results.{position, no_values, values_told}
 use Rattle.text_event_reader.specs.declared.Values.{Values}
 use Rattle.text_event_reader.proofs.Leaves.{next-number-leaves}
 
 -- ---- what a call gave
 
-pub number_of : (s : List ℕ) {x : Read Float} {r : NumberRead} {v : Float} {p : ℕ} → numberIs s r ≡ x → r ≡ number.Of v p → x ≡ got v (drop p s)
-number_of s e f = sym e ∙ ap (numberIs s) f
+pub number_of : (s : List ℕ) {x : Read Float} {r : NumberRead} {v : Float} {p : ℕ} → number_is s r ≡ x → r ≡ number.Of v p → x ≡ got v (drop p s)
+number_of s e f = sym e ∙ ap (number_is s) f
 
-pub number-no : (s : List ℕ) {x : Read Float} {r : NumberRead} → numberIs s r ≡ x → r ≡ number.Refused → x ≡ refused
-number-no s e f = sym e ∙ ap (numberIs s) f
+pub number-no : (s : List ℕ) {x : Read Float} {r : NumberRead} → number_is s r ≡ x → r ≡ number.Refused → x ≡ refused
+number-no s e f = sym e ∙ ap (number_is s) f
 
 -- the position past a byte that is there
 pub next-position : (s : List ℕ) (p : ℕ) → p < length s → p + 1 ≡ position s (rest (drop p s))
 next-position s p h = let e : p + 1 ≡ length s - length (drop (p + 1) s) = omega (arith, length-drop (p + 1) s) in cc (rest-drop s p)
 
 -- a number leaves fewer bytes
-pub fewer-left : (s : List ℕ) (p q : ℕ) {r : NumberRead} {x : Float} → numberIs s r ≡ nextNumber (drop p s) → r ≡ number.Of x q → length (drop q s) < length (drop p s)
+pub fewer-left : (s : List ℕ) (p q : ℕ) {r : NumberRead} {x : Float} → number_is s r ≡ next_number (drop p s) → r ≡ number.Of x q → length (drop q s) < length (drop p s)
 fewer-left s p q {x = x} e f =
     let n = number_of s e f in
     let b = rw n at (next-number-leaves (drop p s)) in
     omega (arith, b.some_of, b.within, ap length b.is, length-drop b.passed (drop p s))
 
-pub falls : (s : List ℕ) (p q : ℕ) {r : NumberRead} {x : Float} → numberIs s r ≡ nextNumber (drop p s) → r ≡ number.Of x q → length s - q < length s - p
+pub falls : (s : List ℕ) (p q : ℕ) {r : NumberRead} {x : Float} → number_is s r ≡ next_number (drop p s) → r ≡ number.Of x q → length s - q < length s - p
 falls s p q e f = omega (arith, fewer-left s p q e f, length-drop p s, length-drop q s)
 
 -- ---- the loop
@@ -57,11 +57,11 @@ module _ (s : List ℕ) (at : ℕ) where
   -- the values so far, and that the bytes from p on give the others
   pub record Gathering (k : ValueBits) (p : ℕ) : Type 0 where
     pub done : List Float
-    pub kept : k ≡ keptOf done
+    pub kept : k ≡ kept_of done
     pub room : length (drop p s) + length done ≤ length (drop at s)
-    pub same : onward done (valuesFrom (length (drop at s) - length done) (drop p s)) ≡ valuesFrom (length (drop at s)) (drop at s)
+    pub same : onward done (values_from (length (drop at s) - length done) (drop p s)) ≡ values_from (length (drop at s)) (drop at s)
 
-  pub starts : {k : ValueBits} → k ≡ keptOf [] → Gathering k at
+  pub starts : {k : ValueBits} → k ≡ kept_of [] → Gathering k at
   starts e =
       record {
         done = [];
@@ -69,7 +69,7 @@ module _ (s : List ℕ) (at : ℕ) where
         room = omega arith;
         same =
             let n : length (drop at s) - 0 ≡ length (drop at s) = omega arith in
-            whole (valuesFrom (length (drop at s) - 0) (drop at s)) ∙ ap (λ (j : ℕ). valuesFrom j (drop at s)) n;
+            whole (values_from (length (drop at s) - 0) (drop at s)) ∙ ap (λ (j : ℕ). values_from j (drop at s)) n;
       }
     where
       whole : (x : Read (List Float)) → onward [] x ≡ x
@@ -77,17 +77,17 @@ module _ (s : List ℕ) (at : ℕ) where
       whole refused = refl
 
   module _ (k : ValueBits) (p : ℕ) (g : Gathering k p) {t : Bool} (n : Starts s p 10 t) where
-    pub ends : t ≡ true → record { stand = true; kept = k; next = p + 1 } ≡ valuesTold s (valuesFrom (length (drop at s)) (drop at s))
-    unfolding valuesTold valuesFrom
+    pub ends : t ≡ true → record { stand = true; kept = k; next = p + 1 } ≡ values_told s (values_from (length (drop at s)) (drop at s))
+    unfolding values_told values_from
     ends y =
         let h = no_more (drop p s) (sym n.is ∙ y) in
         let m : length (drop at s) - length g.done ≡ suc (length (drop at s) - length g.done - 1) = omega (arith, g.room) in
-        let v : valuesFrom (length (drop at s)) (drop at s) ≡ got g.done (rest (drop p s)) = cc (g.same, sym n.is ∙ y, append-nil g.done) in
-        (λ i. record { stand = true; kept = g.kept i; next = next-position s p (n.within y) i }) ∙ ap (valuesTold s) (sym v)
+        let v : values_from (length (drop at s)) (drop at s) ≡ got g.done (rest (drop p s)) = cc (g.same, sym n.is ∙ y, append-nil g.done) in
+        (λ i. record { stand = true; kept = g.kept i; next = next-position s p (n.within y) i }) ∙ ap (values_told s) (sym v)
 
-    module _ (y : t ≡ false) {r : NumberRead} (e : numberIs s r ≡ nextNumber (drop p s)) where
-      pub again : (x : Float) (q : ℕ) → r ≡ number.Of x q → {l : ValueBits} → l ≡ withValue k x → Gathering l q
-      unfolding valuesFrom
+    module _ (y : t ≡ false) {r : NumberRead} (e : number_is s r ≡ next_number (drop p s)) where
+      pub again : (x : Float) (q : ℕ) → r ≡ number.Of x q → {l : ValueBits} → l ≡ with_value k x → Gathering l q
+      unfolding values_from
       again x q f w =
           let bs = drop at s in
           let d = g.done in
@@ -97,29 +97,29 @@ module _ (s : List ℕ) (at : ℕ) where
           let left = length bs - length (d ++ (x ∷ [])) in
           record {
             done = d ++ (x ∷ []);
-            kept = w ∙ ap (λ (j : ValueBits). withValue j x) g.kept ∙ kept_more d x;
+            kept = w ∙ ap (λ (j : ValueBits). with_value j x) g.kept ∙ kept_more d x;
             room = omega (arith, g.room);
             same =
-                regroup d x (valuesFrom left (drop q s))
-                ∙ sym (ap (onward d) (cond-false _ _ (sym n.is ∙ y) ∙ ap (λ (z : Read Float). and_then z (λ v r. and_then (valuesFrom left r) (λ xs q. got (v ∷ xs) q)))
+                regroup d x (values_from left (drop q s))
+                ∙ sym (ap (onward d) (cond-false _ _ (sym n.is ∙ y) ∙ ap (λ (z : Read Float). and_then z (λ v r. and_then (values_from left r) (λ xs q. got (v ∷ xs) q)))
                 (number_of s e f)))
-                ∙ ap (λ (j : ℕ). onward d (valuesFrom j (drop p s))) (sym m) ∙ g.same;
+                ∙ ap (λ (j : ℕ). onward d (values_from j (drop p s))) (sym m) ∙ g.same;
           }
         where
           regroup : (d : List Float) (x : Float) (z : Read (List Float)) → onward (d ++ (x ∷ [])) z ≡ onward d (and_then z (λ xs q. got (x ∷ xs) q))
           regroup d x (got vs q) = ap (λ (l : List Float). got l q) (append_snoc d x vs)
           regroup d x refused = refl
 
-      pub stops : r ≡ number.Refused → {v : Values} → v ≡ noValues → v ≡ valuesTold s (valuesFrom (length (drop at s)) (drop at s))
-      unfolding valuesTold valuesFrom
-      stops f w = w ∙ ap (valuesTold s) (sym (go (length (drop at s) - length g.done)) ∙ g.same)
+      pub stops : r ≡ number.Refused → {v : Values} → v ≡ no_values → v ≡ values_told s (values_from (length (drop at s)) (drop at s))
+      unfolding values_told values_from
+      stops f w = w ∙ ap (values_told s) (sym (go (length (drop at s) - length g.done)) ∙ g.same)
         where
-          go : (j : ℕ) → onward g.done (valuesFrom j (drop p s)) ≡ refused
+          go : (j : ℕ) → onward g.done (values_from j (drop p s)) ≡ refused
           go zero = refl
           go (suc j) =
-              ap (onward g.done) (cond-false _ _ (sym n.is ∙ y) ∙ ap (λ (z : Read Float). and_then z (λ x r. and_then (valuesFrom j r) (λ xs q. got (x ∷ xs) q)))
+              ap (onward g.done) (cond-false _ _ (sym n.is ∙ y) ∙ ap (λ (z : Read Float). and_then z (λ x r. and_then (values_from j r) (λ xs q. got (x ∷ xs) q)))
               (number-no s e f))
 
-pub none_kept : record { count = 0; bits = 0 ∷ (0 ∷ (0 ∷ (0 ∷ (0 ∷ (0 ∷ (0 ∷ (0 ∷ []))))))) } ≡ keptOf []
-unfolding keptOf eight
+pub none_kept : record { count = 0; bits = 0 ∷ (0 ∷ (0 ∷ (0 ∷ (0 ∷ (0 ∷ (0 ∷ (0 ∷ []))))))) } ≡ kept_of []
+unfolding kept_of eight
 none_kept = refl

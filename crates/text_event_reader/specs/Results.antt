@@ -3,13 +3,13 @@ use Rattle.std.specs.Prelude.{ℕ, ◌-◌, Bool, true, false, cond, List, [], l
 use Rattle.std.proofs.Math.Option.{Option}
 use Rattle.base_answer.specs.declared.Answer.TheVariants.{BadText}
 use Rattle.text_numerals.specs.inside.Reading.{Read, got, refused, and_then, starts_with, rest}
-use Rattle.score_line.specs.Reading.{lineRead, refusedLine}
+use Rattle.score_line.specs.Reading.{line_read, refused_line}
 use Rattle.score_line.specs.declared.LineRead.{LineRead}
-use Rattle.text_format.specs.Content.{Content, lineContent}
+use Rattle.text_format.specs.Content.{Content, line_content}
 use Rattle.text_format.specs.Content as content
 use Rattle.text_format.specs.Form.{newline}
-use Rattle.text_format.specs.inside.Reading.{ending, nextName, nextNumber, contentAt}
-use Rattle.text_content.specs.Judged.{keptOf}
+use Rattle.text_format.specs.inside.Reading.{ending, next_name, next_number, content_at}
+use Rattle.text_content.specs.Judged.{kept_of}
 use Rattle.text_event_reader.specs.declared.Values.{Values}
 use Rattle.text_event_reader.specs.declared.TextLineRead.{TextLineRead}
 
@@ -19,33 +19,33 @@ position s after = length s - length after
 
 -- ---- values
 
-unfoldable pub noValues : Values
-noValues = record { stand = false; kept = keptOf []; next = 0 }
+unfoldable pub no_values : Values
+no_values = record { stand = false; kept = kept_of []; next = 0 }
 
-unfoldable pub valuesTold : List ℕ → Read (List Float) → Values
-valuesTold s (got vs after) = record { stand = true; kept = keptOf vs; next = position s after }
-valuesTold s refused = noValues
+unfoldable pub values_told : List ℕ → Read (List Float) → Values
+values_told s (got vs after) = record { stand = true; kept = kept_of vs; next = position s after }
+values_told s refused = no_values
 
 -- ---- a line
 
-unfoldable pub noLine : TextLineRead
-noLine = record { stands = false; read = refusedLine BadText; next = 0 }
+unfoldable pub no_line : TextLineRead
+no_line = record { stands = false; read = refused_line BadText; next = 0 }
 
 -- a line that was read, judged by the stick's rules
-unfoldable pub lineTold : List ℕ → Read Content → TextLineRead
-lineTold s (got x after) = record { stands = true; read = lineRead (lineContent x); next = position s after }
-lineTold s refused = noLine
+unfoldable pub line_told : List ℕ → Read Content → TextLineRead
+line_told s (got x after) = record { stands = true; read = line_read (line_content x); next = position s after }
+line_told s refused = no_line
 
 -- a line that has to end here
-unfoldable pub endedAt : List ℕ → LineRead → List ℕ → TextLineRead
-endedAt s read bs = cond (starts_with newline bs) (record { stands = true; read = read; next = position s (rest bs) }) noLine
+unfoldable pub ended_at : List ℕ → LineRead → List ℕ → TextLineRead
+ended_at s read bs = cond (starts_with newline bs) (record { stands = true; read = read; next = position s (rest bs) }) no_line
 
 -- ---- parts of the definition of a line
 
 -- an event with the time before it
-abbrev pub atTime : Bool → Float → Read content.Event → Read Content
-atTime priority t x = and_then x (λ e r. got (contentAt priority t e) r)
+abbrev pub at_time : Bool → Float → Read content.Event → Read Content
+at_time priority t x = and_then x (λ e r. got (content_at priority t e) r)
 
 -- behind `control`
-abbrev pub settingFrom : Option ℕ → List ℕ → Read content.Event
-settingFrom label bs = and_then (nextName bs) (λ name q. and_then (nextNumber q) (λ v p. ending (content.control label name v) p))
+abbrev pub setting_from : Option ℕ → List ℕ → Read content.Event
+setting_from label bs = and_then (next_name bs) (λ name q. and_then (next_number q) (λ v p. ending (content.control label name v) p))

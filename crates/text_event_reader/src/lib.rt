@@ -1,8 +1,8 @@
 // What stands behind the time of a line of text, to the end of the line: its event, and then what the stick's rules make of the line.
 ghost use Rattle.std.specs.Prelude.{◌≡◌, length, drop};
-ghost use Rattle.score_line.specs.LineFormat.{labelParts};
-ghost use Rattle.text_format.specs.inside.Reading.{valuesFrom, instrFrom, controlFrom, tempoFrom, endFrom, namedFrom, eventFrom};
-ghost use Rattle.text_event_reader.specs.Results.{noValues, valuesTold, atTime, noLine, endedAt, lineTold, settingFrom};
+ghost use Rattle.score_line.specs.LineFormat.{label_parts};
+ghost use Rattle.text_format.specs.inside.Reading.{values_from, instr_from, control_from, tempo_from, end_from, named_from, event_from};
+ghost use Rattle.text_event_reader.specs.Results.{no_values, values_told, at_time, no_line, ended_at, line_told, setting_from};
 
 use base_answer::Answer;
 use score_line::{Label, LineRead};
@@ -38,7 +38,7 @@ pub struct TextLineRead {
 // ---- values
 
 fn no_values() -> Values
-    ensures { result ≡ noValues }
+    ensures { result ≡ no_values }
 {
     Values {
         stand: false,
@@ -52,7 +52,7 @@ fn no_values() -> Values
 
 // Numbers to the end of the line.
 fn values_at(s: &[u8], at: usize) -> Values
-    ensures { result ≡ valuesTold s.now (valuesFrom (length (drop at s.now)) (drop at s.now)) }
+    ensures { result ≡ values_told s.now (values_from (length (drop at s.now)) (drop at s.now)) }
 {
     let mut kept = ValueBits {
         count: 0,
@@ -82,7 +82,7 @@ fn values_at(s: &[u8], at: usize) -> Values
 // ---- the events
 
 pub fn no_line() -> TextLineRead
-    ensures { result ≡ noLine }
+    ensures { result ≡ no_line }
 {
     TextLineRead {
         stands: false,
@@ -93,7 +93,7 @@ pub fn no_line() -> TextLineRead
 
 // A line that has to end here.
 fn ended(s: &[u8], at: usize, read: LineRead) -> TextLineRead
-    ensures { result ≡ endedAt s.now read (drop at s.now) }
+    ensures { result ≡ ended_at s.now read (drop at s.now) }
 {
     if text_number_reader::starts_with(s, at, NEWLINE) {
         return TextLineRead {
@@ -114,7 +114,7 @@ pub fn instr_at(
     label: Label,
     name: u16,
 ) -> TextLineRead
-    ensures { result ≡ lineTold s.now (atTime priority time (instrFrom (labelParts label) name (drop at s.now))) }
+    ensures { result ≡ line_told s.now (at_time priority time (instr_from (label_parts label) name (drop at s.now))) }
 {
     let NumberRead::Of(duration, p) = text_elements::next_number(s, at) else {
         return no_line();
@@ -133,7 +133,7 @@ pub fn instr_at(
 
 // Behind `control`: the variable's name and its value.
 fn setting_at(s: &[u8], at: usize, priority: bool, time: f32, label: Label) -> TextLineRead
-    ensures { result ≡ lineTold s.now (atTime priority time (settingFrom (labelParts label) (drop at s.now))) }
+    ensures { result ≡ line_told s.now (at_time priority time (setting_from (label_parts label) (drop at s.now))) }
 {
     let NameRead::Of(name, p) = text_elements::next_name(s, at) else {
         return no_line();
@@ -150,7 +150,7 @@ fn setting_at(s: &[u8], at: usize, priority: bool, time: f32, label: Label) -> T
 
 // From `control` on.
 fn control_at(s: &[u8], at: usize, priority: bool, time: f32, label: Label) -> TextLineRead
-    ensures { result ≡ lineTold s.now (atTime priority time (controlFrom (labelParts label) (drop at s.now))) }
+    ensures { result ≡ line_told s.now (at_time priority time (control_from (label_parts label) (drop at s.now))) }
 {
     let Passed::At(p) = text_elements::word_at(s, at, b"control") else {
         return no_line();
@@ -160,7 +160,7 @@ fn control_at(s: &[u8], at: usize, priority: bool, time: f32, label: Label) -> T
 
 // From `tempo` on.
 fn tempo_at(s: &[u8], at: usize, priority: bool, time: f32) -> TextLineRead
-    ensures { result ≡ lineTold s.now (atTime priority time (tempoFrom (drop at s.now))) }
+    ensures { result ≡ line_told s.now (at_time priority time (tempo_from (drop at s.now))) }
 {
     let Passed::At(p) = text_elements::word_at(s, at, b"tempo") else {
         return no_line();
@@ -173,7 +173,7 @@ fn tempo_at(s: &[u8], at: usize, priority: bool, time: f32) -> TextLineRead
 
 // From `end` on.
 fn end_at(s: &[u8], at: usize, priority: bool, time: f32) -> TextLineRead
-    ensures { result ≡ lineTold s.now (atTime priority time (endFrom (drop at s.now))) }
+    ensures { result ≡ line_told s.now (at_time priority time (end_from (drop at s.now))) }
 {
     let Passed::At(p) = text_elements::word_at(s, at, b"end") else {
         return no_line();
@@ -183,7 +183,7 @@ fn end_at(s: &[u8], at: usize, priority: bool, time: f32) -> TextLineRead
 
 // Behind a name that may be an instrument's or a control line's label.
 fn named_at(s: &[u8], at: usize, priority: bool, time: f32, name: u16) -> TextLineRead
-    ensures { result ≡ lineTold s.now (atTime priority time (namedFrom name (drop at s.now))) }
+    ensures { result ≡ line_told s.now (at_time priority time (named_from name (drop at s.now))) }
 {
     let Passed::At(p) = text_elements::gap_at(s, at) else {
         return no_line();
@@ -196,7 +196,7 @@ fn named_at(s: &[u8], at: usize, priority: bool, time: f32, name: u16) -> TextLi
 
 // Behind the time and a gap: the first letter tells the kind.
 pub fn event_at(s: &[u8], at: usize, priority: bool, time: f32) -> TextLineRead
-    ensures { result ≡ lineTold s.now (atTime priority time (eventFrom (drop at s.now))) }
+    ensures { result ≡ line_told s.now (at_time priority time (event_from (drop at s.now))) }
 {
     if text_number_reader::starts_with(s, at, NAME_LETTER) {
         let NameRead::Of(name, p) = text_number_reader::name_at(s, at) else {

@@ -11,18 +11,18 @@ use lib.Dec.{leb, eqb}
 use lib.ListN.{length, get_or, drop, length-drop}
 use lib.Seq.{drop-drop, get_or-drop}
 use lib.Ieee.{Float, binary32, of_bits, to_bits, fits}
-use Rattle.base_formats.specs.Format.{Source, keypadSource, Read, got, refused, and_then, numberFrom}
+use Rattle.base_formats.specs.Format.{Source, keypad_source, Read, got, refused, and_then, number_from}
 use Rattle.base_formats.specs.Format as F
 use Rattle.base_formats.specs.Description.{Description, choose, pair, times, format}
 use Rattle.base_formats.specs.declared.Fault.{Fault}
 use Rattle.base_formats.specs.declared.Fault.TheVariants as fault
-use Rattle.score_line.specs.LineFormat.{symbol, in_range, float, Body, Values, number, timed, when, label, Kind, instr, control, end, tempo, type_of, kind, labelled, body, counted, values, afterTime, parts, line}
+use Rattle.score_line.specs.LineFormat.{symbol, in_range, float, Body, Values, number, timed, when, label, Kind, instr, control, end, tempo, type_of, kind, labelled, body, counted, values, after_time, parts, line}
 use Rattle.score_line.specs.declared.Range.{Range}
 use Rattle.score_line.specs.declared.Range.TheVariants as range
-use Rattle.score_reader.specs.Score.{Lines, all, faulty, before, lineThen}
+use Rattle.score_reader.specs.Score.{Lines, all, faulty, before, line_then}
 use Rattle.score_line.specs.declared.Line.{Line}
 use Rattle.score_line.specs.Reading.{answer_of}
-use Rattle.text_format.specs.Content.{Content, bits, flag, labelWords, eventWords, words_of, lineContent, judgedFrom, judgement}
+use Rattle.text_format.specs.Content.{Content, bits, flag, label_words, event_words, words_of, line_content, judged_from, judgement}
 use Rattle.text_format.specs.Content as content
 use Rattle.text_format.specs.inside.Reading.{Text, lines, bad, judged, lines_from, text_of}
 use Rattle.text_format.specs.Claims.{TextAnswer, is-taken, not_carried, out_of_range, too-many-values, bad-text, TextAnswers}
@@ -31,10 +31,10 @@ use Rattle.text_format.specs.Claims.{TextAnswer, is-taken, not_carried, out_of_r
 
 Ahead : Source → ℕ → List ℕ → Type 0
 Ahead s at [] = Unit {0}
-Ahead s at (w ∷ ws) = ((width : ℕ) → numberFrom s width at ≡ got w (at + 1)) × Ahead s (at + 1) ws
+Ahead s at (w ∷ ws) = ((width : ℕ) → number_from s width at ≡ got w (at + 1)) × Ahead s (at + 1) ws
 
-ahead-here : (words : List ℕ) (at : ℕ) (ws : List ℕ) → drop at words ≡ ws → Ahead (keypadSource words) at ws
-unfolding Ahead numberFrom keypadSource
+ahead-here : (words : List ℕ) (at : ℕ) (ws : List ℕ) → drop at words ≡ ws → Ahead (keypad_source words) at ws
+unfolding Ahead number_from keypad_source
 ahead-here words at [] e = tt
 ahead-here words at (w ∷ ws) e =
     let n : length words - at ≡ suc (length ws) = sym (length-drop at words) ∙ ap length e in
@@ -79,7 +79,7 @@ module _ {A : Type 0} (s : Source) (at : ℕ) (U R : ℕ → Type 0) (d : F.Form
 
 module _ (s : Source) (at w : ℕ) (ws : List ℕ) (h : Ahead s at (w ∷ ws)) where
   number-goes : {B : Type 0} {Q : B → ℕ → Type 0} (width : ℕ) (k : ℕ → ℕ → Read B) → (Ahead s (at + 1) ws → Goes Q (k w (at + 1)))
-      → Goes Q (and_then (numberFrom s width at) k)
+      → Goes Q (and_then (number_from s width at) k)
   unfolding Ahead
   number-goes width k f = rw (h.0 width) (f h.1)
 
@@ -135,7 +135,7 @@ module _ (s : Source) where
       (λ q k. float-goes s q t ws k range.Time))
       (λ a q k. went k))) (λ x p r. went r)
 
-  label-goes : (at : ℕ) (l : Option ℕ) (ws : List ℕ) → Ahead s at (labelWords l ++ ws) → Goes (Leaves s ws) ((format label).from s at)
+  label-goes : (at : ℕ) (l : Option ℕ) (ws : List ℕ) → Ahead s at (label_words l ++ ws) → Goes (Leaves s ws) ((format label).from s at)
   unfolding label
   label-goes at none ws h = goes_then (chosen s at 0 ws h _ _ (λ p r. went r)) (λ x p r. went r)
   label-goes at (some l) ws h = goes_then (chosen s at 1 (l ∷ ws) h _ _ (λ p r. goes_then (symbol-goes s p l ws r) (λ a q k. went k))) (λ x p r. went r)
@@ -151,7 +151,7 @@ module _ (s : Source) where
   named-goes : (r : Range) (at name x : ℕ) (ws : List ℕ) → Ahead s at (name ∷ (x ∷ ws)) → Goes (Leaves s ws) ((format (pair symbol (float r))).from s at)
   named-goes r at name x ws h = two-parts at (x ∷ ws) ws (format symbol) (format (float r)) (symbol-goes s at name (x ∷ ws) h) (λ q k. float-goes s q x ws k r)
 
-  instr-goes : (at name d : ℕ) (l : Option ℕ) (ws : List ℕ) → Ahead s at (labelWords l ++ (name ∷ (d ∷ ws))) → Goes (Leaves s ws) ((format (body instr)).from s at)
+  instr-goes : (at name d : ℕ) (l : Option ℕ) (ws : List ℕ) → Ahead s at (label_words l ++ (name ∷ (d ∷ ws))) → Goes (Leaves s ws) ((format (body instr)).from s at)
   unfolding body
   instr-goes at name d l ws h =
       two-parts at (name ∷ (d ∷ ws)) ws (format label) (format (pair symbol (float range.Duration))) (label-goes at l (name ∷ (d ∷ ws)) h)
@@ -163,7 +163,7 @@ module _ (s : Source) where
       two-parts at (name ∷ (x ∷ ws)) ws (format symbol) (format (pair symbol (float range.Value))) (symbol-goes s at l (name ∷ (x ∷ ws)) h)
       (λ p r. named-goes range.Value p name x ws r)
 
-  times_goes : (vs : List Float) (at : ℕ) → Ahead s at (map bits vs) → Goes (Leaves s []) (F.timesFrom (format (float range.Value)) s (length vs) at)
+  times_goes : (vs : List Float) (at : ℕ) → Ahead s at (map bits vs) → Goes (Leaves s []) (F.times_from (format (float range.Value)) s (length vs) at)
   times_goes [] at h = went h
   times_goes (v ∷ vs) at h = goes_then (float-goes s at (bits v) (map bits vs) h range.Value) (λ x p r. goes_then (times_goes vs p r) (λ xs q k. went k))
 
@@ -191,7 +191,7 @@ module _ (s : Source) where
   unfolding body
   with-label at l name x h = chosen s at 1 (l ∷ (name ∷ (x ∷ []))) h _ _ (λ p r. goes_on (λ a q k. tt) (labelled-goes p l name x [] r))
 
-  event-goes : (e : content.Event) (at : ℕ) → Ahead s at (eventWords e) → Goes (λ a p. Readable e) ((format event).from s at)
+  event-goes : (e : content.Event) (at : ℕ) → Ahead s at (event_words e) → Goes (λ a p. Readable e) ((format event).from s at)
   event-goes (content.instr l name d vs) at h =
       kind-then at instr _ (λ p. Ahead s p (length vs ∷ map bits vs)) _ h (λ p r. instr-goes p name (bits d) l _ r) (λ p r. values-goes vs p r)
   event-goes (content.control none name x) at h = kind-then at control _ (λ p. ⊥) _ h (λ p r. no_label p (name ∷ (bits x ∷ [])) r) (λ p r. absurd r)
@@ -202,14 +202,14 @@ module _ (s : Source) where
 
 -- ---- a line, and a text
 
-line-goes : (x : Content) → Goes (λ l p. Readable x.event) (lineContent x)
-unfolding lineContent words_of line parts afterTime
+line-goes : (x : Content) → Goes (λ l p. Readable x.event) (line_content x)
+unfolding line_content words_of line parts after_time
 line-goes x =
-    let s = keypadSource (words_of x) in
-    let es = eventWords x.event in
+    let s = keypad_source (words_of x) in
+    let es = event_words x.event in
     let p = flag x.priority in
     goes_then
-    (pair_goes s 0 (λ q. Ahead s q (p ∷ es)) (λ q. Readable x.event) (format when) (format afterTime)
+    (pair_goes s 0 (λ q. Ahead s q (p ∷ es)) (λ q. Readable x.event) (format when) (format after_time)
     (when-goes s 0 (bits x.time) (p ∷ es) (ahead-here (words_of x) 0 (words_of x) refl))
     (λ q r. pair_goes s q (λ o. Ahead s o es) (λ o. Readable x.event) F.flag (format event) (goes_on (λ a o k. k.1) (flag-goes s q p es r))
     (λ o k. event-goes s x.event o k)))
@@ -220,7 +220,7 @@ got-is (went h) e = h
 got-is (stopped u) e = absurd (let z : ◌≡◌ {A = ℕ} 0 1 = cc in omega arith)
 
 -- what is read as a line has a label where it is a control line, and at most 8 values
-pub readable : (s : Content) {l : Line} {q : ℕ} → lineContent s ≡ got l q → Readable s.event
+pub readable : (s : Content) {l : Line} {q : ℕ} → line_content s ≡ got l q → Readable s.event
 readable s e = got-is (line-goes s) e
 
 before-answer : (l : Line) (x : Lines) → TextAnswer (judgement x).answer → TextAnswer (judgement (before l x)).answer
@@ -228,14 +228,14 @@ before-answer l (all ls p) h = is-taken
 before-answer l (faulty f i) h = h
 
 then-answer : {P : Line → ℕ → Type 0} {m : Read Line} → Goes P m → (i : ℕ) (others : ℕ → Lines) → ((p : ℕ) → TextAnswer (judgement (others p)).answer)
-    → TextAnswer (judgement (lineThen m i others)).answer
+    → TextAnswer (judgement (line_then m i others)).answer
 then-answer (went {a} {p} h) i others f = before-answer a (others p) (f p)
 then-answer (stopped u) i others f = u
 
-judged-answers : (i : ℕ) (ss : List Content) → TextAnswer (judgement (judgedFrom i ss)).answer
-unfolding judgedFrom
+judged-answers : (i : ℕ) (ss : List Content) → TextAnswer (judgement (judged_from i ss)).answer
+unfolding judged_from
 judged-answers i [] = is-taken
-judged-answers i (s ∷ ss) = then-answer (line-goes s) i (λ p. judgedFrom (suc i) ss) (λ p. judged-answers (suc i) ss)
+judged-answers i (s ∷ ss) = then-answer (line-goes s) i (λ p. judged_from (suc i) ss) (λ p. judged-answers (suc i) ss)
 
 text-answer : (t : Text) → TextAnswer (judged t).answer
 text-answer (lines ss) = judged-answers 0 ss

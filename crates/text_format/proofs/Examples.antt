@@ -8,15 +8,15 @@ use mathlib.Core.Option.{some}
 use lib.Ieee.{round, to_bits}
 use Rattle.base_answer.specs.declared.Answer.{Answer}
 use Rattle.base_answer.specs.declared.Answer.TheVariants.{Taken, NotCarried, OutOfRange, TooManyValues, BadText}
-use Rattle.base_timebase.specs.Time.{timeBits, durationBits, tempoBits, finiteBits}
-use Rattle.base_formats.specs.Format.{keypadSource, numberFrom, small}
-use Rattle.score_line.specs.LineFormat.{in_range, float, number, timed, when, label, kind, labelled, body, counted, values, afterTime, parts, line}
+use Rattle.base_timebase.specs.Time.{time_bits, duration_bits, tempo_bits, finite_bits}
+use Rattle.base_formats.specs.Format.{keypad_source, number_from, small}
+use Rattle.score_line.specs.LineFormat.{in_range, float, number, timed, when, label, kind, labelled, body, counted, values, after_time, parts, line}
 use Rattle.score_line.specs.Reading.{answer_of}
-use Rattle.score_reader.specs.Score.{Score, refusedScore}
-use Rattle.text_format.specs.Content.{words_of, mostLines}
-use Rattle.text_numerals.specs.Numeral.{Numeral, encoded, nameBytes}
+use Rattle.score_reader.specs.Score.{Score, refused_score}
+use Rattle.text_format.specs.Content.{words_of, most_lines}
+use Rattle.text_numerals.specs.Numeral.{Numeral, encoded, name_bytes}
 use Rattle.text_numerals.proofs.Examples.{bytes}
-use Rattle.text_format.specs.Form.{Behind, instr, control, tempo, end, TextLine, textBytes}
+use Rattle.text_format.specs.Form.{Behind, instr, control, tempo, end, TextLine, text_bytes}
 use Rattle.text_format.specs.inside.Reading.{text_of}
 
 abbrev behind : {A : Type 0} → ℕ → A → Behind A
@@ -27,7 +27,7 @@ plain digits = record { minus = false; digits = digits; decimals = [] }
 
 -- all that is opened to work a text out
 worked : List ℕ → Score
-unfolding text_of words_of keypadSource numberFrom small float in_range timeBits durationBits tempoBits finiteBits number timed when label kind labelled body counted values afterTime parts line answer_of round to_bits
+unfolding text_of words_of keypad_source number_from small float in_range time_bits duration_bits tempo_bits finite_bits number timed when label kind labelled body counted values after_time parts line answer_of round to_bits
 worked bytes = text_of bytes
 
 -- ---- what is no text
@@ -53,7 +53,7 @@ no-texts =
     ∷ []
 
 -- each breaks at its line
-break-at : map (λ (c : String × ℕ). text_of (bytes c.0)) no-texts ≡ map (λ (c : String × ℕ). refusedScore BadText c.1) no-texts
+break-at : map (λ (c : String × ℕ). text_of (bytes c.0)) no-texts ≡ map (λ (c : String × ℕ). refused_score BadText c.1) no-texts
 unfolding worked
 break-at = refl
 
@@ -75,7 +75,7 @@ faulty =
     ∷ ("5 s1 1 1 2 3 4 5 6 7 8 9\n", (TooManyValues, 0))
     ∷ []
 
-refused-at : map (λ (c : String × (Answer × ℕ)). text_of (bytes c.0)) faulty ≡ map (λ (c : String × (Answer × ℕ)). refusedScore c.1.0 c.1.1) faulty
+refused-at : map (λ (c : String × (Answer × ℕ)). text_of (bytes c.0)) faulty ≡ map (λ (c : String × (Answer × ℕ)). refused_score c.1.0 c.1.1) faulty
 unfolding worked
 refused-at = refl
 
@@ -96,12 +96,12 @@ four-lines =
     ∷ record { priority = false; form = end (plain (9 ∷ [])) 0 }
     ∷ []
 
-their-text : textBytes four-lines ≡ bytes "*s65535: 12 s40   -1 -0.250\n0 s7  control s2 4\n01 tempo 60\n9 end\n"
-unfolding textBytes encoded nameBytes four-lines
+their-text : text_bytes four-lines ≡ bytes "*s65535: 12 s40   -1 -0.250\n0 s7  control s2 4\n01 tempo 60\n9 end\n"
+unfolding text_bytes encoded name_bytes four-lines
 their-text = refl
 
 -- ---- the number of lines
 
 -- as many as a score of bits counts
-most-lines : suc mostLines ≡ 2 ^ 20
+most-lines : suc most_lines ≡ 2 ^ 20
 most-lines = refl

@@ -3,8 +3,8 @@ use Prim.Native.Nat.{ℕ}
 use mathlib.Core.Path.{◌≡◌}
 use mathlib.Core.List.{List, [], ◌∷◌, ◌++◌, append_assoc}
 use mathlib.Core.Option.{some}
-use Rattle.text_numerals.specs.Numeral.{encoded, nameBytes}
-use Rattle.text_format.specs.Form.{newline, colon, controlWord, tempoWord, end_word, Label, Form, instr, control, tempo, end, TextLine, spaces, behindBytes, behindName, behindNumber, labelBytes, targetBytes, valueBytes, formBytes, starBytes, lineBytes}
+use Rattle.text_numerals.specs.Numeral.{encoded, name_bytes}
+use Rattle.text_format.specs.Form.{newline, colon, control_word, tempo_word, end_word, Label, Form, instr, control, tempo, end, TextLine, spaces, behind_bytes, behind_name, behind_number, label_bytes, target_bytes, value_bytes, form_bytes, star_bytes, line_bytes}
 
 three : (a b c r : List ℕ) → (a ++ (b ++ c)) ++ r ≡ a ++ (b ++ (c ++ r))
 three a b c r = simp append_assoc
@@ -12,24 +12,24 @@ three a b c r = simp append_assoc
 five : (a b c d e r : List ℕ) → (a ++ (b ++ (c ++ (d ++ e)))) ++ r ≡ a ++ (b ++ (c ++ (d ++ (e ++ r))))
 five a b c d e r = simp append_assoc
 
-abbrev pub formThen : Form → List ℕ → List ℕ
-formThen (instr l t n d vs) r = labelBytes l ++ (encoded t ++ (behindName n ++ (behindNumber d ++ (valueBytes vs ++ r))))
-formThen (control t l more n x) r = encoded t ++ (targetBytes l ++ (behindBytes more controlWord ++ (behindName n ++ (behindNumber x ++ r))))
-formThen (tempo t more x) r = encoded t ++ (behindBytes more tempoWord ++ (behindNumber x ++ r))
-formThen (end t more) r = encoded t ++ (behindBytes more end_word ++ r)
+abbrev pub form_then : Form → List ℕ → List ℕ
+form_then (instr l t n d vs) r = label_bytes l ++ (encoded t ++ (behind_name n ++ (behind_number d ++ (value_bytes vs ++ r))))
+form_then (control t l more n x) r = encoded t ++ (target_bytes l ++ (behind_bytes more control_word ++ (behind_name n ++ (behind_number x ++ r))))
+form_then (tempo t more x) r = encoded t ++ (behind_bytes more tempo_word ++ (behind_number x ++ r))
+form_then (end t more) r = encoded t ++ (behind_bytes more end_word ++ r)
 
-pub form-apart : (f : Form) (r : List ℕ) → formBytes f ++ r ≡ formThen f r
-unfolding formBytes
-form-apart (instr l t n d vs) r = five (labelBytes l) (encoded t) (behindName n) (behindNumber d) (valueBytes vs) r
-form-apart (control t l more n x) r = five (encoded t) (targetBytes l) (behindBytes more controlWord) (behindName n) (behindNumber x) r
-form-apart (tempo t more x) r = three (encoded t) (behindBytes more tempoWord) (behindNumber x) r
-form-apart (end t more) r = append_assoc (encoded t) (behindBytes more end_word) r
+pub form-apart : (f : Form) (r : List ℕ) → form_bytes f ++ r ≡ form_then f r
+unfolding form_bytes
+form-apart (instr l t n d vs) r = five (label_bytes l) (encoded t) (behind_name n) (behind_number d) (value_bytes vs) r
+form-apart (control t l more n x) r = five (encoded t) (target_bytes l) (behind_bytes more control_word) (behind_name n) (behind_number x) r
+form-apart (tempo t more x) r = three (encoded t) (behind_bytes more tempo_word) (behind_number x) r
+form-apart (end t more) r = append_assoc (encoded t) (behind_bytes more end_word) r
 
 -- a label, its colon, and what stands behind it
-pub label-apart : (l : Label) (r : List ℕ) → labelBytes (some l) ++ r ≡ nameBytes l.name ++ (spaces l.before ++ (colon ∷ (spaces l.after ++ r)))
-unfolding labelBytes
-label-apart l r = three (nameBytes l.name) (spaces l.before) (colon ∷ spaces l.after) r
+pub label-apart : (l : Label) (r : List ℕ) → label_bytes (some l) ++ r ≡ name_bytes l.name ++ (spaces l.before ++ (colon ∷ (spaces l.after ++ r)))
+unfolding label_bytes
+label-apart l r = three (name_bytes l.name) (spaces l.before) (colon ∷ spaces l.after) r
 
-pub line-apart : (w : TextLine) (after : List ℕ) → lineBytes w ++ after ≡ starBytes w.priority ++ (formBytes w.form ++ (newline ∷ after))
-unfolding lineBytes
-line-apart w after = three (starBytes w.priority) (formBytes w.form) (newline ∷ []) after
+pub line-apart : (w : TextLine) (after : List ℕ) → line_bytes w ++ after ≡ star_bytes w.priority ++ (form_bytes w.form ++ (newline ∷ after))
+unfolding line_bytes
+line-apart w after = three (star_bytes w.priority) (form_bytes w.form) (newline ∷ []) after

@@ -3,11 +3,11 @@ use Rattle.std.specs.Prelude.{ℕ, suc, Bool, cond, List, [], ◌∷◌, ◌++�
 use Rattle.std.proofs.Math.Option.{Option, none, some}
 use Rattle.std.specs.Float.{binary32}
 use Rattle.std.specs.Float.Ieee.{to_bits}
-use Rattle.base_formats.specs.Format.{keypadSource, Read}
-use Rattle.score_line.specs.Reading.{lineFrom, answer_of}
+use Rattle.base_formats.specs.Format.{keypad_source, Read}
+use Rattle.score_line.specs.Reading.{line_from, answer_of}
 use Rattle.score_line.specs.LineFormat as format
 use Rattle.score_line.specs.declared.Line.{Line}
-use Rattle.score_reader.specs.Score.{Lines, all, faulty, lineThen, Score, taken, refusedScore}
+use Rattle.score_reader.specs.Score.{Lines, all, faulty, line_then, Score, taken, refused_score}
 
 pub data Event : Type 0 where
   -- a label or none, the instrument, the duration and the values
@@ -31,35 +31,35 @@ abbrev pub flag : Bool → ℕ
 flag b = cond b 1 0
 
 -- has-label, and the label if it is set
-abbrev pub labelWords : Option ℕ → List ℕ
-labelWords none = 0 ∷ []
-labelWords (some l) = 1 ∷ (l ∷ [])
+abbrev pub label_words : Option ℕ → List ℕ
+label_words none = 0 ∷ []
+label_words (some l) = 1 ∷ (l ∷ [])
 
 -- type, and the fields of the type
-abbrev pub eventWords : Event → List ℕ
-eventWords (instr l name d vs) = format.type_of format.instr ∷ (labelWords l ++ (name ∷ (bits d ∷ (length vs ∷ map bits vs))))
-eventWords (control l name x) = format.type_of format.control ∷ (labelWords l ++ (name ∷ (bits x ∷ [])))
-eventWords (tempo t) = format.type_of format.tempo ∷ (bits t ∷ [])
-eventWords end = format.type_of format.end ∷ []
+abbrev pub event_words : Event → List ℕ
+event_words (instr l name d vs) = format.type_of format.instr ∷ (label_words l ++ (name ∷ (bits d ∷ (length vs ∷ map bits vs))))
+event_words (control l name x) = format.type_of format.control ∷ (label_words l ++ (name ∷ (bits x ∷ [])))
+event_words (tempo t) = format.type_of format.tempo ∷ (bits t ∷ [])
+event_words end = format.type_of format.end ∷ []
 
 -- has-time set, use-if-late clear, time, priority, and the event
 unfoldable pub words_of : Content → List ℕ
-words_of s = 1 ∷ (0 ∷ (bits s.time ∷ (flag s.priority ∷ eventWords s.event)))
+words_of s = 1 ∷ (0 ∷ (bits s.time ∷ (flag s.priority ∷ event_words s.event)))
 
 -- the line, or the first fault in reading order
-unfoldable pub lineContent : Content → Read Line
-lineContent s = lineFrom (keypadSource (words_of s)) 0
+unfoldable pub line_content : Content → Read Line
+line_content s = line_from (keypad_source (words_of s)) 0
 
 -- the most lines of a score
-abbrev pub mostLines : ℕ
-mostLines = 1048575
+abbrev pub most_lines : ℕ
+most_lines = 1048575
 
 -- then 1, 2, 3, 5 by the stick's rules: the first fault, from the line of number i on
-unfoldable pub judgedFrom : ℕ → List Content → Lines
-unfolding lineContent
-judgedFrom i [] = all [] 0
-judgedFrom i (s ∷ ss) = lineThen (lineContent s) i (λ p. judgedFrom (suc i) ss)
+unfoldable pub judged_from : ℕ → List Content → Lines
+unfolding line_content
+judged_from i [] = all [] 0
+judged_from i (s ∷ ss) = line_then (line_content s) i (λ p. judged_from (suc i) ss)
 
 abbrev pub judgement : Lines → Score
 judgement (all ls p) = taken ls
-judgement (faulty f i) = refusedScore (answer_of f) i
+judgement (faulty f i) = refused_score (answer_of f) i

@@ -2,7 +2,7 @@
 -- round it follows an instr label, "*" first of all is priority, a newline ends each line. Definitions only.
 use Rattle.std.specs.Prelude.{ℕ, suc, ◌≤◌, Bool, true, false, List, [], ◌∷◌, ◌++◌, map, replicate}
 use Rattle.std.proofs.Math.Option.{Option, none, some}
-use Rattle.text_numerals.specs.Numeral.{Numeral, Valid, encoded, meaning, mostSymbol, nameBytes}
+use Rattle.text_numerals.specs.Numeral.{Numeral, Valid, encoded, meaning, most_symbol, name_bytes}
 use Rattle.text_format.specs.Content.{Content}
 use Rattle.text_format.specs.Content as content
 
@@ -21,12 +21,12 @@ abbrev pub colon : ℕ
 colon = 58
 
 -- c o n t r o l
-abbrev pub controlWord : List ℕ
-controlWord = 99 ∷ (111 ∷ (110 ∷ (116 ∷ (114 ∷ (111 ∷ (108 ∷ []))))))
+abbrev pub control_word : List ℕ
+control_word = 99 ∷ (111 ∷ (110 ∷ (116 ∷ (114 ∷ (111 ∷ (108 ∷ []))))))
 
 -- t e m p o
-abbrev pub tempoWord : List ℕ
-tempoWord = 116 ∷ (101 ∷ (109 ∷ (112 ∷ (111 ∷ []))))
+abbrev pub tempo_word : List ℕ
+tempo_word = 116 ∷ (101 ∷ (109 ∷ (112 ∷ (111 ∷ []))))
 
 -- e n d
 abbrev pub end_word : List ℕ
@@ -64,55 +64,55 @@ pub record TextLine : Type 0 where
 unfoldable pub spaces : ℕ → List ℕ
 spaces n = replicate n space
 
-unfoldable pub behindBytes : ℕ → List ℕ → List ℕ
+unfoldable pub behind_bytes : ℕ → List ℕ → List ℕ
 unfolding spaces
-behindBytes more bytes = spaces (suc more) ++ bytes
+behind_bytes more bytes = spaces (suc more) ++ bytes
 
-abbrev pub behindName : Behind ℕ → List ℕ
-behindName x = behindBytes x.more (nameBytes x.element)
+abbrev pub behind_name : Behind ℕ → List ℕ
+behind_name x = behind_bytes x.more (name_bytes x.element)
 
-abbrev pub behindNumber : Behind Numeral → List ℕ
-behindNumber x = behindBytes x.more (encoded x.element)
+abbrev pub behind_number : Behind Numeral → List ℕ
+behind_number x = behind_bytes x.more (encoded x.element)
 
-unfoldable pub labelBytes : Option Label → List ℕ
+unfoldable pub label_bytes : Option Label → List ℕ
 unfolding spaces
-labelBytes none = []
-labelBytes (some l) = nameBytes l.name ++ (spaces l.before ++ (colon ∷ spaces l.after))
+label_bytes none = []
+label_bytes (some l) = name_bytes l.name ++ (spaces l.before ++ (colon ∷ spaces l.after))
 
-unfoldable pub targetBytes : Option (Behind ℕ) → List ℕ
-unfolding behindBytes
-targetBytes none = []
-targetBytes (some l) = behindName l
+unfoldable pub target_bytes : Option (Behind ℕ) → List ℕ
+unfolding behind_bytes
+target_bytes none = []
+target_bytes (some l) = behind_name l
 
-unfoldable pub valueBytes : List (Behind Numeral) → List ℕ
-unfolding behindBytes
-valueBytes [] = []
-valueBytes (x ∷ xs) = behindNumber x ++ valueBytes xs
+unfoldable pub value_bytes : List (Behind Numeral) → List ℕ
+unfolding behind_bytes
+value_bytes [] = []
+value_bytes (x ∷ xs) = behind_number x ++ value_bytes xs
 
-unfoldable pub formBytes : Form → List ℕ
-unfolding behindBytes labelBytes targetBytes valueBytes
-formBytes (instr l t n d vs) = labelBytes l ++ (encoded t ++ (behindName n ++ (behindNumber d ++ valueBytes vs)))
-formBytes (control t l more n x) = encoded t ++ (targetBytes l ++ (behindBytes more controlWord ++ (behindName n ++ behindNumber x)))
-formBytes (tempo t more x) = encoded t ++ (behindBytes more tempoWord ++ behindNumber x)
-formBytes (end t more) = encoded t ++ behindBytes more end_word
+unfoldable pub form_bytes : Form → List ℕ
+unfolding behind_bytes label_bytes target_bytes value_bytes
+form_bytes (instr l t n d vs) = label_bytes l ++ (encoded t ++ (behind_name n ++ (behind_number d ++ value_bytes vs)))
+form_bytes (control t l more n x) = encoded t ++ (target_bytes l ++ (behind_bytes more control_word ++ (behind_name n ++ behind_number x)))
+form_bytes (tempo t more x) = encoded t ++ (behind_bytes more tempo_word ++ behind_number x)
+form_bytes (end t more) = encoded t ++ behind_bytes more end_word
 
-unfoldable pub starBytes : Bool → List ℕ
-starBytes true = star ∷ []
-starBytes false = []
+unfoldable pub star_bytes : Bool → List ℕ
+star_bytes true = star ∷ []
+star_bytes false = []
 
-unfoldable pub lineBytes : TextLine → List ℕ
-unfolding starBytes formBytes
-lineBytes w = starBytes w.priority ++ (formBytes w.form ++ (newline ∷ []))
+unfoldable pub line_bytes : TextLine → List ℕ
+unfolding star_bytes form_bytes
+line_bytes w = star_bytes w.priority ++ (form_bytes w.form ++ (newline ∷ []))
 
-unfoldable pub textBytes : List TextLine → List ℕ
-unfolding lineBytes
-textBytes [] = []
-textBytes (w ∷ ws) = lineBytes w ++ textBytes ws
+unfoldable pub text_bytes : List TextLine → List ℕ
+unfolding line_bytes
+text_bytes [] = []
+text_bytes (w ∷ ws) = line_bytes w ++ text_bytes ws
 
 -- ---- valid names and numbers
 
 abbrev pub ValidName : ℕ → Type 0
-ValidName symbol = symbol ≤ mostSymbol
+ValidName symbol = symbol ≤ most_symbol
 
 abbrev pub ValidLabel : Option Label → Type 0
 ValidLabel none = Unit {0}
@@ -140,25 +140,25 @@ ValidLines (w ∷ ws) = ValidForm w.form × ValidLines ws
 
 -- ---- what it says
 
-abbrev pub labelContent : Option Label → Option ℕ
-labelContent none = none
-labelContent (some l) = some l.name
+abbrev pub label_content : Option Label → Option ℕ
+label_content none = none
+label_content (some l) = some l.name
 
-abbrev pub targetContent : Option (Behind ℕ) → Option ℕ
-targetContent none = none
-targetContent (some l) = some l.element
+abbrev pub target_content : Option (Behind ℕ) → Option ℕ
+target_content none = none
+target_content (some l) = some l.element
 
-abbrev pub timeContent : Form → Numeral
-timeContent (instr l t n d vs) = t
-timeContent (control t l more n x) = t
-timeContent (tempo t more x) = t
-timeContent (end t more) = t
+abbrev pub time_content : Form → Numeral
+time_content (instr l t n d vs) = t
+time_content (control t l more n x) = t
+time_content (tempo t more x) = t
+time_content (end t more) = t
 
-abbrev pub eventContent : Form → content.Event
-eventContent (instr l t n d vs) = content.instr (labelContent l) n.element (meaning d.element) (map (λ (x : Behind Numeral). meaning x.element) vs)
-eventContent (control t l more n x) = content.control (targetContent l) n.element (meaning x.element)
-eventContent (tempo t more x) = content.tempo (meaning x.element)
-eventContent (end t more) = content.end
+abbrev pub event_content : Form → content.Event
+event_content (instr l t n d vs) = content.instr (label_content l) n.element (meaning d.element) (map (λ (x : Behind Numeral). meaning x.element) vs)
+event_content (control t l more n x) = content.control (target_content l) n.element (meaning x.element)
+event_content (tempo t more x) = content.tempo (meaning x.element)
+event_content (end t more) = content.end
 
-unfoldable pub contentBy : TextLine → Content
-contentBy w = record { priority = w.priority; time = meaning (timeContent w.form); event = eventContent w.form }
+unfoldable pub content_by : TextLine → Content
+content_by w = record { priority = w.priority; time = meaning (time_content w.form); event = event_content w.form }

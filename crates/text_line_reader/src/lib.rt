@@ -1,8 +1,8 @@
 // A line of text, read at any position among bytes, and then judged by the stick's rules.
 ghost use Rattle.std.specs.Prelude.{◌≡◌, drop};
-ghost use Rattle.text_format.specs.inside.Reading.{timedFrom, bodyFrom, lineFrom};
-ghost use Rattle.text_event_reader.specs.Results.{lineTold};
-ghost use Rattle.text_line_reader.specs.Labelled.{afterLabel};
+ghost use Rattle.text_format.specs.inside.Reading.{timed_from, body_from, line_from};
+ghost use Rattle.text_event_reader.specs.Results.{line_told};
+ghost use Rattle.text_line_reader.specs.Labelled.{after_label};
 
 use score_line::Label;
 use text_elements::Passed;
@@ -13,7 +13,7 @@ const STAR: u8 = 42;
 
 // Behind a label: its colon, the time, the instrument's name.
 fn after_label(s: &[u8], at: usize, priority: bool, label: u16) -> TextLineRead
-    ensures { result ≡ lineTold s.now (afterLabel priority label (drop at s.now)) }
+    ensures { result ≡ line_told s.now (after_label priority label (drop at s.now)) }
 {
     let Passed::At(p) = text_elements::colon_at(s, at) else {
         return text_event_reader::no_line();
@@ -29,7 +29,7 @@ fn after_label(s: &[u8], at: usize, priority: bool, label: u16) -> TextLineRead
 
 // A line that begins with its time.
 fn timed_at(s: &[u8], at: usize, priority: bool) -> TextLineRead
-    ensures { result ≡ lineTold s.now (timedFrom priority (drop at s.now)) }
+    ensures { result ≡ line_told s.now (timed_from priority (drop at s.now)) }
 {
     let NumberRead::Of(time, p) = text_number_reader::number_at(s, at) else {
         return text_event_reader::no_line();
@@ -42,7 +42,7 @@ fn timed_at(s: &[u8], at: usize, priority: bool) -> TextLineRead
 
 // Behind the star, or without one.
 fn body_at(s: &[u8], at: usize, priority: bool) -> TextLineRead
-    ensures { result ≡ lineTold s.now (bodyFrom priority (drop at s.now)) }
+    ensures { result ≡ line_told s.now (body_from priority (drop at s.now)) }
 {
     if text_number_reader::starts_with(s, at, text_event_reader::NAME_LETTER) {
         let NameRead::Of(label, p) = text_number_reader::name_at(s, at) else {
@@ -55,7 +55,7 @@ fn body_at(s: &[u8], at: usize, priority: bool) -> TextLineRead
 
 // The line at a position.
 pub fn line_at(s: &[u8], at: usize) -> TextLineRead
-    ensures { result ≡ lineTold s.now (lineFrom (drop at s.now)) }
+    ensures { result ≡ line_told s.now (line_from (drop at s.now)) }
 {
     if text_number_reader::starts_with(s, at, STAR) {
         return body_at(s, at + 1, true);

@@ -9,10 +9,10 @@ use Rattle.score_line.specs.declared.When.TheVariants.{Timed, Untimed}
 use Rattle.score_line.specs.declared.Event.{Event}
 use Rattle.score_line.specs.declared.Event.TheVariants.{Instr, Control, End, Tempo}
 use Rattle.score_line.specs.declared.Line.{Line}
-use Rattle.score_line.specs.LineFormat.{labelParts}
+use Rattle.score_line.specs.LineFormat.{label_parts}
 use Rattle.text_format.specs.Content.{Content}
 use Rattle.text_format.specs.Content as content
-use Rattle.text_format.specs.Form.{Behind, Label, Form, instr, control, tempo, end, TextLine, contentBy}
+use Rattle.text_format.specs.Form.{Behind, Label, Form, instr, control, tempo, end, TextLine, content_by}
 
 -- ---- which numeral is written
 
@@ -25,20 +25,20 @@ pub record Canonical (t : Numeral) : Type 0 where
 -- ---- what a line says
 
 -- a text line is timed, use-if-late clear
-abbrev pub timeContent : When → Option Float
-timeContent Untimed = none
-timeContent (Timed true t) = none
-timeContent (Timed false t) = some t
+abbrev pub time_content : When → Option Float
+time_content Untimed = none
+time_content (Timed true t) = none
+time_content (Timed false t) = some t
 
 -- of the values those in use
-abbrev pub eventContent : Event → ℕ → List Float → content.Event
-eventContent (Instr label instrument duration) n xs = content.instr (labelParts label) instrument duration (take n xs)
-eventContent (Control label variable value) n xs = content.control (some label) variable value
-eventContent End n xs = content.end
-eventContent (Tempo x) n xs = content.tempo x
+abbrev pub event_content : Event → ℕ → List Float → content.Event
+event_content (Instr label instrument duration) n xs = content.instr (label_parts label) instrument duration (take n xs)
+event_content (Control label variable value) n xs = content.control (some label) variable value
+event_content End n xs = content.end
+event_content (Tempo x) n xs = content.tempo x
 
-abbrev pub contentOf : Line → Option Content
-contentOf l = map (λ t. record { priority = l.priority; time = t; event = eventContent l.event l.count l.values }) (timeContent l.when)
+abbrev pub content_of : Line → Option Content
+content_of l = map (λ t. record { priority = l.priority; time = t; event = event_content l.event l.count l.values }) (time_content l.when)
 
 -- ---- which text is written for it
 
@@ -71,20 +71,20 @@ CanonicalForm (end t more) = Canonical t × (more ≡ 0)
 
 -- this is the text of the line: what it says is the line, and it is plainly written
 pub record IsTextOf (l : Line) (w : TextLine) : Type 0 where
-  pub is-content : contentOf l ≡ some (contentBy w)
+  pub is-content : content_of l ≡ some (content_by w)
   pub is_plain : CanonicalForm w.form
 
 -- ---- which lines have none
 
 -- the numbers that a line says
-abbrev pub eventNumbers : content.Event → List Float
-eventNumbers (content.instr l name d vs) = d ∷ vs
-eventNumbers (content.control l name x) = x ∷ []
-eventNumbers (content.tempo x) = x ∷ []
-eventNumbers content.end = []
+abbrev pub event_numbers : content.Event → List Float
+event_numbers (content.instr l name d vs) = d ∷ vs
+event_numbers (content.control l name x) = x ∷ []
+event_numbers (content.tempo x) = x ∷ []
+event_numbers content.end = []
 
-abbrev pub numbersOf : Content → List Float
-numbersOf s = s.time ∷ eventNumbers s.event
+abbrev pub numbers_of : Content → List Float
+numbers_of s = s.time ∷ event_numbers s.event
 
 -- one of them has no text
 pub data SomeNoText : List Float → Type 0 where
@@ -94,4 +94,4 @@ pub data SomeNoText : List Float → Type 0 where
 pub data NoTextForm (l : Line) : Type 0 where
   no-time : l.when ≡ Untimed → NoTextForm l
   use-if-late : (t : Float) → l.when ≡ Timed true t → NoTextForm l
-  no_number : (s : Content) → contentOf l ≡ some s → SomeNoText (numbersOf s) → NoTextForm l
+  no_number : (s : Content) → content_of l ≡ some s → SomeNoText (numbers_of s) → NoTextForm l

@@ -1,14 +1,14 @@
 // The text of a score line, put together piece by piece.
 ghost use Rattle.std.specs.Prelude.{◌≡◌, [], ◌∷◌, take};
 ghost use Rattle.std.proofs.Math.Option.{some, map};
-ghost use Rattle.text_numerals.specs.Numeral.{nameBytes};
-ghost use Rattle.text_number_writer.specs.Push.{emptyText};
-ghost use Rattle.score_line.specs.LineFormat.{labelParts};
+ghost use Rattle.text_numerals.specs.Numeral.{name_bytes};
+ghost use Rattle.text_number_writer.specs.Push.{empty_text};
+ghost use Rattle.score_line.specs.LineFormat.{label_parts};
 ghost use Rattle.text_format.specs.Content as content;
-ghost use Rattle.text_format.specs.Form.{starBytes, lineBytes};
-ghost use Rattle.text_line_writer.specs.LineText.{eventContent};
-ghost use Rattle.text_line_writer.specs.inside.LineText.{lineText};
-ghost use Rattle.text_line_writer.specs.inside.Drafts.{Holds, Drafted, kept, Joined, numberBytes, nextBytes, valuesBytes, labelBytesOf, formText};
+ghost use Rattle.text_format.specs.Form.{star_bytes, line_bytes};
+ghost use Rattle.text_line_writer.specs.LineText.{event_content};
+ghost use Rattle.text_line_writer.specs.inside.LineText.{line_text};
+ghost use Rattle.text_line_writer.specs.inside.Drafts.{Holds, Drafted, kept, Joined, number_bytes, next_bytes, values_bytes, label_bytes_of, form_text};
 
 use score_line::{Event, Label, Line, MOST_VALUES, When};
 use text_number_writer::{LineText, NumberText};
@@ -49,7 +49,7 @@ fn with_word(d: Draft, word: &[u8]) -> Draft
 }
 
 fn with_name(d: Draft, symbol: u16) -> Draft
-    ensures { Joined d (some (nameBytes symbol)) result }
+    ensures { Joined d (some (name_bytes symbol)) result }
 {
     let text = d.text;
     Draft {
@@ -60,7 +60,7 @@ fn with_name(d: Draft, symbol: u16) -> Draft
 
 // A number's shortest text.
 fn with_number(d: Draft, x: f32) -> Draft
-    ensures { Joined d (numberBytes x) result }
+    ensures { Joined d (number_bytes x) result }
 {
     let text = d.text;
     match text_number_writer::shortest(x) {
@@ -77,20 +77,20 @@ fn with_number(d: Draft, x: f32) -> Draft
 
 // A name behind a space.
 fn next_name(d: Draft, symbol: u16) -> Draft
-    ensures { Joined d (some (32 ∷ nameBytes symbol)) result }
+    ensures { Joined d (some (32 ∷ name_bytes symbol)) result }
 {
     with_name(with_byte(d, SPACE), symbol)
 }
 
 // A number behind a space.
 fn next_number(d: Draft, x: f32) -> Draft
-    ensures { Joined d (nextBytes x) result }
+    ensures { Joined d (next_bytes x) result }
 {
     with_number(with_byte(d, SPACE), x)
 }
 
 fn with_values(d: Draft, count: usize, values: [f32; MOST_VALUES]) -> Draft
-    ensures { Joined d (valuesBytes (take count values)) result }
+    ensures { Joined d (values_bytes (take count values)) result }
 {
     let n = base_numbers::at_most(count, MOST_VALUES);
     let mut r = d;
@@ -104,7 +104,7 @@ fn with_values(d: Draft, count: usize, values: [f32; MOST_VALUES]) -> Draft
 
 // An instr line's label, its colon and a space.
 fn with_label(d: Draft, label: Label) -> Draft
-    ensures { Joined d (some (labelBytesOf label)) result }
+    ensures { Joined d (some (label_bytes_of label)) result }
 {
     match label {
         Label::Labelled(n) => with_byte(with_byte(with_name(d, n), COLON), SPACE),
@@ -121,7 +121,7 @@ fn instr_text(
     count: usize,
     values: [f32; MOST_VALUES],
 ) -> Draft
-    ensures { Joined d (formText time (content.instr (labelParts label) instrument duration (take count values))) result }
+    ensures { Joined d (form_text time (content.instr (label_parts label) instrument duration (take count values))) result }
 {
     let timed = with_number(with_label(d, label), time);
     let lasting = next_number(next_name(timed, instrument), duration);
@@ -129,7 +129,7 @@ fn instr_text(
 }
 
 fn control_text(d: Draft, time: f32, label: u16, variable: u16, value: f32) -> Draft
-    ensures { Joined d (formText time (content.control (some label) variable value)) result }
+    ensures { Joined d (form_text time (content.control (some label) variable value)) result }
 {
     let labelled = next_name(with_number(d, time), label);
     let named = next_name(with_word(labelled, b" control"), variable);
@@ -137,21 +137,21 @@ fn control_text(d: Draft, time: f32, label: u16, variable: u16, value: f32) -> D
 }
 
 fn tempo_text(d: Draft, time: f32, tempo: f32) -> Draft
-    ensures { Joined d (formText time (content.tempo tempo)) result }
+    ensures { Joined d (form_text time (content.tempo tempo)) result }
 {
     let timed = with_number(d, time);
     next_number(with_word(timed, b" tempo"), tempo)
 }
 
 fn end_text(d: Draft, time: f32) -> Draft
-    ensures { Joined d (formText time content.end) result }
+    ensures { Joined d (form_text time content.end) result }
 {
     let timed = with_number(d, time);
     with_word(timed, b" end")
 }
 
 fn event_text(d: Draft, time: f32, event: Event, count: usize, values: [f32; MOST_VALUES]) -> Draft
-    ensures { Joined d (formText time (eventContent event count values)) result }
+    ensures { Joined d (form_text time (event_content event count values)) result }
 {
     match event {
         Event::Instr {
@@ -170,7 +170,7 @@ fn event_text(d: Draft, time: f32, event: Event, count: usize, values: [f32; MOS
 }
 
 fn nothing_yet(there: bool) -> Draft
-    ensures { result ≡ record { there = there; text = emptyText } }
+    ensures { result ≡ record { there = there; text = empty_text } }
 {
     Draft {
         there: there,
@@ -180,7 +180,7 @@ fn nothing_yet(there: bool) -> Draft
 
 // A star first of all for priority.
 fn begun(priority: bool) -> Draft
-    ensures { Holds result (some (starBytes priority)) }
+    ensures { Holds result (some (star_bytes priority)) }
 {
     if priority {
         return with_byte(nothing_yet(true), STAR);
@@ -200,7 +200,7 @@ fn finished(d: Draft) -> Draft
 
 // A line's text with its newline; not there for a line without a time, with use-if-late set, or with a number that has no text.
 pub fn line_text(line: Line) -> Draft
-    ensures { Drafted result (map lineBytes (lineText line)) }
+    ensures { Drafted result (map line_bytes (line_text line)) }
 {
     let when = line.when;
     let event = line.event;

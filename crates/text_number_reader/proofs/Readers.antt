@@ -13,11 +13,11 @@ use lib.IntN.{pos}
 use lib.ListN.{length, get_or, drop, length-drop}
 use lib.Ieee.{Float, binary32, of_int, div, neg}
 use Rattle.base_laws.proofs.Choice.{cond-true, cond-false}
-use Rattle.text_numerals.specs.Numeral.{mostNumber, mostDecimals, float_of}
-use Rattle.text_numerals.specs.inside.Reading.{Read, got, refused, isDigit, Run, digitsFrom, withoutPoint, decimalsFrom, unsignedFrom, numberFrom, symbolFrom, nameFrom}
+use Rattle.text_numerals.specs.Numeral.{most_number, most_decimals, float_of}
+use Rattle.text_numerals.specs.inside.Reading.{Read, got, refused, is_digit, Run, digits_from, without_point, decimals_from, unsigned_from, number_from, symbol_from, name_from}
 use Rattle.text_numerals.proofs.Quotient.{quotient}
 use Rattle.text_numerals.proofs.Signs.{minus-float}
-use Rattle.text_number_reader.specs.Results.{numberIs, nameIs, numberTold, nameTold, NumberAt, NameAt, EveryNumberAnswer, EveryNameAnswer, digitsIs, countIn, pastIn, DigitsAt, Starts}
+use Rattle.text_number_reader.specs.Results.{number_is, name_is, number_told, name_told, NumberAt, NameAt, EveryNumberAnswer, EveryNameAnswer, digits_is, count_in, past_in, DigitsAt, Starts}
 use Rattle.text_number_reader.specs.declared.NumberRead.{NumberRead}
 use Rattle.text_number_reader.specs.declared.NumberRead.TheVariants as number
 use Rattle.text_number_reader.specs.declared.NameRead.{NameRead}
@@ -29,16 +29,16 @@ use Rattle.text_number_reader.proofs.Bytes.{here, past, rest-drop}
 -- ---- one byte
 
 -- a byte that is a digit, one below the digits, and one above
-digit-yes : (b : ℕ) → 48 ≤ b → b ≤ 57 → isDigit b ≡ true
-unfolding isDigit
+digit-yes : (b : ℕ) → 48 ≤ b → b ≤ 57 → is_digit b ≡ true
+unfolding is_digit
 digit-yes b h k = cc (le-leb 48 b h, le-leb b 57 k)
 
-digit-no-low : (b : ℕ) → b < 48 → isDigit b ≡ false
-unfolding isDigit
+digit-no-low : (b : ℕ) → b < 48 → is_digit b ≡ false
+unfolding is_digit
 digit-no-low b h = cc (lt-leb 48 b h)
 
-digit-no-high : (b : ℕ) → 48 ≤ b → 57 < b → isDigit b ≡ false
-unfolding isDigit
+digit-no-high : (b : ℕ) → 48 ≤ b → 57 < b → is_digit b ≡ false
+unfolding is_digit
 digit-no-high b h k = cc (le-leb 48 b h, lt-leb b 57 k)
 
 -- ---- results: a position that lies among the bytes is told by the bytes behind it
@@ -48,34 +48,34 @@ behind s p h = omega (arith, length-drop p s)
 
 module _ (s : List ℕ) where
   pub number_of : (v : Float) (p : ℕ) {x : Read Float} → p ≤ length s → got v (drop p s) ≡ x → NumberAt s x (number.Of v p)
-  unfolding numberTold
-  number_of v p h e = record { told = ap (number.Of v) (behind s p h) ∙ ap (numberTold s) e; is = e }
+  unfolding number_told
+  number_of v p h e = record { told = ap (number.Of v) (behind s p h) ∙ ap (number_told s) e; is = e }
 
   pub number-no : {x : Read Float} → refused ≡ x → NumberAt s x number.Refused
-  unfolding numberTold
-  number-no e = record { told = ap (numberTold s) e; is = e }
+  unfolding number_told
+  number-no e = record { told = ap (number_told s) e; is = e }
 
   pub number-as : {x y : Read Float} {r : NumberRead} → x ≡ y → NumberAt s x r → NumberAt s y r
-  number-as e a = record { told = a.told ∙ ap (numberTold s) e; is = a.is ∙ e }
+  number-as e a = record { told = a.told ∙ ap (number_told s) e; is = a.is ∙ e }
 
   pub name_of : (v p : ℕ) {x : Read ℕ} → p ≤ length s → got v (drop p s) ≡ x → NameAt s x (name.Of v p)
-  unfolding nameTold
-  name_of v p h e = record { told = ap (name.Of v) (behind s p h) ∙ ap (nameTold s) e; is = e }
+  unfolding name_told
+  name_of v p h e = record { told = ap (name.Of v) (behind s p h) ∙ ap (name_told s) e; is = e }
 
   pub name-no : {x : Read ℕ} → refused ≡ x → NameAt s x name.Refused
-  unfolding nameTold
-  name-no e = record { told = ap (nameTold s) e; is = e }
+  unfolding name_told
+  name-no e = record { told = ap (name_told s) e; is = e }
 
   pub name-as : {x y : Read ℕ} {r : NameRead} → x ≡ y → NameAt s x r → NameAt s y r
-  name-as e a = record { told = a.told ∙ ap (nameTold s) e; is = a.is ∙ e }
+  name-as e a = record { told = a.told ∙ ap (name_told s) e; is = a.is ∙ e }
 
 pub every-number-answer : EveryNumberAnswer
-unfolding numberTold
+unfolding number_told
 every-number-answer s (got x after) = refl
 every-number-answer s refused = refl
 
 pub every-name-answer : EveryNameAnswer
-unfolding nameTold
+unfolding name_told
 every-name-answer s (got n after) = refl
 every-name-answer s refused = refl
 
@@ -87,44 +87,44 @@ module _ (s : List ℕ) (at start most : ℕ) where
     pub on : at ≤ i
     pub upto : i ≤ at + (length s - at)
     pub below : n < most
-    pub same : digitsFrom most n (i - at) (drop i s) ≡ digitsFrom most start 0 (drop at s)
+    pub same : digits_from most n (i - at) (drop i s) ≡ digits_from most start 0 (drop at s)
 
   pub starts : start < most → Reading start at
   starts h = record { on = omega arith; upto = omega arith; below = h; same = let e : at - at ≡ 0 = omega arith in cc }
 
   -- the digits end at i
-  told_at : (n i : ℕ) → Reading n i → got (record { number = n; count = i - at }) (drop i s) ≡ digitsFrom most start 0 (drop at s)
-      → DigitsAt s (digitsFrom most start 0 (drop at s)) (digits.Of n (i - at) i)
+  told_at : (n i : ℕ) → Reading n i → got (record { number = n; count = i - at }) (drop i s) ≡ digits_from most start 0 (drop at s)
+      → DigitsAt s (digits_from most start 0 (drop at s)) (digits.Of n (i - at) i)
   told_at n i g e = record { is = e; within = λ k. omega (arith, g.on, g.upto) }
 
   module _ (n i : ℕ) (g : Reading n i) (h : i < length s) where
     -- the digits from i on, with the byte at i in front
-    front : digitsFrom most n (i - at) (get_or s i 0 ∷ drop (i + 1) s) ≡ digitsFrom most start 0 (drop at s)
-    front = ap (digitsFrom most n (i - at)) (sym (here s i h)) ∙ g.same
+    front : digits_from most n (i - at) (get_or s i 0 ∷ drop (i + 1) s) ≡ digits_from most start 0 (drop at s)
+    front = ap (digits_from most n (i - at)) (sym (here s i h)) ∙ g.same
 
-    ends_at : isDigit (get_or s i 0) ≡ false → DigitsAt s (digitsFrom most start 0 (drop at s)) (digits.Of n (i - at) i)
-    unfolding digitsFrom
+    ends_at : is_digit (get_or s i 0) ≡ false → DigitsAt s (digits_from most start 0 (drop at s)) (digits.Of n (i - at) i)
+    unfolding digits_from
     ends_at e = told_at n i g (ap (got (record { number = n; count = i - at })) (here s i h) ∙ rw e at front)
 
-    pub ends_low : get_or s i 0 < 48 → DigitsAt s (digitsFrom most start 0 (drop at s)) (digits.Of n (i - at) i)
+    pub ends_low : get_or s i 0 < 48 → DigitsAt s (digits_from most start 0 (drop at s)) (digits.Of n (i - at) i)
     ends_low l = ends_at (digit-no-low (get_or s i 0) l)
 
-    pub ends-high : 48 ≤ get_or s i 0 → 57 < get_or s i 0 → DigitsAt s (digitsFrom most start 0 (drop at s)) (digits.Of n (i - at) i)
+    pub ends-high : 48 ≤ get_or s i 0 → 57 < get_or s i 0 → DigitsAt s (digits_from most start 0 (drop at s)) (digits.Of n (i - at) i)
     ends-high l k = ends_at (digit-no-high (get_or s i 0) l k)
 
     module _ (l : 48 ≤ get_or s i 0) (k : get_or s i 0 ≤ 57) where
-      pub too_large : most ≤ n * 10 + (get_or s i 0 - 48) → DigitsAt s (digitsFrom most start 0 (drop at s)) digits.Refused
-      unfolding digitsFrom
+      pub too_large : most ≤ n * 10 + (get_or s i 0 - 48) → DigitsAt s (digits_from most start 0 (drop at s)) digits.Refused
+      unfolding digits_from
       too_large m = record { is = rw (digit-yes (get_or s i 0) l k, le-ltb (n * 10 + (get_or s i 0 - 48)) most m) at front; within = λ j. omega arith }
 
       pub again : n * 10 + (get_or s i 0 - 48) < most → Reading (n * 10 + (get_or s i 0 - 48)) (i + 1)
-      unfolding digitsFrom
+      unfolding digits_from
       again m =
           let c : i + 1 - at ≡ suc (i - at) = omega (arith, g.on) in
           record { on = omega (arith, g.on); upto = omega (arith, g.on, g.upto); below = m; same = rw c (rw (digit-yes (get_or s i 0) l k, lt-ltb (n * 10 + (get_or s i 0 - 48)) most m) at front) }
 
-  pub ends : (n i : ℕ) → Reading n i → length s ≤ i → DigitsAt s (digitsFrom most start 0 (drop at s)) (digits.Of n (i - at) i)
-  unfolding digitsFrom
+  pub ends : (n i : ℕ) → Reading n i → length s ≤ i → DigitsAt s (digits_from most start 0 (drop at s)) (digits.Of n (i - at) i)
+  unfolding digits_from
   ends n i g h = told_at n i g (ap (got (record { number = n; count = i - at })) (past s i h) ∙ rw (past s i h) at g.same)
 
 abbrev number_in : Read Run → ℕ
@@ -132,11 +132,11 @@ number_in (got r after) = r.number
 number_in refused = 0
 
 -- the number stays below
-below-from : (most n k : ℕ) (bs : List ℕ) {m c : ℕ} {after : List ℕ} → n < most → digitsFrom most n k bs ≡ got (record { number = m; count = c }) after → m < most
-unfolding digitsFrom
+below-from : (most n k : ℕ) (bs : List ℕ) {m c : ℕ} {after : List ℕ} → n < most → digits_from most n k bs ≡ got (record { number = m; count = c }) after → m < most
+unfolding digits_from
 below-from most n k [] h e = rw (ap number_in e) at h
 below-from most n k (b ∷ bs) {m} {c} {after} h e =
-    cases (isDigit b)
+    cases (is_digit b)
     (λ d. cases (ltb (n * 10 + (b - 48)) most) (λ l. below-from most (n * 10 + (b - 48)) (suc k) bs (ltb-true (n * 10 + (b - 48)) most l) (rw (d, l) at e))
     (λ l. let f = rw (d, l) at e in absurd (let z : ◌≡◌ {A = ℕ} 0 1 = cc in omega arith)))
     (λ d. rw (ap number_in (rw d at e)) at h)
@@ -144,55 +144,55 @@ below-from most n k (b ∷ bs) {m} {c} {after} h e =
 -- ---- what a call gave
 
 -- what was matched of a call's result, as a reading
-matched : (s : List ℕ) {x : Read Run} {r k : DigitsRead} → digitsIs s r ≡ x → r ≡ k → x ≡ digitsIs s k
-matched s e f = sym e ∙ ap (digitsIs s) f
+matched : (s : List ℕ) {x : Read Run} {r k : DigitsRead} → digits_is s r ≡ x → r ≡ k → x ≡ digits_is s k
+matched s e f = sym e ∙ ap (digits_is s) f
 
 -- the position past one digit or more
 within_of : (s : List ℕ) {x : Read Run} {r : DigitsRead} {n k p : ℕ} → DigitsAt s x r → r ≡ digits.Of n k p → 0 < k → p ≤ length s
-within_of s {n} {k} {p} d f h = subst (λ (q : DigitsRead). 0 < countIn q → pastIn q ≤ length s) f d.within h
+within_of s {n} {k} {p} d f h = subst (λ (q : DigitsRead). 0 < count_in q → past_in q ≤ length s) f d.within h
 
-pub digits-below : (s : List ℕ) (at start most : ℕ) {n k p : ℕ} {r : DigitsRead} → DigitsAt s (digitsFrom most start 0 (drop at s)) r → r ≡ digits.Of n k p → start < most → n < most
+pub digits-below : (s : List ℕ) (at start most : ℕ) {n k p : ℕ} {r : DigitsRead} → DigitsAt s (digits_from most start 0 (drop at s)) r → r ≡ digits.Of n k p → start < most → n < most
 digits-below s at start most e f h = below-from most start 0 (drop at s) h (matched s e.is f)
 
-pub symbol-fits : (s : List ℕ) (at : ℕ) {n k p : ℕ} {r : DigitsRead} → DigitsAt s (digitsFrom 65536 0 0 (drop at s)) r → r ≡ digits.Of n k p → Fits w16 n
+pub symbol-fits : (s : List ℕ) (at : ℕ) {n k p : ℕ} {r : DigitsRead} → DigitsAt s (digits_from 65536 0 0 (drop at s)) r → r ≡ digits.Of n k p → Fits w16 n
 symbol-fits s at e f = record { fits = digits-below s at 0 65536 e f (omega arith) }
 
 -- ---- what a number means
 
-pub value-plain : (minus : Bool) (n d : ℕ) {c : ℕ} → n < mostNumber → d ≤ mostDecimals → c ≡ 10 ^ d → minus ≡ false → div binary32 (of_int binary32 (pos n)) (of_int binary32 (pos c)) ≡ float_of minus n d
+pub value-plain : (minus : Bool) (n d : ℕ) {c : ℕ} → n < most_number → d ≤ most_decimals → c ≡ 10 ^ d → minus ≡ false → div binary32 (of_int binary32 (pos n)) (of_int binary32 (pos c)) ≡ float_of minus n d
 value-plain minus n d h k e f = rw (e, f) (quotient n d h k)
 
-pub value-minus : (minus : Bool) (n d : ℕ) {c : ℕ} → n < mostNumber → d ≤ mostDecimals → c ≡ 10 ^ d → minus ≡ true → neg (div binary32 (of_int binary32 (pos n)) (of_int binary32 (pos c))) ≡ float_of minus n d
+pub value-minus : (minus : Bool) (n d : ℕ) {c : ℕ} → n < most_number → d ≤ most_decimals → c ≡ 10 ^ d → minus ≡ true → neg (div binary32 (of_int binary32 (pos n)) (of_int binary32 (pos c))) ≡ float_of minus n d
 value-minus minus n d h k e f = ap neg (value-plain false n d h k e refl) ∙ minus-float n d ∙ ap (λ (t : Bool). float_of t n d) (sym f)
 
 -- ---- decimals
 
-module _ (s : List ℕ) (at : ℕ) (minus : Bool) (n : ℕ) {r : DigitsRead} (e : DigitsAt s (digitsFrom mostNumber n 0 (drop at s)) r) where
+module _ (s : List ℕ) (at : ℕ) (minus : Bool) (n : ℕ) {r : DigitsRead} (e : DigitsAt s (digits_from most_number n 0 (drop at s)) r) where
   module _ {m k p : ℕ} (f : r ≡ digits.Of m k p) where
-    pub decimals-none : k ≡ 0 → NumberAt s (decimalsFrom minus n (drop at s)) number.Refused
-    unfolding decimalsFrom
+    pub decimals-none : k ≡ 0 → NumberAt s (decimals_from minus n (drop at s)) number.Refused
+    unfolding decimals_from
     decimals-none h = number-no s (sym (rw (matched s e.is f, h)))
 
-    pub decimals-many : 3 < k → NumberAt s (decimalsFrom minus n (drop at s)) number.Refused
-    unfolding decimalsFrom
+    pub decimals-many : 3 < k → NumberAt s (decimals_from minus n (drop at s)) number.Refused
+    unfolding decimals_from
     decimals-many h = number-no s (sym (rw (matched s e.is f, le-leb 1 k (omega arith), lt-leb k 3 h)))
 
-    pub decimals-are : (k ≡ 0 → ⊥) → k ≤ 3 → {x : Float} → x ≡ float_of minus m k → NumberAt s (decimalsFrom minus n (drop at s)) (number.Of x p)
-    unfolding decimalsFrom
+    pub decimals-are : (k ≡ 0 → ⊥) → k ≤ 3 → {x : Float} → x ≡ float_of minus m k → NumberAt s (decimals_from minus n (drop at s)) (number.Of x p)
+    unfolding decimals_from
     decimals-are h l {x} g =
         let o : 1 ≤ k = omega arith in
         number_of s x p (within_of s e f o) (ap (λ (y : Float). got y (drop p s)) g ∙ sym (rw (matched s e.is f, le-leb 1 k o, le-leb k 3 l)))
 
-  pub decimals-no : r ≡ digits.Refused → NumberAt s (decimalsFrom minus n (drop at s)) number.Refused
-  unfolding decimalsFrom
+  pub decimals-no : r ≡ digits.Refused → NumberAt s (decimals_from minus n (drop at s)) number.Refused
+  unfolding decimals_from
   decimals-no f = number-no s (sym (rw (matched s e.is f)))
 
 -- ---- behind the sign
 
-module _ (s : List ℕ) (at : ℕ) (minus : Bool) {r : DigitsRead} (e : DigitsAt s (digitsFrom mostNumber 0 0 (drop at s)) r) where
+module _ (s : List ℕ) (at : ℕ) (minus : Bool) {r : DigitsRead} (e : DigitsAt s (digits_from most_number 0 0 (drop at s)) r) where
   module _ {m k p : ℕ} (f : r ≡ digits.Of m k p) where
-    pub unsigned-none : k ≡ 0 → NumberAt s (unsignedFrom minus (drop at s)) number.Refused
-    unfolding unsignedFrom
+    pub unsigned-none : k ≡ 0 → NumberAt s (unsigned_from minus (drop at s)) number.Refused
+    unfolding unsigned_from
     unsigned-none h = number-no s (sym (rw (matched s e.is f, h)))
 
     module _ (h : k ≡ 0 → ⊥) {t : Bool} (g : Starts s p 46 t) where
@@ -202,55 +202,55 @@ module _ (s : List ℕ) (at : ℕ) (minus : Bool) {r : DigitsRead} (e : DigitsAt
       some : leb 1 k ≡ true
       some = le-leb 1 k one
 
-      pub unsigned-point : t ≡ true → {x : NumberRead} → NumberAt s (decimalsFrom minus m (drop (p + 1) s)) x → NumberAt s (unsignedFrom minus (drop at s)) x
-      unfolding unsignedFrom
-      unsigned-point y = number-as s (ap (decimalsFrom minus m) (sym (rest-drop s p)) ∙ sym (rw (matched s e.is f, some, sym g.is ∙ y)))
+      pub unsigned-point : t ≡ true → {x : NumberRead} → NumberAt s (decimals_from minus m (drop (p + 1) s)) x → NumberAt s (unsigned_from minus (drop at s)) x
+      unfolding unsigned_from
+      unsigned-point y = number-as s (ap (decimals_from minus m) (sym (rest-drop s p)) ∙ sym (rw (matched s e.is f, some, sym g.is ∙ y)))
 
-      pub unsigned-plain : t ≡ false → {x : Float} → x ≡ float_of minus m 0 → NumberAt s (unsignedFrom minus (drop at s)) (number.Of x p)
-      unfolding unsignedFrom withoutPoint
+      pub unsigned-plain : t ≡ false → {x : Float} → x ≡ float_of minus m 0 → NumberAt s (unsigned_from minus (drop at s)) (number.Of x p)
+      unfolding unsigned_from without_point
       unsigned-plain y {x} z =
           number_of s x p (within_of s e f one) (ap (λ (w : Float). got w (drop p s)) z ∙ sym (rw (matched s e.is f, some, sym g.is ∙ y)))
 
-  pub unsigned-no : r ≡ digits.Refused → NumberAt s (unsignedFrom minus (drop at s)) number.Refused
-  unfolding unsignedFrom
+  pub unsigned-no : r ≡ digits.Refused → NumberAt s (unsigned_from minus (drop at s)) number.Refused
+  unfolding unsigned_from
   unsigned-no f = number-no s (sym (rw (matched s e.is f)))
 
 -- ---- a number
 
 module _ (s : List ℕ) (at : ℕ) {t : Bool} (g : Starts s at 45 t) where
-  pub number-minus : t ≡ true → {x : NumberRead} → NumberAt s (unsignedFrom true (drop (at + 1) s)) x → NumberAt s (numberFrom (drop at s)) x
-  unfolding numberFrom
-  number-minus y = number-as s (ap (unsignedFrom true) (sym (rest-drop s at)) ∙ sym (cond-true _ _ (sym g.is ∙ y)))
+  pub number-minus : t ≡ true → {x : NumberRead} → NumberAt s (unsigned_from true (drop (at + 1) s)) x → NumberAt s (number_from (drop at s)) x
+  unfolding number_from
+  number-minus y = number-as s (ap (unsigned_from true) (sym (rest-drop s at)) ∙ sym (cond-true _ _ (sym g.is ∙ y)))
 
-  pub number-plain : t ≡ false → {x : NumberRead} → NumberAt s (unsignedFrom false (drop at s)) x → NumberAt s (numberFrom (drop at s)) x
-  unfolding numberFrom
+  pub number-plain : t ≡ false → {x : NumberRead} → NumberAt s (unsigned_from false (drop at s)) x → NumberAt s (number_from (drop at s)) x
+  unfolding number_from
   number-plain y = number-as s (sym (cond-false _ _ (sym g.is ∙ y)))
 
 -- ---- a name
 
 module _ (s : List ℕ) (at : ℕ) {t : Bool} (g : Starts s at 48 t) where
-  pub symbol-zero : t ≡ true → NameAt s (symbolFrom (drop at s)) (name.Of 0 (at + 1))
-  unfolding symbolFrom
+  pub symbol-zero : t ≡ true → NameAt s (symbol_from (drop at s)) (name.Of 0 (at + 1))
+  unfolding symbol_from
   symbol-zero y = name_of s 0 (at + 1) (omega (arith, g.within y)) (ap (got 0) (sym (rest-drop s at)) ∙ sym (cond-true _ _ (sym g.is ∙ y)))
 
-  module _ (y : t ≡ false) {r : DigitsRead} (e : DigitsAt s (digitsFrom 65536 0 0 (drop at s)) r) where
-    pub symbol-none : {m k p : ℕ} → r ≡ digits.Of m k p → k ≡ 0 → NameAt s (symbolFrom (drop at s)) name.Refused
-    unfolding symbolFrom
+  module _ (y : t ≡ false) {r : DigitsRead} (e : DigitsAt s (digits_from 65536 0 0 (drop at s)) r) where
+    pub symbol-none : {m k p : ℕ} → r ≡ digits.Of m k p → k ≡ 0 → NameAt s (symbol_from (drop at s)) name.Refused
+    unfolding symbol_from
     symbol-none f h = name-no s (sym (rw (sym g.is ∙ y, matched s e.is f, h)))
 
-    pub symbol-is : {m k p : ℕ} → r ≡ digits.Of m k p → (k ≡ 0 → ⊥) → NameAt s (symbolFrom (drop at s)) (name.Of m p)
-    unfolding symbolFrom
+    pub symbol-is : {m k p : ℕ} → r ≡ digits.Of m k p → (k ≡ 0 → ⊥) → NameAt s (symbol_from (drop at s)) (name.Of m p)
+    unfolding symbol_from
     symbol-is {m} {k} {p} f h = let o : 1 ≤ k = omega arith in name_of s m p (within_of s e f o) (sym (rw (sym g.is ∙ y, matched s e.is f, le-leb 1 k o)))
 
-    pub symbol-no : r ≡ digits.Refused → NameAt s (symbolFrom (drop at s)) name.Refused
-    unfolding symbolFrom
+    pub symbol-no : r ≡ digits.Refused → NameAt s (symbol_from (drop at s)) name.Refused
+    unfolding symbol_from
     symbol-no f = name-no s (sym (rw (sym g.is ∙ y, matched s e.is f)))
 
 module _ (s : List ℕ) (at : ℕ) {t : Bool} (g : Starts s at 115 t) where
-  pub name-symbol : t ≡ true → {x : NameRead} → NameAt s (symbolFrom (drop (at + 1) s)) x → NameAt s (nameFrom (drop at s)) x
-  unfolding nameFrom
-  name-symbol y = name-as s (ap symbolFrom (sym (rest-drop s at)) ∙ sym (cond-true _ _ (sym g.is ∙ y)))
+  pub name-symbol : t ≡ true → {x : NameRead} → NameAt s (symbol_from (drop (at + 1) s)) x → NameAt s (name_from (drop at s)) x
+  unfolding name_from
+  name-symbol y = name-as s (ap symbol_from (sym (rest-drop s at)) ∙ sym (cond-true _ _ (sym g.is ∙ y)))
 
-  pub no_name : t ≡ false → NameAt s (nameFrom (drop at s)) name.Refused
-  unfolding nameFrom
+  pub no_name : t ≡ false → NameAt s (name_from (drop at s)) name.Refused
+  unfolding name_from
   no_name y = name-no s (sym (cond-false _ _ (sym g.is ∙ y)))

@@ -1,7 +1,7 @@
 // Numbers and names in text, read at any position among bytes. A result is what was read and the position past it.
 ghost use Rattle.std.specs.Prelude.{◌≡◌, ◌^◌, ◌<◌, ◌≤◌, drop};
-ghost use Rattle.text_numerals.specs.Numeral.{mostNumber, mostDecimals, float_of};
-ghost use Rattle.text_numerals.specs.inside.Reading.{digitsFrom, decimalsFrom, unsignedFrom, numberFrom, symbolFrom, nameFrom};
+ghost use Rattle.text_numerals.specs.Numeral.{most_number, most_decimals, float_of};
+ghost use Rattle.text_numerals.specs.inside.Reading.{digits_from, decimals_from, unsigned_from, number_from, symbol_from, name_from};
 ghost use Rattle.text_number_reader.specs.Results.{NumberAt, NameAt, DigitsAt, Starts};
 
 const MINUS: u8 = 45;
@@ -54,8 +54,8 @@ pub fn starts_with(s: &[u8], at: usize, b: u8) -> bool
 
 // Every digit from a position on, behind the number `start`; the number stays below `most`.
 fn digits_at(s: &[u8], at: usize, start: u32, most: u32) -> DigitsRead
-    requires { (start < most) × (most ≤ mostNumber) }
-    ensures { DigitsAt s.now (digitsFrom most start 0 (drop at s.now)) result }
+    requires { (start < most) × (most ≤ most_number) }
+    ensures { DigitsAt s.now (digits_from most start 0 (drop at s.now)) result }
 {
     let mut n = start;
     let mut i = at;
@@ -79,7 +79,7 @@ fn digits_at(s: &[u8], at: usize, start: u32, most: u32) -> DigitsRead
 
 // 10 to the power d.
 fn power_of_ten(d: usize) -> u16
-    requires { d ≤ mostDecimals }
+    requires { d ≤ most_decimals }
     ensures { result ≡ 10 ^ d }
 {
     match d {
@@ -92,7 +92,7 @@ fn power_of_ten(d: usize) -> u16
 
 // What a minus or none, n and d decimals mean: one division, rounded once.
 fn value(minus: bool, n: u32, d: usize) -> f32
-    requires { (n < mostNumber) × (d ≤ mostDecimals) }
+    requires { (n < most_number) × (d ≤ most_decimals) }
     ensures { result ≡ float_of minus n d }
 {
     let x = (n as f32) / (power_of_ten(d) as f32);
@@ -104,8 +104,8 @@ fn value(minus: bool, n: u32, d: usize) -> f32
 
 // Behind the point: one to three decimals.
 fn decimals_at(s: &[u8], at: usize, minus: bool, n: u32) -> NumberRead
-    requires { n < mostNumber }
-    ensures { NumberAt s.now (decimalsFrom minus n (drop at s.now)) result }
+    requires { n < most_number }
+    ensures { NumberAt s.now (decimals_from minus n (drop at s.now)) result }
 {
     match digits_at(s, at, n, MOST_NUMBER) {
         DigitsRead::Of(all, count, next) => {
@@ -123,7 +123,7 @@ fn decimals_at(s: &[u8], at: usize, minus: bool, n: u32) -> NumberRead
 
 // Behind the sign: one digit or more, and then a point or none.
 fn unsigned_at(s: &[u8], at: usize, minus: bool) -> NumberRead
-    ensures { NumberAt s.now (unsignedFrom minus (drop at s.now)) result }
+    ensures { NumberAt s.now (unsigned_from minus (drop at s.now)) result }
 {
     match digits_at(s, at, 0, MOST_NUMBER) {
         DigitsRead::Of(whole, count, next) => {
@@ -141,7 +141,7 @@ fn unsigned_at(s: &[u8], at: usize, minus: bool) -> NumberRead
 
 // A number.
 pub fn number_at(s: &[u8], at: usize) -> NumberRead
-    ensures { NumberAt s.now (numberFrom (drop at s.now)) result }
+    ensures { NumberAt s.now (number_from (drop at s.now)) result }
 {
     if starts_with(s, at, MINUS) {
         return unsigned_at(s, at + 1, true);
@@ -151,7 +151,7 @@ pub fn number_at(s: &[u8], at: usize) -> NumberRead
 
 // Behind the s: a lone 0, or digits of which the first is none.
 fn symbol_at(s: &[u8], at: usize) -> NameRead
-    ensures { NameAt s.now (symbolFrom (drop at s.now)) result }
+    ensures { NameAt s.now (symbol_from (drop at s.now)) result }
 {
     if starts_with(s, at, ZERO) {
         return NameRead::Of(0, at + 1);
@@ -169,7 +169,7 @@ fn symbol_at(s: &[u8], at: usize) -> NameRead
 
 // A name: an s and a symbol.
 pub fn name_at(s: &[u8], at: usize) -> NameRead
-    ensures { NameAt s.now (nameFrom (drop at s.now)) result }
+    ensures { NameAt s.now (name_from (drop at s.now)) result }
 {
     if starts_with(s, at, NAME_LETTER) {
         return symbol_at(s, at + 1);

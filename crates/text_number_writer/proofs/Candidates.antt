@@ -16,14 +16,14 @@ use lib.Ieee.Fits.{down_pos, round-fits}
 use lib.Ieee.Nearest.{div_same}
 use lib.Ieee.Scale.{grid, finite}
 use Rattle.base_laws.proofs.Choice.{both_true}
-use Rattle.text_numerals.specs.Numeral.{mostNumber, mostDecimals, float_of}
+use Rattle.text_numerals.specs.Numeral.{most_number, most_decimals, float_of}
 use Rattle.text_numerals.specs.Nearest.{sign_of}
 use Rattle.text_numerals.specs.Shortest.{Reads}
 use Rattle.text_numerals.proofs.Quotient.{ten-pos, ten-mono}
 use Rattle.text_numerals.proofs.Units.{Fraction, close, value, sign-of-value, sign-of-round, finite-value}
 use Rattle.text_number_writer.specs.Answers.{Around}
 
-fraction : {n d : ℕ} → n < mostNumber → d ≤ mostDecimals → Fraction n (10 ^ d)
+fraction : {n d : ℕ} → n < most_number → d ≤ most_decimals → Fraction n (10 ^ d)
 fraction {d = d} h k = record { below = h; some = ten-pos d; most = ten-mono k }
 
 -- ---- by the float's units
@@ -40,7 +40,7 @@ between a n p P h k =
     let hi : n ≤ suc f = le_of_suc-le-suc (lt_of_mul-lt-mul_right p (rw (suc-mul (suc f) p, suc-mul f p) (omega (arith, lt-div-mul-add {a = a} {b = p} P)))) in
     elim (eq-or-lt_of_le lo) [ inl e ↦ inl (sym e) | inr l ↦ inr (le_antisymm hi l) ]
 
-around-units : (x : Float) (s : Bool) (u d : ℕ) → d ≤ mostDecimals → (T (finite x) → HasValue x s u (2 ^ 149)) → Around x d (u * 10 ^ d / 2 ^ 149)
+around-units : (x : Float) (s : Bool) (u d : ℕ) → d ≤ most_decimals → (T (finite x) → HasValue x s u (2 ^ 149)) → Around x d (u * 10 ^ d / 2 ^ 149)
 unfolding Around float_of
 around-units x s u d D v n h r =
     let c = 10 ^ d in
@@ -79,23 +79,23 @@ pub fields-of : (x : Float) (b : ℕ) → T (fits binary32 x) → b ≡ to_bits 
 fields-of x b t e =
     rw e (record { sign = leb (2 ^ 31) (to_bits binary32 x); is = of-fields x t; digits = mod-lt (to_bits binary32 x) (pow_pos 23) })
 
-by-fields : (x : Float) (e t u d : ℕ) (f : Fields x e t) → d ≤ mostDecimals
+by-fields : (x : Float) (e t u d : ℕ) (f : Fields x e t) → d ≤ most_decimals
     → (T (finite (of_fields binary32 f.sign e t)) → HasValue (of_fields binary32 f.sign e t) f.sign u (2 ^ 149)) → Around x d (u * 10 ^ d / 2 ^ 149)
 by-fields x e t u d f D v = around-units x f.sign u d D (subst (λ (z : Float). T (finite z) → HasValue z f.sign u (2 ^ 149)) (sym f.is) v)
 
-tiny : (m d k : ℕ) → m < 2 ^ 24 → d ≤ mostDecimals → k ≤ 109 → m * 2 ^ k * 10 ^ d / 2 ^ 149 ≡ 0
+tiny : (m d k : ℕ) → m < 2 ^ 24 → d ≤ most_decimals → k ≤ 109 → m * 2 ^ k * 10 ^ d / 2 ^ 149 ≡ 0
 tiny m d k h D K =
     div-eq_of_lt
     (lt_of_le_of_lt (mul-le-mul_left (m * 2 ^ k) (ten-mono D))
     (lt_of_le_of_lt (mul-le-mul_right 1000 (mul-le-mul_left m (pow_mono K)))
     (lt_of_lt_of_le (mul-lt-mul_of_pos_right (mul-lt-mul_of_pos_right h (pow_pos 109)) (lit≤ tt)) (lit≤ tt))))
 
-pub around-low : (x : Float) (e t d : ℕ) → d ≤ mostDecimals → Fields x e t → e < 110 → Around x d 0
+pub around-low : (x : Float) (e t d : ℕ) → d ≤ most_decimals → Fields x e t → e < 110 → Around x d 0
 around-low x zero t d D f h = subst (Around x d) (tiny t d 0 (omega (arith, f.digits)) D (omega arith)) (by-fields x 0 t (t * 2 ^ 0) d f D (low_field f.sign 0 t refl))
 around-low x (suc k) t d D f h =
     subst (Around x d) (tiny (8388608 + t) d k (omega (arith, f.digits)) D (omega arith)) (by-fields x (suc k) t ((8388608 + t) * 2 ^ k) d f D (high-field f.sign k t))
 
-middle : (x : Float) (e t d : ℕ) → d ≤ mostDecimals → Fields x e t → 110 ≤ e → e ≤ 150 → Around x d ((8388608 + t) * 10 ^ d / 2 ^ (150 - e))
+middle : (x : Float) (e t d : ℕ) → d ≤ most_decimals → Fields x e t → 110 ≤ e → e ≤ 150 → Around x d ((8388608 + t) * 10 ^ d / 2 ^ (150 - e))
 middle x zero t d D f h l = absurd (let z : 110 ≤ 0 = h in omega arith)
 middle x (suc k) t d D f h l =
     let m = 8388608 + t in
@@ -106,7 +106,7 @@ middle x (suc k) t d D f h l =
     let g : m * 2 ^ k * c / 2 ^ 149 ≡ m * c / 2 ^ (150 - suc k) = cc (mul_right_comm m c (2 ^ k), pow-add 2 (149 - k) k) in
     subst (Around x d) g (by-fields x (suc k) t (m * 2 ^ k) d f D (high-field f.sign k t))
 
-pub around-middle : (x : Float) (e t d p : ℕ) → d ≤ mostDecimals → (p ≡ 10 ^ d) × (0 < p) → Fields x e t → 110 ≤ e → e ≤ 150 → Around x d ((8388608 + t) * p / 2 ^ (150 - e))
+pub around-middle : (x : Float) (e t d p : ℕ) → d ≤ most_decimals → (p ≡ 10 ^ d) × (0 < p) → Fields x e t → 110 ≤ e → e ≤ 150 → Around x d ((8388608 + t) * p / 2 ^ (150 - e))
 around-middle x e t d p D q f h l = rw q.0 (middle x e t d D f h l)
 
 -- the largest numbers stand for those past them
@@ -117,7 +117,7 @@ around-last x d f a h n l r = elim (a n l r) [ inl e ↦ last (omega arith) | in
     last : 16777214 ≤ n → (n ≡ 16777214) ⊎ (n ≡ 16777215)
     last g = elim (eq-or-lt_of_le g) [ inl e ↦ inl (sym e) | inr k ↦ inr (omega arith) ]
 
-pub around-high : (x : Float) (e t d : ℕ) → d ≤ mostDecimals → Fields x e t → 150 < e → Around x d 16777214
+pub around-high : (x : Float) (e t d : ℕ) → d ≤ most_decimals → Fields x e t → 150 < e → Around x d 16777214
 around-high x zero t d D f h = absurd (let z : 150 < 0 = h in omega arith)
 around-high x (suc k) t d D f h =
     let m = 8388608 + t in
@@ -171,7 +171,7 @@ same (fin t m d) (fin u n g) p q s e =
     subst (λ (z : Bool). T (fits binary32 (fin z n g)) → fin t m d ≡ fin z n g) s (λ (y : T (fits binary32 (fin t n g))). one_way t m n d g p y c) q
 
 -- what passes the test reads as x
-pub passed : (x : Float) (n d : ℕ) → T (fits binary32 x) → n < mostNumber → d ≤ mostDecimals → eq (float_of (sign_of x) n d) x ≡ true → Reads x n d
+pub passed : (x : Float) (n d : ℕ) → T (fits binary32 x) → n < most_number → d ≤ most_decimals → eq (float_of (sign_of x) n d) x ≡ true → Reads x n d
 unfolding float_of
 passed x n d t h D e = same (round binary32 (sign_of x) n (10 ^ d)) x (round-fits binary32 (sign_of x) n (10 ^ d)) t (sign-of-round (sign_of x) n (10 ^ d) (fraction h D)) e
 
@@ -183,7 +183,7 @@ equals_itself (fin false m e) s a c h = cc (eq-eqb (m * up e * down e) (m * up e
 equals_itself (fin true m e) s a c h = cc (eq-eqb (m * up e * down e) (m * up e * down e) refl)
 
 -- what fails it does not
-pub failed : (x : Float) (n d : ℕ) → n < mostNumber → d ≤ mostDecimals → eq (float_of (sign_of x) n d) x ≡ false → Reads x n d → ⊥
+pub failed : (x : Float) (n d : ℕ) → n < most_number → d ≤ most_decimals → eq (float_of (sign_of x) n d) x ≡ false → Reads x n d → ⊥
 unfolding float_of
 failed x n d h D e r =
     let y = round binary32 (sign_of x) n (10 ^ d) in

@@ -8,7 +8,7 @@ use native.Mathlib.Omega.{arith}
 use lib.Dec.{T}
 use lib.IntN.{pos}
 use lib.Ieee.{Float, binary32, fits, eq, neg, div, of_int}
-use Rattle.text_numerals.specs.Numeral.{mostNumber, mostDecimals, float_of}
+use Rattle.text_numerals.specs.Numeral.{most_number, most_decimals, float_of}
 use Rattle.text_numerals.specs.Nearest.{sign_of}
 use Rattle.text_numerals.specs.Shortest.{Reads}
 use Rattle.text_numerals.proofs.Quotient.{quotient}
@@ -20,19 +20,19 @@ use Rattle.text_number_writer.specs.declared.NumberText.TheVariants as text
 use Rattle.text_number_writer.proofs.Candidates.{passed, failed}
 
 -- ---- one value
-over : (n d c : ℕ) → n < mostNumber → d ≤ mostDecimals → c ≡ 10 ^ d → div binary32 (of_int binary32 (pos n)) (of_int binary32 (pos c)) ≡ float_of false n d
+over : (n d c : ℕ) → n < most_number → d ≤ most_decimals → c ≡ 10 ^ d → div binary32 (of_int binary32 (pos n)) (of_int binary32 (pos c)) ≡ float_of false n d
 over n d c h D e = ap (λ (z : ℕ). div binary32 (of_int binary32 (pos n)) (of_int binary32 (pos z))) e ∙ quotient n d h D
 
-pub value-plain : (s : Bool) (n d c : ℕ) → (n < mostNumber) × (d ≤ mostDecimals) → (c ≡ 10 ^ d) × (0 < c) → s ≡ false
+pub value-plain : (s : Bool) (n d c : ℕ) → (n < most_number) × (d ≤ most_decimals) → (c ≡ 10 ^ d) × (0 < c) → s ≡ false
     → div binary32 (of_int binary32 (pos n)) (of_int binary32 (pos c)) ≡ float_of s n d
 value-plain s n d c h e f = over n d c h.0 h.1 e.0 ∙ ap (λ (b : Bool). float_of b n d) (sym f)
 
-pub value-minus : (s : Bool) (n d c : ℕ) → (n < mostNumber) × (d ≤ mostDecimals) → (c ≡ 10 ^ d) × (0 < c) → s ≡ true
+pub value-minus : (s : Bool) (n d c : ℕ) → (n < most_number) × (d ≤ most_decimals) → (c ≡ 10 ^ d) × (0 < c) → s ≡ true
     → neg (div binary32 (of_int binary32 (pos n)) (of_int binary32 (pos c))) ≡ float_of s n d
 value-minus s n d c h e f = ap neg (over n d c h.0 h.1 e.0) ∙ minus-float n d ∙ ap (λ (b : Bool). float_of b n d) (sym f)
 
 -- ---- with d decimals
-pub first : (x : Float) (d n : ℕ) {b : Bool} → T (fits binary32 x) → d ≤ mostDecimals → Around x d n × (n < 16777215) → b ≡ eq (float_of (sign_of x) n d) x → b ≡ true
+pub first : (x : Float) (d n : ℕ) {b : Bool} → T (fits binary32 x) → d ≤ most_decimals → Around x d n × (n < 16777215) → b ≡ eq (float_of (sign_of x) n d) x → b ≡ true
     → LeastIs x d (found.Number n)
 unfolding LeastIs Around
 first x d n t D a e f = record {
@@ -42,8 +42,8 @@ first x d n t D a e f = record {
 }
 
 -- the first does not read as x, so only the next can
-left : (x : Float) (d n k : ℕ) {b : Bool} → d ≤ mostDecimals → Around x d n × (n < 16777215) → b ≡ eq (float_of (sign_of x) n d) x → b ≡ false
-    → k < mostNumber → Reads x k d → k ≡ n + 1
+left : (x : Float) (d n k : ℕ) {b : Bool} → d ≤ most_decimals → Around x d n × (n < 16777215) → b ≡ eq (float_of (sign_of x) n d) x → b ≡ false
+    → k < most_number → Reads x k d → k ≡ n + 1
 unfolding Around
 left x d n k D a e f h r =
     elim (a.0 k h r) [
@@ -51,7 +51,7 @@ left x d n k D a e f h r =
       | inr z ↦ omega arith
     ]
 
-pub second : (x : Float) (d n : ℕ) {b c : Bool} → T (fits binary32 x) → d ≤ mostDecimals → Around x d n × (n < 16777215) → b ≡ eq (float_of (sign_of x) n d) x → b ≡ false
+pub second : (x : Float) (d n : ℕ) {b c : Bool} → T (fits binary32 x) → d ≤ most_decimals → Around x d n × (n < 16777215) → b ≡ eq (float_of (sign_of x) n d) x → b ≡ false
     → c ≡ eq (float_of (sign_of x) (n + 1) d) x → c ≡ true → LeastIs x d (found.Number (n + 1))
 unfolding LeastIs
 second x d n t D a e f g h = record {
@@ -60,7 +60,7 @@ second x d n t D a e f g h = record {
   least = λ k l r. omega (arith, left x d n k D a e f (omega (arith, a.1)) r);
 }
 
-pub neither : (x : Float) (d n : ℕ) {b c : Bool} → d ≤ mostDecimals → Around x d n × (n < 16777215) → b ≡ eq (float_of (sign_of x) n d) x → b ≡ false
+pub neither : (x : Float) (d n : ℕ) {b c : Bool} → d ≤ most_decimals → Around x d n × (n < 16777215) → b ≡ eq (float_of (sign_of x) n d) x → b ≡ false
     → c ≡ eq (float_of (sign_of x) (n + 1) d) x → c ≡ false → LeastIs x d found.None
 unfolding LeastIs
 neither x d n D a e f g h k l r = failed x (n + 1) d (omega (arith, a.1)) D (sym g ∙ h) (subst (λ (m : ℕ). Reads x m d) (left x d n k D a e f l r) r)

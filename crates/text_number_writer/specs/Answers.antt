@@ -1,6 +1,6 @@
 -- What the search for a float's shortest text answers. Definitions and a statement only.
 use Rattle.std.specs.Prelude.{ℕ, suc, ◌<◌, ◌≡◌, ◌⊎◌, Float}
-use Rattle.text_numerals.specs.Numeral.{mostNumber}
+use Rattle.text_numerals.specs.Numeral.{most_number}
 use Rattle.text_numerals.specs.Shortest.{Reads, Shortest, NoText}
 use Rattle.text_number_writer.specs.declared.Found.{Found}
 use Rattle.text_number_writer.specs.declared.Found.TheVariants as found
@@ -27,15 +27,15 @@ EveryAnswer = (x : Float) (r : NumberText) → TextIs x r → Answers x r
 
 -- only f and the next number can read as x
 unfoldable pub Around : Float → ℕ → ℕ → Type 0
-Around x d f = (n : ℕ) → n < mostNumber → Reads x n d → (n ≡ f) ⊎ (n ≡ suc f)
+Around x d f = (n : ℕ) → n < most_number → Reads x n d → (n ≡ f) ⊎ (n ≡ suc f)
 
 pub record Least (x : Float) (d n : ℕ) : Type 0 where
-  pub below : n < mostNumber
+  pub below : n < most_number
   pub reads : Reads x n d
   pub least : (k : ℕ) → k < n → Reads x k d → ⊥
 
 abbrev pub NoNumber : Float → ℕ → Type 0
-NoNumber x d = (n : ℕ) → n < mostNumber → Reads x n d → ⊥
+NoNumber x d = (n : ℕ) → n < most_number → Reads x n d → ⊥
 
 unfoldable pub LeastIs : Float → ℕ → Found → Type 0
 LeastIs x d (found.Number n) = Least x d n

@@ -1,9 +1,9 @@
 // Numbers and names written as text: a float's shortest text, and bytes put behind each other in a line of text.
 ghost use Rattle.std.specs.Prelude.{◌≡◌, ◌<◌, ◌≤◌, ◌^◌, ◌+◌, ◌/◌, ◌%◌, min as lesser};
 ghost use Rattle.std.specs.Float.Ieee as Ieee;
-ghost use Rattle.text_numerals.specs.Numeral.{float_of, digitBytes, lowest, width_of, decimal, signBytes, decimalBytes, numeralOf, encoded, nameBytes};
+ghost use Rattle.text_numerals.specs.Numeral.{float_of, digit_bytes, lowest, width_of, decimal, sign_bytes, decimal_bytes, numeral_of, encoded, name_bytes};
 ghost use Rattle.text_numerals.specs.Nearest.{sign_of};
-ghost use Rattle.text_number_writer.specs.Push.{emptyText, pushed, pushAll};
+ghost use Rattle.text_number_writer.specs.Push.{empty_text, pushed, push_all};
 ghost use Rattle.text_number_writer.specs.Answers.{TextIs, Around, LeastIs};
 
 // A number's text: all its digits as one number, and how many of them are decimals; or none.
@@ -146,7 +146,7 @@ pub fn shortest(x: f32) -> NumberText
 // ---- a line of text
 
 pub fn empty() -> LineText
-    ensures { result ≡ emptyText }
+    ensures { result ≡ empty_text }
 {
     LineText {
         bytes: [0; 128],
@@ -171,7 +171,7 @@ pub fn push(t: LineText, b: u8) -> LineText
 }
 
 pub fn push_word(t: LineText, word: &[u8]) -> LineText
-    ensures { result ≡ pushAll t word.now }
+    ensures { result ≡ push_all t word.now }
 {
     let mut text = t;
     let mut i: usize = 0;
@@ -194,7 +194,7 @@ fn digit_at(n: u32, j: u8) -> u8
 // The k lowest digits of n.
 fn push_digits(t: LineText, n: u32, k: u8) -> LineText
     requires { k ≤ 8 }
-    ensures { result ≡ pushAll t (digitBytes (lowest k n)) }
+    ensures { result ≡ push_all t (digit_bytes (lowest k n)) }
 {
     let mut text = t;
     let mut j = k;
@@ -234,13 +234,13 @@ fn width(n: u32) -> u8
 }
 
 fn push_whole(t: LineText, n: u32) -> LineText
-    ensures { result ≡ pushAll t (digitBytes (decimal n)) }
+    ensures { result ≡ push_all t (digit_bytes (decimal n)) }
 {
     push_digits(t, n, width(n))
 }
 
 fn push_sign(t: LineText, minus: bool) -> LineText
-    ensures { result ≡ pushAll t (signBytes minus) }
+    ensures { result ≡ push_all t (sign_bytes minus) }
 {
     if minus {
         return push(t, 45);
@@ -251,7 +251,7 @@ fn push_sign(t: LineText, minus: bool) -> LineText
 // The point and the d lowest digits of n, or nothing.
 fn push_decimals(t: LineText, n: u32, d: u8) -> LineText
     requires { d ≤ 3 }
-    ensures { result ≡ pushAll t (decimalBytes (lowest d n)) }
+    ensures { result ≡ push_all t (decimal_bytes (lowest d n)) }
 {
     if d == 0 {
         return t;
@@ -267,7 +267,7 @@ fn at_most_three(d: u8) -> u8
 
 // A minus or none, and the number n with d decimals; more than three decimals count as three.
 pub fn push_number(t: LineText, minus: bool, n: u32, d: u8) -> LineText
-    ensures { result ≡ pushAll t (encoded (numeralOf minus n (lesser d 3))) }
+    ensures { result ≡ push_all t (encoded (numeral_of minus n (lesser d 3))) }
 {
     let few = at_most_three(d);
     let signed = push_sign(t, minus);
@@ -277,7 +277,7 @@ pub fn push_number(t: LineText, minus: bool, n: u32, d: u8) -> LineText
 
 // The name of a symbol.
 pub fn push_name(t: LineText, symbol: u16) -> LineText
-    ensures { result ≡ pushAll t (nameBytes symbol) }
+    ensures { result ≡ push_all t (name_bytes symbol) }
 {
     push_whole(push(t, 115), symbol as u32)
 }

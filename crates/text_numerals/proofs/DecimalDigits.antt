@@ -10,7 +10,7 @@ use borrow.Author.Tests.{ne_eqb, ltb-true, ltb-false}
 use lib.ListN.{length}
 use lib.Arith.{digits_lt, digits_div, digits_mod, mod-mul}
 use lib.Dec.{ltb}
-use Rattle.text_numerals.specs.Numeral.{zeroDigit, Digits, digitBytes, valueFrom, lowest, width_of, decimal}
+use Rattle.text_numerals.specs.Numeral.{zero_digit, Digits, digit_bytes, value_from, lowest, width_of, decimal}
 use Rattle.text_numerals.specs.inside.Reading.{starts_with}
 use Rattle.text_numerals.proofs.Quotient.{ten-pos}
 
@@ -25,8 +25,8 @@ lowest-length zero n = refl
 lowest-length (suc k) n = ap suc (lowest-length k n)
 
 -- digits behind a number
-pub value-split : (a : ℕ) (vs : List ℕ) → valueFrom a vs ≡ a * 10 ^ length vs + valueFrom 0 vs
-unfolding valueFrom
+pub value-split : (a : ℕ) (vs : List ℕ) → value_from a vs ≡ a * 10 ^ length vs + value_from 0 vs
+unfolding value_from
 value-split a [] = sym (add-zero (a * 1) ∙ mul-one a)
 value-split a (v ∷ vs) =
     let p = 10 ^ length vs in
@@ -34,20 +34,20 @@ value-split a (v ∷ vs) =
     omega (arith, value-split (a * 10 + v) vs, value-split (0 * 10 + v) vs, ap (λ (z : ℕ). a * z) e)
 
 -- the first digit, and the others
-first-of : (v : ℕ) (vs : List ℕ) → valueFrom 0 (v ∷ vs) ≡ v * 10 ^ length vs + valueFrom 0 vs
-unfolding valueFrom
+first-of : (v : ℕ) (vs : List ℕ) → value_from 0 (v ∷ vs) ≡ v * 10 ^ length vs + value_from 0 vs
+unfolding value_from
 first-of v vs = omega (arith, value-split (0 * 10 + v) vs)
 
-pub value-below : (vs : List ℕ) → Digits vs → valueFrom 0 vs < 10 ^ length vs
-unfolding valueFrom Digits
+pub value-below : (vs : List ℕ) → Digits vs → value_from 0 vs < 10 ^ length vs
+unfolding value_from Digits
 value-below [] d = omega arith
 value-below (v ∷ vs) d =
-    let l : v * 10 ^ length vs + valueFrom 0 vs < 10 * 10 ^ length vs = digits_lt d.0 (value-below vs d.1) in
+    let l : v * 10 ^ length vs + value_from 0 vs < 10 * 10 ^ length vs = digits_lt d.0 (value-below vs d.1) in
     omega (arith, first-of v vs, pow-succ' 10 (length vs))
 
 -- the k lowest digits behind a number
-pub lowest-value : (k a n : ℕ) → valueFrom a (lowest k n) ≡ a * 10 ^ k + n % 10 ^ k
-unfolding valueFrom lowest
+pub lowest-value : (k a n : ℕ) → value_from a (lowest k n) ≡ a * 10 ^ k + n % 10 ^ k
+unfolding value_from lowest
 lowest-value zero a n = sym (ap (λ (z : ℕ). a * 1 + z) (mod-one n) ∙ omega arith)
 lowest-value (suc k) a n =
     let p = 10 ^ k in
@@ -57,13 +57,13 @@ lowest-value (suc k) a n =
     omega (arith, lowest-value k (a * 10 + v) n, ap (λ (z : ℕ). a * z) q)
 
 -- digits are the lowest ones of the number that they make
-pub lowest-back : (a : ℕ) (vs : List ℕ) → Digits vs → lowest (length vs) (valueFrom a vs) ≡ vs
-unfolding valueFrom Digits lowest
+pub lowest-back : (a : ℕ) (vs : List ℕ) → Digits vs → lowest (length vs) (value_from a vs) ≡ vs
+unfolding value_from Digits lowest
 lowest-back a [] d = refl
 lowest-back a (v ∷ vs) d =
     let p = 10 ^ length vs in
-    let q : valueFrom (a * 10 + v) vs / p ≡ a * 10 + v = ap (λ (z : ℕ). z / p) (value-split (a * 10 + v) vs) ∙ digits_div (a * 10 + v) (value-below vs d.1) in
-    let e : valueFrom (a * 10 + v) vs / p % 10 ≡ v = ap (λ (z : ℕ). z % 10) q ∙ digits_mod a d.0 in
+    let q : value_from (a * 10 + v) vs / p ≡ a * 10 + v = ap (λ (z : ℕ). z / p) (value-split (a * 10 + v) vs) ∙ digits_div (a * 10 + v) (value-below vs d.1) in
+    let e : value_from (a * 10 + v) vs / p % 10 ≡ v = ap (λ (z : ℕ). z % 10) q ∙ digits_mod a d.0 in
     λ i. e i ∷ lowest-back (a * 10 + v) vs d.1 i
 
 -- w digits hold n, and fewer, but for one, do not
@@ -101,7 +101,7 @@ pub decimal-digits : (n : ℕ) → Digits (decimal n)
 unfolding decimal
 decimal-digits n = lowest-digits (width_of n) n
 
-pub decimal-value : (n : ℕ) → n < 100000000 → valueFrom 0 (decimal n) ≡ n
+pub decimal-value : (n : ℕ) → n < 100000000 → value_from 0 (decimal n) ≡ n
 unfolding decimal
 decimal-value n h = omega (arith, lowest-value (width_of n) 0 n, mod-eq_of_lt (wide n h).room)
 
@@ -113,17 +113,17 @@ wide-one n w k f least most =
     omega arith
 
 -- digits of which the first is not 0 are the decimal digits of their number
-pub decimal-back : (v : ℕ) (vs : List ℕ) → Digits (v ∷ vs) → 0 < v → valueFrom 0 (v ∷ vs) < 100000000 → decimal (valueFrom 0 (v ∷ vs)) ≡ v ∷ vs
+pub decimal-back : (v : ℕ) (vs : List ℕ) → Digits (v ∷ vs) → 0 < v → value_from 0 (v ∷ vs) < 100000000 → decimal (value_from 0 (v ∷ vs)) ≡ v ∷ vs
 unfolding decimal
 decimal-back v vs d h l =
-    let n = valueFrom 0 (v ∷ vs) in
+    let n = value_from 0 (v ∷ vs) in
     let p = 10 ^ length vs in
     let c : p ≤ n = let a : 1 * p ≤ v * p = mul-le-mul_right p h in omega (arith, first-of v vs) in
     ap (λ (w : ℕ). lowest w n) (wide-one n (width_of n) (length vs) (wide n l) c (value-below (v ∷ vs) d)) ∙ lowest-back 0 (v ∷ vs) d
 
 -- the first digit of a number that is not 0
-pub not-zero : (n w : ℕ) (after : List ℕ) → Wide n w → 0 < n → starts_with zeroDigit (digitBytes (lowest w n) ++ after) ≡ false
-unfolding starts_with digitBytes lowest
+pub not-zero : (n w : ℕ) (after : List ℕ) → Wide n w → 0 < n → starts_with zero_digit (digit_bytes (lowest w n) ++ after) ≡ false
+unfolding starts_with digit_bytes lowest
 not-zero n zero after f h = absurd (let z : 1 ≤ 0 = f.some in omega arith)
 not-zero n (suc k) after f h =
     let p = 10 ^ k in

@@ -7,7 +7,7 @@ use native.Mathlib.Nat.{le_antisymm, le_of_suc-le-suc, lt_of_not-le, not-le_of_l
 use native.Mathlib.Omega.{arith}
 use lib.ListN.{length, length-append}
 use lib.Pow.{pow-add}
-use Rattle.text_numerals.specs.Numeral.{digitBytes, valueFrom, Valid, mostNumber, mostDecimals, whole_of, signBytes, decimalBytes, encoded, float_of, meaning, lowest, width_of, decimal, numeralOf, NoLeadingZeros, mostSymbol, nameBytes}
+use Rattle.text_numerals.specs.Numeral.{digit_bytes, value_from, Valid, most_number, most_decimals, whole_of, sign_bytes, decimal_bytes, encoded, float_of, meaning, lowest, width_of, decimal, numeral_of, NoLeadingZeros, most_symbol, name_bytes}
 use Rattle.text_numerals.specs.Nearest.{sign_of}
 use Rattle.text_numerals.specs.Shortest.{OneText, NotBoth, ShortestWrites}
 use Rattle.text_numerals.proofs.Quotient.{ten-pos, ten-mono}
@@ -51,16 +51,16 @@ no-leading-zeros n h = go (width_of n) (wide n h)
         omega (arith, mod-eq_of_lt a)
 
 -- ---- a number with decimals
-small : (n d : ℕ) → n < mostNumber → n / 10 ^ d < 100000000
+small : (n d : ℕ) → n < most_number → n / 10 ^ d < 100000000
 small n d h = lt_of_le_of_lt (div-le_self n (10 ^ d)) (omega arith)
 
-pub whole_back : (s : Bool) (n d : ℕ) → n < mostNumber → whole_of (numeralOf s n d) ≡ n
-unfolding whole_of numeralOf
+pub whole_back : (s : Bool) (n d : ℕ) → n < most_number → whole_of (numeral_of s n d) ≡ n
+unfolding whole_of numeral_of
 whole_back s n d h =
-    ap (λ (z : ℕ). valueFrom z (lowest d n)) (decimal-value (n / 10 ^ d) (small n d h)) ∙ lowest-value d (n / 10 ^ d) n ∙ div-add-mod' n (10 ^ d)
+    ap (λ (z : ℕ). value_from z (lowest d n)) (decimal-value (n / 10 ^ d) (small n d h)) ∙ lowest-value d (n / 10 ^ d) n ∙ div-add-mod' n (10 ^ d)
 
-pub valid-numeral : (s : Bool) (n d : ℕ) → n < mostNumber → d ≤ mostDecimals → Valid (numeralOf s n d)
-unfolding numeralOf decimal
+pub valid-numeral : (s : Bool) (n d : ℕ) → n < most_number → d ≤ most_decimals → Valid (numeral_of s n d)
+unfolding numeral_of decimal
 valid-numeral s n d h k =
     let q = n / 10 ^ d in
     record {
@@ -71,12 +71,12 @@ valid-numeral s n d h k =
       below = omega (arith, whole_back s n d h);
     }
 
-pub numeral-means : (s : Bool) (n d : ℕ) → n < mostNumber → meaning (numeralOf s n d) ≡ float_of s n d
-unfolding meaning numeralOf
+pub numeral-means : (s : Bool) (n d : ℕ) → n < most_number → meaning (numeral_of s n d) ≡ float_of s n d
+unfolding meaning numeral_of
 numeral-means s n d h = λ i. float_of s (whole_back s n d h i) (lowest-length d n i)
 
 pub shortest-writes : ShortestWrites
-unfolding numeralOf
+unfolding numeral_of
 shortest-writes x n d s = record {
   valid = valid-numeral (sign_of x) n d s.below s.few;
   plain = no-leading-zeros (n / 10 ^ d) (small n d s.below);
@@ -84,23 +84,23 @@ shortest-writes x n d s = record {
 }
 
 -- ---- how many bytes
-bytes-length : (vs : List ℕ) → length (digitBytes vs) ≡ length vs
-unfolding digitBytes
+bytes-length : (vs : List ℕ) → length (digit_bytes vs) ≡ length vs
+unfolding digit_bytes
 bytes-length [] = refl
 bytes-length (v ∷ vs) = ap suc (bytes-length vs)
 
-sign-length : (s : Bool) → length (signBytes s) ≤ 1
-unfolding signBytes
+sign-length : (s : Bool) → length (sign_bytes s) ≤ 1
+unfolding sign_bytes
 sign-length true = omega arith
 sign-length false = omega arith
 
-decimals-length : (vs : List ℕ) → length (decimalBytes vs) ≤ suc (length vs)
-unfolding decimalBytes
+decimals-length : (vs : List ℕ) → length (decimal_bytes vs) ≤ suc (length vs)
+unfolding decimal_bytes
 decimals-length [] = omega arith
 decimals-length (v ∷ vs) = le_of_eq (ap suc (bytes-length (v ∷ vs)))
 
-pub number-length : (s : Bool) (n d : ℕ) → n < mostNumber → d ≤ mostDecimals → length (encoded (numeralOf s n d)) ≤ 10
-unfolding encoded numeralOf
+pub number-length : (s : Bool) (n d : ℕ) → n < most_number → d ≤ most_decimals → length (encoded (numeral_of s n d)) ≤ 10
+unfolding encoded numeral_of
 number-length s n d h k =
     let q = n / 10 ^ d in
     let e : 8 - d + d ≡ 8 = omega arith in
@@ -114,6 +114,6 @@ number-length s n d h k =
       lowest-length d n,
     ))
 
-pub name-length : (symbol : ℕ) → symbol ≤ mostSymbol → length (nameBytes symbol) ≤ 6
-unfolding nameBytes
+pub name-length : (symbol : ℕ) → symbol ≤ most_symbol → length (name_bytes symbol) ≤ 6
+unfolding name_bytes
 name-length symbol h = omega (arith, bytes-length (decimal symbol), decimal-length 5 symbol (omega arith) (omega arith) (omega arith))

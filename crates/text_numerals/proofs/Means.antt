@@ -15,7 +15,7 @@ use lib.Ieee.Fits.{down_pos, round-fits}
 use lib.Ieee.Order.{drop, kept}
 use lib.Ieee.Positive.{den}
 use lib.Ieee.Scale.{grid, normal_of_fraction, finite}
-use Rattle.text_numerals.specs.Numeral.{mostNumber, mostDecimals, float_of}
+use Rattle.text_numerals.specs.Numeral.{most_number, most_decimals, float_of}
 use Rattle.text_numerals.specs.Nearest.{sign_of, apart, Nearest, MeansNearest}
 use Rattle.text_numerals.proofs.Closest.{gap, nearest-whole, no-half}
 use Rattle.text_numerals.proofs.Quotient.{ten-pos, ten-mono}
@@ -238,7 +238,7 @@ nearest-neg n c x p = record {
   nearer = λ y t g e. neg-nearer n c x y p.number g (p.nearer (neg y) (neg-fits y t) (neg-finite y g) (neg-eq x y p.number g ∙ e));
 }
 
-means-plain : (n d : ℕ) → n < mostNumber → d ≤ mostDecimals → Nearest false n (10 ^ d) (float_of false n d)
+means-plain : (n d : ℕ) → n < most_number → d ≤ most_decimals → Nearest false n (10 ^ d) (float_of false n d)
 unfolding float_of
 means-plain n d h k = nearest-round n (10 ^ d) (record { below = h; some = ten-pos d; most = ten-mono k })
 

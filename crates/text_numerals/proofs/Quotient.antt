@@ -12,7 +12,7 @@ use lib.Ieee.Exact.{HasValue}
 use lib.Ieee.Fits.{down_pos, up_pos}
 use lib.Ieee.Positive.{first_pos}
 use lib.Ieee.Scale.{round_same}
-use Rattle.text_numerals.specs.Numeral.{mostNumber, mostDecimals, float_of}
+use Rattle.text_numerals.specs.Numeral.{most_number, most_decimals, float_of}
 
 div-at : (x y : Float) (a b : ℕ) → 0 < b → HasValue x false a 1 → HasValue y false b 1 → div binary32 x y ≡ round binary32 false a b
 unfolding div
@@ -36,7 +36,7 @@ ten-pos d = one-le-pow d 10 (zero-lt-suc 9)
 pub ten-mono : {i j : ℕ} → i ≤ j → 10 ^ i ≤ 10 ^ j
 ten-mono h = pow-le-pow_right (zero-lt-suc 9) h
 
-pub quotient : (n d : ℕ) → n < mostNumber → d ≤ mostDecimals → div binary32 (of_int binary32 (pos n)) (of_int binary32 (pos (10 ^ d))) ≡ float_of false n d
+pub quotient : (n d : ℕ) → n < most_number → d ≤ most_decimals → div binary32 (of_int binary32 (pos n)) (of_int binary32 (pos (10 ^ d))) ≡ float_of false n d
 unfolding float_of of_int
 quotient n d h k =
     let c = 10 ^ d in

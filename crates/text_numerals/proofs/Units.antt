@@ -14,13 +14,13 @@ use lib.Ieee.Fits.{round_is}
 use lib.Ieee.Exact.{HasValue, units_val}
 use lib.Ieee.Order.{drop, kept}
 use lib.Ieee.Scale.{grid, overflow, finite}
-use Rattle.text_numerals.specs.Numeral.{mostNumber}
+use Rattle.text_numerals.specs.Numeral.{most_number}
 use Rattle.text_numerals.specs.Nearest.{sign_of}
 use Rattle.text_numerals.proofs.Closest.{Half, half}
 
 -- a fraction that a number in text can be
 pub record Fraction (n c : ℕ) : Type 0 where
-  pub below : n < mostNumber
+  pub below : n < most_number
   pub some : 0 < c
   pub most : c ≤ 1000
 

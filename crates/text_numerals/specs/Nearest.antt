@@ -5,7 +5,7 @@ use Rattle.std.specs.Float.{nan, inf, fin, binary32}
 use Rattle.std.specs.Float.Ieee.{up, down, eq, fits}
 use Rattle.std.specs.Float.Ieee.Scale.{finite}
 use Rattle.std.specs.Float.Ieee.Positive.{den}
-use Rattle.text_numerals.specs.Numeral.{mostNumber, mostDecimals, float_of}
+use Rattle.text_numerals.specs.Numeral.{most_number, most_decimals, float_of}
 
 unfoldable pub sign_of : Float → Bool
 sign_of nan = false
@@ -27,4 +27,4 @@ pub record Nearest (minus : Bool) (n c : ℕ) (x : Float) : Type 0 where
 
 -- what a number in text means, with a minus and without, is the nearest float
 abbrev pub MeansNearest : Type 0
-MeansNearest = (minus : Bool) (n d : ℕ) → n < mostNumber → d ≤ mostDecimals → Nearest minus n (10 ^ d) (float_of minus n d)
+MeansNearest = (minus : Bool) (n d : ℕ) → n < most_number → d ≤ most_decimals → Nearest minus n (10 ^ d) (float_of minus n d)

@@ -6,18 +6,18 @@ use Rattle.std.specs.Float.Ieee.{round}
 
 -- ---- bytes
 
-abbrev pub minusSign : ℕ
-minusSign = 45
+abbrev pub minus_sign : ℕ
+minus_sign = 45
 
 abbrev pub point : ℕ
 point = 46
 
-abbrev pub zeroDigit : ℕ
-zeroDigit = 48
+abbrev pub zero_digit : ℕ
+zero_digit = 48
 
 -- the letter s
-abbrev pub nameLetter : ℕ
-nameLetter = 115
+abbrev pub name_letter : ℕ
+name_letter = 115
 
 -- ---- digits, from 0 to 9, the highest first
 
@@ -25,14 +25,14 @@ unfoldable pub Digits : List ℕ → Type 0
 Digits [] = Unit {0}
 Digits (v ∷ vs) = (v < 10) × Digits vs
 
-unfoldable pub digitBytes : List ℕ → List ℕ
-digitBytes [] = []
-digitBytes (v ∷ vs) = (zeroDigit + v) ∷ digitBytes vs
+unfoldable pub digit_bytes : List ℕ → List ℕ
+digit_bytes [] = []
+digit_bytes (v ∷ vs) = (zero_digit + v) ∷ digit_bytes vs
 
 -- the number that digits make, behind the number n
-unfoldable pub valueFrom : ℕ → List ℕ → ℕ
-valueFrom n [] = n
-valueFrom n (v ∷ vs) = valueFrom (n * 10 + v) vs
+unfoldable pub value_from : ℕ → List ℕ → ℕ
+value_from n [] = n
+value_from n (v ∷ vs) = value_from (n * 10 + v) vs
 
 -- ---- a number
 
@@ -42,36 +42,36 @@ pub record Numeral : Type 0 where
   pub decimals : List ℕ
 
 -- all the digits as one number are below this
-abbrev pub mostNumber : ℕ
-mostNumber = 16777216
+abbrev pub most_number : ℕ
+most_number = 16777216
 
-abbrev pub mostDecimals : ℕ
-mostDecimals = 3
+abbrev pub most_decimals : ℕ
+most_decimals = 3
 
 -- all the digits, with the point left out
 unfoldable pub whole_of : Numeral → ℕ
-unfolding valueFrom
-whole_of x = valueFrom (valueFrom 0 x.digits) x.decimals
+unfolding value_from
+whole_of x = value_from (value_from 0 x.digits) x.decimals
 
 pub record Valid (x : Numeral) : Type 0 where
   pub digits : Digits x.digits
   pub some : 0 < length x.digits
   pub decimals : Digits x.decimals
-  pub few : length x.decimals ≤ mostDecimals
-  pub below : whole_of x < mostNumber
+  pub few : length x.decimals ≤ most_decimals
+  pub below : whole_of x < most_number
 
-unfoldable pub signBytes : Bool → List ℕ
-signBytes true = minusSign ∷ []
-signBytes false = []
+unfoldable pub sign_bytes : Bool → List ℕ
+sign_bytes true = minus_sign ∷ []
+sign_bytes false = []
 
-unfoldable pub decimalBytes : List ℕ → List ℕ
-unfolding digitBytes
-decimalBytes [] = []
-decimalBytes (v ∷ vs) = point ∷ digitBytes (v ∷ vs)
+unfoldable pub decimal_bytes : List ℕ → List ℕ
+unfolding digit_bytes
+decimal_bytes [] = []
+decimal_bytes (v ∷ vs) = point ∷ digit_bytes (v ∷ vs)
 
 unfoldable pub encoded : Numeral → List ℕ
-unfolding signBytes digitBytes decimalBytes
-encoded x = signBytes x.minus ++ (digitBytes x.digits ++ decimalBytes x.decimals)
+unfolding sign_bytes digit_bytes decimal_bytes
+encoded x = sign_bytes x.minus ++ (digit_bytes x.digits ++ decimal_bytes x.decimals)
 
 -- the float nearest to n / 10 ^ d (`Nearest` says so, and that there is no tie), its sign bit set by a minus
 unfoldable pub float_of : Bool → ℕ → ℕ → Float
@@ -101,9 +101,9 @@ unfolding lowest width_of
 decimal n = lowest (width_of n) n
 
 -- the number n with d decimals, as it is written
-unfoldable pub numeralOf : Bool → ℕ → ℕ → Numeral
+unfoldable pub numeral_of : Bool → ℕ → ℕ → Numeral
 unfolding lowest decimal
-numeralOf minus n d = record { minus = minus; digits = decimal (n / 10 ^ d); decimals = lowest d n }
+numeral_of minus n d = record { minus = minus; digits = decimal (n / 10 ^ d); decimals = lowest d n }
 
 -- no needless leading zeros: a first digit 0 stands alone
 abbrev pub NoLeadingZeros : List ℕ → Type 0
@@ -111,10 +111,10 @@ NoLeadingZeros [] = Unit {0}
 NoLeadingZeros (v ∷ []) = Unit {0}
 NoLeadingZeros (v ∷ (w ∷ vs)) = 0 < v
 
-abbrev pub mostSymbol : ℕ
-mostSymbol = 65535
+abbrev pub most_symbol : ℕ
+most_symbol = 65535
 
 -- the name of a symbol
-unfoldable pub nameBytes : ℕ → List ℕ
-unfolding digitBytes decimal
-nameBytes symbol = nameLetter ∷ digitBytes (decimal symbol)
+unfoldable pub name_bytes : ℕ → List ℕ
+unfolding digit_bytes decimal
+name_bytes symbol = name_letter ∷ digit_bytes (decimal symbol)

@@ -10,15 +10,15 @@ use Rattle.base_answer.specs.Numbers.{is_taken}
 use Rattle.base_answer.specs.declared.Answer.{Answer}
 use Rattle.base_answer.specs.declared.Answer.TheVariants.{Taken, BadText}
 use Rattle.text_numerals.specs.inside.Reading.{Read, got, refused}
-use Rattle.score_line.specs.Reading.{answer_of, lineRead}
+use Rattle.score_line.specs.Reading.{answer_of, line_read}
 use Rattle.score_line.specs.declared.Line.{Line}
 use Rattle.score_line.specs.declared.LineRead.{LineRead}
-use Rattle.score_reader.specs.Score.{Lines, all, faulty, before, lineThen, Score, taken, refusedScore}
+use Rattle.score_reader.specs.Score.{Lines, all, faulty, before, line_then, Score, taken, refused_score}
 use Rattle.score_reader.proofs.Readers.{fault-not-taken}
-use Rattle.text_format.specs.Content.{Content, lineContent, mostLines, judgedFrom, judgement}
-use Rattle.text_format.specs.inside.Reading.{lineFrom, Text, lines, bad, thenLines, lines_from, judged, text_of}
+use Rattle.text_format.specs.Content.{Content, line_content, most_lines, judged_from, judgement}
+use Rattle.text_format.specs.inside.Reading.{line_from, Text, lines, bad, then_lines, lines_from, judged, text_of}
 use Rattle.text_format.specs.inside.Reading as text
-use Rattle.text_event_reader.specs.Results.{lineTold}
+use Rattle.text_event_reader.specs.Results.{line_told}
 use Rattle.text_reader.specs.Texts.{line_at, walked, Ahead}
 use Rattle.text_reader.proofs.LineLoop.{standing}
 use Rattle.base_formats.specs.Format as fields
@@ -26,7 +26,7 @@ use Rattle.base_formats.specs.Format as fields
 -- ---- a text that is taken, and one that is not
 
 -- a refused score is not taken
-not_taken : (a : Answer) (i : ℕ) → is_taken a ≡ false → (refusedScore a i).answer ≡ Taken → ⊥
+not_taken : (a : Answer) (i : ℕ) → is_taken a ≡ false → (refused_score a i).answer ≡ Taken → ⊥
 not_taken a i f e = true≢false (ap is_taken (sym e) ∙ f)
 
 judgement-taken : (x : Lines) → (judgement x).answer ≡ Taken → judgement x ≡ taken (judgement x).lines
@@ -39,7 +39,7 @@ unfolding text_of
 answered s e = go (lines_from (length s) 0 s) e
   where
     go : (t : Text) → (judged t).answer ≡ Taken → judged t ≡ taken (judged t).lines
-    go (lines ss) e = judgement-taken (judgedFrom 0 ss) e
+    go (lines ss) e = judgement-taken (judged_from 0 ss) e
     go (bad i) e = absurd (not_taken BadText i refl e)
 
 -- any other has none
@@ -52,7 +52,7 @@ no_lines s e = go (lines_from (length s) 0 s) e
     by_lines (faulty f i) e = refl
 
     go : (t : Text) → is_taken (judged t).answer ≡ false → (judged t).lines ≡ []
-    go (lines ss) e = by_lines (judgedFrom 0 ss) e
+    go (lines ss) e = by_lines (judged_from 0 ss) e
     go (bad i) e = refl
 
 -- before the first line, all lines lie ahead
@@ -60,12 +60,12 @@ pub ahead-first : (s : List ℕ) (ls : List Line) → text_of s ≡ taken ls →
 unfolding text_of
 ahead-first s ls e = go (lines_from (length s) 0 s) refl e
   where
-    by_lines : (ss : List Content) → lines_from (length s) 0 s ≡ lines ss → (x : Lines) → judgedFrom 0 ss ≡ x → judgement x ≡ taken ls → Ahead s 0 ls
+    by_lines : (ss : List Content) → lines_from (length s) 0 s ≡ lines ss → (x : Lines) → judged_from 0 ss ≡ x → judgement x ≡ taken ls → Ahead s 0 ls
     by_lines ss f (all ms p) g e = record { bound = length s; number = 0; content = ss; end = p; there = f; are = g ∙ ap (λ (l : List Line). all l p) (ap (λ (x : Score). x.lines) e) }
     by_lines ss f (faulty c i) g e = absurd (not_taken (answer_of c) i (fault-not-taken c) (ap (λ (x : Score). x.answer) e))
 
     go : (t : Text) → lines_from (length s) 0 s ≡ t → judged t ≡ taken ls → Ahead s 0 ls
-    go (lines ss) f e = by_lines ss f (judgedFrom 0 ss) refl e
+    go (lines ss) f e = by_lines ss f (judged_from 0 ss) refl e
     go (bad i) f e = absurd (not_taken BadText i refl (ap (λ (x : Score). x.answer) e))
 
 -- ---- one line
@@ -76,21 +76,21 @@ record Judged-first (i : ℕ) (ss : List Content) (l : Line) (ls : List Line) (e
   others : List Content
   next : ℕ
   are : ss ≡ first ∷ others
-  line : lineContent first ≡ fields.got l next
-  judged-so : judgedFrom (suc i) others ≡ all ls end
+  line : line_content first ≡ fields.got l next
+  judged-so : judged_from (suc i) others ≡ all ls end
 
 before_back : (m : Line) (x : Lines) (l : Line) (ls : List Line) (end : ℕ) → before m x ≡ all (l ∷ ls) end → (m ≡ l) × (x ≡ all ls end)
 before_back m (all ms p) l ls end e = let a : ms ≡ ls = cc in let b : p ≡ end = cc in (cc, ap₂ all a b)
 before_back m (faulty f i) l ls end e = absurd (let z : ◌≡◌ {A = ℕ} 0 1 = cc in omega arith)
 
-judged-first : (i : ℕ) (ss : List Content) (l : Line) (ls : List Line) (end : ℕ) → judgedFrom i ss ≡ all (l ∷ ls) end → Judged-first i ss l ls end
-unfolding judgedFrom
+judged-first : (i : ℕ) (ss : List Content) (l : Line) (ls : List Line) (end : ℕ) → judged_from i ss ≡ all (l ∷ ls) end → Judged-first i ss l ls end
+unfolding judged_from
 judged-first i [] l ls end e = absurd (let z : ◌≡◌ {A = ℕ} 0 1 = cc in omega arith)
-judged-first i (sd ∷ ss) l ls end e = go (lineContent sd) refl e
+judged-first i (sd ∷ ss) l ls end e = go (line_content sd) refl e
   where
-    go : (x : fields.Read Line) → lineContent sd ≡ x → lineThen x i (λ p. judgedFrom (suc i) ss) ≡ all (l ∷ ls) end → Judged-first i (sd ∷ ss) l ls end
+    go : (x : fields.Read Line) → line_content sd ≡ x → line_then x i (λ p. judged_from (suc i) ss) ≡ all (l ∷ ls) end → Judged-first i (sd ∷ ss) l ls end
     go (fields.got m p) f e =
-        let b = before_back m (judgedFrom (suc i) ss) l ls end e in
+        let b = before_back m (judged_from (suc i) ss) l ls end e in
         record { first = sd; others = ss; next = p; are = refl; line = f ∙ ap (λ (y : Line). fields.got y p) b.0; judged-so = b.1 }
     go (fields.refused c) f e = absurd (let z : ◌≡◌ {A = ℕ} 0 1 = cc in omega arith)
 
@@ -98,7 +98,7 @@ judged-first i (sd ∷ ss) l ls end e = go (lineContent sd) refl e
 record Read-first (n i : ℕ) (bs : List ℕ) (sd : Content) (ss : List Content) : Type 0 where
   bound : ℕ
   rest : List ℕ
-  line : lineFrom bs ≡ got sd rest
+  line : line_from bs ≡ got sd rest
   others : lines_from bound (suc i) rest ≡ lines ss
 
 content-back : (x : Content) (t : Text) (sd : Content) (ss : List Content) → text.before x t ≡ lines (sd ∷ ss) → (x ≡ sd) × (t ≡ lines ss)
@@ -110,17 +110,17 @@ unfolding lines_from
 read_first zero i [] sd ss e = absurd (let z : ◌≡◌ {A = ℕ} 0 1 = cc in omega arith)
 read_first zero i (b ∷ bs) sd ss e = absurd (let z : ◌≡◌ {A = ℕ} 0 1 = cc in omega arith)
 read_first (suc n) i [] sd ss e = absurd (let z : ◌≡◌ {A = ℕ} 0 1 = cc in omega arith)
-read_first (suc n) i (b ∷ bs) sd ss e = by_number (leb mostLines i) e
+read_first (suc n) i (b ∷ bs) sd ss e = by_number (leb most_lines i) e
   where
-    by-line : (x : Read Content) → lineFrom (b ∷ bs) ≡ x → thenLines x i (λ r. lines_from n (suc i) r) ≡ lines (sd ∷ ss) → Read-first (suc n) i (b ∷ bs) sd ss
+    by-line : (x : Read Content) → line_from (b ∷ bs) ≡ x → then_lines x i (λ r. lines_from n (suc i) r) ≡ lines (sd ∷ ss) → Read-first (suc n) i (b ∷ bs) sd ss
     by-line (got x r) f e =
         let k = content-back x (lines_from n (suc i) r) sd ss e in
         record { bound = n; rest = r; line = f ∙ ap (λ (y : Content). got y r) k.0; others = k.1 }
     by-line refused f e = absurd (let z : ◌≡◌ {A = ℕ} 0 1 = cc in omega arith)
 
-    by_number : (t : Bool) → cond t (bad i) (thenLines (lineFrom (b ∷ bs)) i (λ r. lines_from n (suc i) r)) ≡ lines (sd ∷ ss) → Read-first (suc n) i (b ∷ bs) sd ss
+    by_number : (t : Bool) → cond t (bad i) (then_lines (line_from (b ∷ bs)) i (λ r. lines_from n (suc i) r)) ≡ lines (sd ∷ ss) → Read-first (suc n) i (b ∷ bs) sd ss
     by_number true e = absurd (let z : ◌≡◌ {A = ℕ} 0 1 = cc in omega arith)
-    by_number false e = by-line (lineFrom (b ∷ bs)) refl e
+    by_number false e = by-line (line_from (b ∷ bs)) refl e
 
 -- the next line is the first of those ahead, and the others lie ahead of the position past it
 pub record Passed (s : List ℕ) (at : ℕ) (l : Line) (ls : List Line) : Type 0 where
@@ -129,13 +129,13 @@ pub record Passed (s : List ℕ) (at : ℕ) (l : Line) (ls : List Line) : Type 0
   pub ahead : Ahead s (line_at s at).next ls
 
 pub ahead-next : (s : List ℕ) (at : ℕ) (l : Line) (ls : List Line) → Ahead s at (l ∷ ls) → Passed s at l ls
-unfolding lineTold lineRead
+unfolding line_told line_read
 ahead-next s at l ls a =
     let j = judged-first a.number a.content l ls a.end a.are in
     let r = read_first a.bound a.number (drop at s) j.first j.others (a.there ∙ ap lines j.are) in
-    let t = standing s at refl (ap (λ (x : Read Content). (lineTold s x).stands) r.line) in
+    let t = standing s at refl (ap (λ (x : Read Content). (line_told s x).stands) r.line) in
     let q : r.rest ≡ drop (line_at s at).next s = rest-is (sym r.line ∙ t.there) in
-    let w : (line_at s at).read ≡ lineRead (fields.got l j.next) = ap (λ (x : Read Content). (lineTold s x).read) r.line ∙ ap lineRead j.line in
+    let w : (line_at s at).read ≡ line_read (fields.got l j.next) = ap (λ (x : Read Content). (line_told s x).read) r.line ∙ ap line_read j.line in
     record {
       answer = ap (λ (x : LineRead). x.answer) w;
       line = ap (λ (x : LineRead). x.line) w;

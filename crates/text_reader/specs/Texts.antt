@@ -6,34 +6,34 @@ use Rattle.base_answer.specs.declared.Answer.TheVariants.{Taken, BadText}
 use Rattle.score_line.specs.declared.Line.{Line}
 use Rattle.score_reader.specs.Score.{Score, all}
 use Rattle.score_reader.specs.declared.ScoreRead.{ScoreRead}
-use Rattle.text_format.specs.Content.{Content, judgedFrom}
-use Rattle.text_format.specs.inside.Reading.{lineFrom, lines, lines_from}
-use Rattle.text_event_reader.specs.Results.{lineTold}
+use Rattle.text_format.specs.Content.{Content, judged_from}
+use Rattle.text_format.specs.inside.Reading.{line_from, lines, lines_from}
+use Rattle.text_event_reader.specs.Results.{line_told}
 use Rattle.text_event_reader.specs.declared.TextLineRead.{TextLineRead}
 use Rattle.text_reader.specs.declared.TextRead.{TextRead}
 
 -- all but the lines, and their number
-unfoldable pub textTold : Score → TextRead
-textTold s = record { answer = s.answer; line = s.line; count = length s.lines }
+unfoldable pub text_told : Score → TextRead
+text_told s = record { answer = s.answer; line = s.line; count = length s.lines }
 
 -- ---- the one pass
 
-abbrev pub badAt : ℕ → TextRead
-badAt i = record { answer = BadText; line = i; count = 0 }
+abbrev pub bad_at : ℕ → TextRead
+bad_at i = record { answer = BadText; line = i; count = 0 }
 
 -- the first fault so far, and the answer of line i
 unfoldable pub first_of : ScoreRead → Answer → ℕ → ScoreRead
 first_of fault answer i = cond (is_taken fault.answer) (cond (is_taken answer) fault (record { answer = answer; line = i })) fault
 
 -- past i lines, the first fault or none
-unfoldable pub countedTo : ScoreRead → ℕ → TextRead
-countedTo fault i = cond (is_taken fault.answer) (record { answer = Taken; line = 0; count = i }) (record { answer = fault.answer; line = fault.line; count = 0 })
+unfoldable pub counted_to : ScoreRead → ℕ → TextRead
+counted_to fault i = cond (is_taken fault.answer) (record { answer = Taken; line = 0; count = i }) (record { answer = fault.answer; line = fault.line; count = 0 })
 
 -- ---- the second pass: line by line, each from the position past the line before
 
 -- the line at a position, and the position past it
 abbrev pub line_at : List ℕ → ℕ → TextLineRead
-line_at s at = lineTold s (lineFrom (drop at s))
+line_at s at = line_told s (line_from (drop at s))
 
 -- the lines that n steps pass
 unfoldable pub walked : List ℕ → ℕ → ℕ → List Line
@@ -47,4 +47,4 @@ pub record Ahead (s : List ℕ) (at : ℕ) (ls : List Line) : Type 0 where
   pub content : List Content
   pub end : ℕ
   pub there : lines_from bound number (drop at s) ≡ lines content
-  pub are : judgedFrom number content ≡ all ls end
+  pub are : judged_from number content ≡ all ls end

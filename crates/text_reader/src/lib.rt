@@ -1,7 +1,7 @@
 // Whole texts: 18 for the first line that is none, or else the first fault of a line, in one pass that stores no line.
 ghost use Rattle.std.specs.Prelude.{◌≡◌};
 ghost use Rattle.text_format.specs.inside.Reading.{text_of};
-ghost use Rattle.text_reader.specs.Texts.{textTold, badAt, first_of, countedTo};
+ghost use Rattle.text_reader.specs.Texts.{text_told, bad_at, first_of, counted_to};
 
 use base_answer::Answer;
 use score_reader::ScoreRead;
@@ -18,7 +18,7 @@ pub struct TextRead {
 }
 
 fn bad_at(i: usize) -> TextRead
-    ensures { result ≡ badAt i }
+    ensures { result ≡ bad_at i }
 {
     TextRead {
         answer: Answer::BadText,
@@ -46,7 +46,7 @@ fn first_of(fault: ScoreRead, answer: Answer, i: usize) -> ScoreRead
 
 // Past the last line, the first fault or none.
 fn counted_to(fault: ScoreRead, i: usize) -> TextRead
-    ensures { result ≡ countedTo fault i }
+    ensures { result ≡ counted_to fault i }
 {
     let answer = fault.answer;
     if base_answer::is_taken(answer) {
@@ -66,7 +66,7 @@ fn counted_to(fault: ScoreRead, i: usize) -> TextRead
 // A whole text. Where it is taken, as many calls of `text_line_reader::line_at` from position 0 on, each from the position past the
 // line before, give its lines.
 pub fn read_text(s: &[u8]) -> TextRead
-    ensures { result ≡ textTold (text_of s.now) }
+    ensures { result ≡ text_told (text_of s.now) }
 {
     let mut fault = ScoreRead {
         answer: Answer::Taken,

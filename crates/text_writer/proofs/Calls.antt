@@ -17,31 +17,31 @@ use Rattle.text_numerals.specs.Numeral.{Numeral, whole_of, meaning}
 use Rattle.base_formats.specs.Format.{all as all_of, Read, got, refused}
 use Rattle.base_formats.specs.declared.Fault.{Fault}
 use Rattle.base_formats.specs.declared.Fault.TheVariants as fault
-use Rattle.score_line.specs.LineFormat.{slotWords, valid}
+use Rattle.score_line.specs.LineFormat.{slot_words, valid}
 use Rattle.score_line.specs.Reading.{answer_of}
 use Rattle.score_line.specs.declared.Line.{Line}
 use Rattle.score_line_writer.specs.Stored.{stored}
 use Rattle.score_reader.specs.Score as score
-use Rattle.score_reader.specs.Score.{Score, Lines, lineThen, taken}
-use Rattle.text_format.specs.Content.{Content, lineContent, judgedFrom, judgement}
-use Rattle.text_format.specs.Form.{Behind, Form, instr, control, tempo, end, TextLine, textBytes, ValidForm, ValidLines, contentBy}
+use Rattle.score_reader.specs.Score.{Score, Lines, line_then, taken}
+use Rattle.text_format.specs.Content.{Content, line_content, judged_from, judgement}
+use Rattle.text_format.specs.Form.{Behind, Form, instr, control, tempo, end, TextLine, text_bytes, ValidForm, ValidLines, content_by}
 use Rattle.text_format.specs.Form as form
 use Rattle.text_format.specs.inside.Reading.{text_of}
 use Rattle.text_format.specs.Claims.{Encodes, Either, encodes, breaks}
 use Rattle.text_format.proofs.Texts.{text-read, text-broken, every-text}
-use Rattle.score_decoder.specs.Area.{areaWords}
+use Rattle.score_decoder.specs.Area.{area_words}
 use Rattle.score_decoder.specs.declared.Decoded.{Decoded}
-use Rattle.score_writer.specs.Writing.{scoreBytes, mostLines}
-use Rattle.score_writer.specs.Bytes.{allValid}
-use Rattle.score_writer.specs.Slots.{areaFault, areaLines}
-use Rattle.score_writer.specs.Written.{refusal, told, left, scoreWritten}
-use Rattle.score_writer.specs.Claims.{allStored}
+use Rattle.score_writer.specs.Writing.{score_bytes, most_lines}
+use Rattle.score_writer.specs.Bytes.{all_valid}
+use Rattle.score_writer.specs.Slots.{area_fault, area_lines}
+use Rattle.score_writer.specs.Written.{refusal, told, left, score_written}
+use Rattle.score_writer.specs.Claims.{all_stored}
 use Rattle.score_writer.specs.declared.WriteResult as call
 use Rattle.score_writer.proofs.Area.{lines-count}
 use Rattle.score_writer.proofs.InSlots.{zero-taken, zero_is, held-from, slots-back}
 use Rattle.score_writer.proofs.Calls.{told-zero, words_long, decodes, decoded-zero, slots-decoded}
-use Rattle.text_line_writer.specs.LineText.{contentOf, eventNumbers, numbersOf, IsTextOf}
-use Rattle.text_writer.specs.Writing.{Text, all, lacking, before, textFrom, toldText, leftText, textWritten, textLeft, TextDone}
+use Rattle.text_line_writer.specs.LineText.{content_of, event_numbers, numbers_of, IsTextOf}
+use Rattle.text_writer.specs.Writing.{Text, all, lacking, before, text_from, told_text, left_text, text_written, text_left, TextDone}
 use Rattle.text_writer.specs.Claims.{Told, AllHaveText, no_lines, one_more, TextIs, EveryTextTold, RoomNumber, written, too_short, TextNumber, room, no_text, LikeScore, TextLikeScore, TextReadBack, TextSlotsBack, NeverRefused18, ReadHasText, WrittenAgain, TextReadAgain}
 use Rattle.text_writer.specs.Claims as claims
 use Rattle.text_line_writer.proofs.Numbers.{float_fits}
@@ -58,10 +58,10 @@ data ToldFrom (i : ℕ) (ls : List Line) : Text → Type 0 where
   whole : (ws : List TextLine) → AllHaveText ls ws → ToldFrom i ls (all ws)
   broken : (j k : ℕ) → i + j ≡ k → claims.FirstWithoutText ls j → ToldFrom i ls (lacking k)
 
-told-from : (i : ℕ) (ls : List Line) → T (allStored ls) → ToldFrom i ls (textFrom i ls)
-unfolding textFrom
+told-from : (i : ℕ) (ls : List Line) → T (all_stored ls) → ToldFrom i ls (text_from i ls)
+unfolding text_from
 told-from i [] h = whole [] no_lines
-told-from i (l ∷ ls) h = go (every-line-told l (and_l (stored l) (allStored ls) h)) (told-from (suc i) ls (and_r (stored l) (allStored ls) h))
+told-from i (l ∷ ls) h = go (every-line-told l (and_l (stored l) (all_stored ls) h)) (told-from (suc i) ls (and_r (stored l) (all_stored ls) h))
   where
     go : {o : Option TextLine} {t : Text} → Told l o → ToldFrom (suc i) ls t → ToldFrom i (l ∷ ls) (before o i t)
     go (claims.content w s u n) (whole ws k) = whole (w ∷ ws) (one_more s k)
@@ -85,82 +85,82 @@ every-text-told ls h = go (told-from 0 ls h)
     go (whole ws k) = claims.whole ws k
     go (broken j k e f) = let g : j ≡ k = omega arith in rw g at (claims.broken j f)
 
-all-stored : (ls : List Line) → T (allValid ls) → T (allStored ls)
-unfolding allValid
+all-stored : (ls : List Line) → T (all_valid ls) → T (all_stored ls)
+unfolding all_valid
 all-stored [] h = tt
-all-stored (l ∷ ls) h = and-map (valid l) (allValid ls) (stored l) (allStored ls) (valid-stored l) (all-stored ls) h
+all-stored (l ∷ ls) h = and-map (valid l) (all_valid ls) (stored l) (all_stored ls) (valid-stored l) (all-stored ls) h
 
-text_says : (ls : List Line) (ws : List TextLine) → T (allValid ls) → textFrom 0 ls ≡ all ws → AllHaveText ls ws
+text_says : (ls : List Line) (ws : List TextLine) → T (all_valid ls) → text_from 0 ls ≡ all ws → AllHaveText ls ws
 text_says ls ws h e = go (told-from 0 ls (all-stored ls h)) e
   where
     go : {t : Text} → ToldFrom 0 ls t → t ≡ all ws → AllHaveText ls ws
     go (whole vs k) f = subst (AllHaveText ls) (all_same f) k
     go (broken j i g k) f = absurd (let z : ◌≡◌ {A = ℕ} 0 1 = cc in omega arith)
 
-says-text : (i : ℕ) {ls : List Line} {ws : List TextLine} → AllHaveText ls ws → textFrom i ls ≡ all ws
-unfolding textFrom
+says-text : (i : ℕ) {ls : List Line} {ws : List TextLine} → AllHaveText ls ws → text_from i ls ≡ all ws
+unfolding text_from
 says-text i no_lines = refl
 says-text i (one_more {l} {ls} {w} {ws} s k) = cc (line-found l w s, says-text (suc i) k)
 
 -- valid lines are read from their texts
 record Reads (i : ℕ) (ls : List Line) (ws : List TextLine) : Type 0 where
   valid-lines : ValidLines ws
-  judged : judgedFrom i (map contentBy ws) ≡ score.all ls 0
+  judged : judged_from i (map content_by ws) ≡ score.all ls 0
   count : length ws ≡ length ls
 
-lines-read : (i : ℕ) {ls : List Line} {ws : List TextLine} → T (allValid ls) → AllHaveText ls ws → Reads i ls ws
-unfolding allValid ValidLines judgedFrom
+lines-read : (i : ℕ) {ls : List Line} {ws : List TextLine} → T (all_valid ls) → AllHaveText ls ws → Reads i ls ws
+unfolding all_valid ValidLines judged_from
 lines-read i h no_lines = record { valid-lines = tt; judged = refl; count = refl }
 lines-read i h (one_more {l} {ls} {w} {ws} s k) =
-    let g = and_l (valid l) (allValid ls) h in
-    let r = lines-read (suc i) (and_r (valid l) (allValid ls) h) k in
+    let g = and_l (valid l) (all_valid ls) h in
+    let r = lines-read (suc i) (and_r (valid l) (all_valid ls) h) k in
     record {
       valid-lines = (text-valid l w (valid-stored l g) s, r.valid-lines);
-      judged = ap (λ (x : Read Line). lineThen x i (λ p. judgedFrom (suc i) (map contentBy ws))) (content-line l (contentBy w) g s.is-content) ∙ ap (score.before l) r.judged;
+      judged = ap (λ (x : Read Line). line_then x i (λ p. judged_from (suc i) (map content_by ws))) (content-line l (content_by w) g s.is-content) ∙ ap (score.before l) r.judged;
       count = ap suc r.count;
     }
 
-text-reads : (ls : List Line) (ws : List TextLine) → T (allValid ls) → length ls ≤ mostLines → AllHaveText ls ws → text_of (textBytes ws) ≡ taken ls
+text-reads : (ls : List Line) (ws : List TextLine) → T (all_valid ls) → length ls ≤ most_lines → AllHaveText ls ws → text_of (text_bytes ws) ≡ taken ls
 text-reads ls ws h few k =
     let r = lines-read 0 h k in
-    text-read (textBytes ws) ws (record { encoded = refl; valid = r.valid-lines; few = omega (arith, r.count) }) ∙ ap judgement r.judged
+    text-read (text_bytes ws) ws (record { encoded = refl; valid = r.valid-lines; few = omega (arith, r.count) }) ∙ ap judgement r.judged
 
 -- ---- a text that was written
 
 record WroteText (area : List ℕ) (n : ℕ) (new : List ℕ) (w : call.WriteResult) : Type 0 where
-  fault : (areaFault area n 0).answer ≡ answer.Taken
-  few : n ≤ mostLines
+  fault : (area_fault area n 0).answer ≡ answer.Taken
+  few : n ≤ most_lines
   lines : List TextLine
-  are : textFrom 0 (areaLines area n 0) ≡ all lines
-  bytes : take w.bytes new ≡ textBytes lines
+  are : text_from 0 (area_lines area n 0) ≡ all lines
+  bytes : take w.bytes new ≡ text_bytes lines
 
 wrote-text : (area : List ℕ) (n : ℕ) (out new : List ℕ) (w : call.WriteResult) → TextDone area n out new w → number_of w.answer ≡ 0 → WroteText area n new w
-unfolding textWritten textLeft
-wrote-text area n out new w d z = go (is_taken (areaFault area n 0).answer) (leb n mostLines) (textFrom 0 (areaLines area n 0)) refl refl refl d.answers d.leaves
+unfolding text_written text_left
+wrote-text area n out new w d z = go (is_taken (area_fault area n 0).answer) (leb n most_lines) (text_from 0 (area_lines area n 0)) refl refl refl d.answers d.leaves
   where
     not-zero : {x : call.WriteResult} → w ≡ x → (number_of x.answer ≡ 0 → ⊥) → ⊥
     not-zero e f = f (sym (ap (λ (r : call.WriteResult). number_of r.answer) e) ∙ z)
 
-    go : (a b : Bool) (t : Text) → is_taken (areaFault area n 0).answer ≡ a → leb n mostLines ≡ b → textFrom 0 (areaLines area n 0) ≡ t
-        → w ≡ cond a (cond b (toldText t (length out)) (refusal answer.OutOfRange 0)) (refusal (areaFault area n 0).answer (areaFault area n 0).line)
-        → new ≡ cond a (cond b (leftText t out) out) out → WroteText area n new w
+    go : (a b : Bool) (t : Text) → is_taken (area_fault area n 0).answer ≡ a → leb n most_lines ≡ b → text_from 0 (area_lines area n 0) ≡ t
+        → w ≡ cond a (cond b (told_text t (length out)) (refusal answer.OutOfRange 0)) (refusal (area_fault area n 0).answer (area_fault area n 0).line)
+        → new ≡ cond a (cond b (left_text t out) out) out → WroteText area n new w
     go true true (all ws) e f g x y =
         record {
-          fault = zero_is (areaFault area n 0).answer (eqb-true (number_of (areaFault area n 0).answer) 0 e);
-          few = leb-true n mostLines f;
+          fault = zero_is (area_fault area n 0).answer (eqb-true (number_of (area_fault area n 0).answer) 0 e);
+          few = leb-true n most_lines f;
           lines = ws;
           are = g;
-          bytes = told-zero (textBytes ws) out new w x y z;
+          bytes = told-zero (text_bytes ws) out new w x y z;
         }
     go true true (lacking i) e f g x y = absurd (not-zero x (λ k. omega arith))
     go true false t e f g x y = absurd (not-zero x (λ k. omega arith))
-    go false b t e f g x y = absurd (not-zero x (λ k. true≢false (sym (zero-taken (areaFault area n 0).answer k) ∙ e)))
+    go false b t e f g x y = absurd (not-zero x (λ k. true≢false (sym (zero-taken (area_fault area n 0).answer k) ∙ e)))
 
 -- ---- refusals
 
 pub text-like-score : TextLikeScore
-unfolding scoreWritten textWritten
-text-like-score area to bytes out new n v w s t = go (is_taken (areaFault area n 0).answer) (leb n mostLines) (textFrom 0 (areaLines area n 0)) s.answers t.answers
+unfolding score_written text_written
+text-like-score area to bytes out new n v w s t = go (is_taken (area_fault area n 0).answer) (leb n most_lines) (text_from 0 (area_lines area n 0)) s.answers t.answers
   where
     same : {x : call.WriteResult} → v ≡ x → w ≡ x → LikeScore v w
     same e f = record { refuses = λ k. f ∙ sym e; otherwise = λ k. subst (λ (y : call.WriteResult). TextNumber (number_of y.answer)) (e ∙ sym f) (room k) }
@@ -180,11 +180,11 @@ text-like-score area to bytes out new n v w s t = go (is_taken (areaFault area n
         }
 
     go : (a b : Bool) (x : Text)
-        → v ≡ cond a (cond b (told (scoreBytes (areaLines area n 0)) (length to)) (refusal answer.OutOfRange 0))
-        (refusal (areaFault area n 0).answer (areaFault area n 0).line)
-        → w ≡ cond a (cond b (toldText x (length out)) (refusal answer.OutOfRange 0)) (refusal (areaFault area n 0).answer (areaFault area n 0).line) → LikeScore v w
-    go true true (all ws) e f = later (scoreBytes (areaLines area n 0)) e f (room (fits (textBytes ws) (length out)))
-    go true true (lacking i) e f = later (scoreBytes (areaLines area n 0)) e f no_text
+        → v ≡ cond a (cond b (told (score_bytes (area_lines area n 0)) (length to)) (refusal answer.OutOfRange 0))
+        (refusal (area_fault area n 0).answer (area_fault area n 0).line)
+        → w ≡ cond a (cond b (told_text x (length out)) (refusal answer.OutOfRange 0)) (refusal (area_fault area n 0).answer (area_fault area n 0).line) → LikeScore v w
+    go true true (all ws) e f = later (score_bytes (area_lines area n 0)) e f (room (fits (text_bytes ws) (length out)))
+    go true true (lacking i) e f = later (score_bytes (area_lines area n 0)) e f no_text
     go true false x e f = same e f
     go false b x e f = same e f
 
@@ -193,18 +193,18 @@ text-like-score area to bytes out new n v w s t = go (is_taken (areaFault area n
 pub text-read-back : TextReadBack
 text-read-back area out bytes n w h done z =
     let k = wrote-text area n out bytes w done z in
-    let ls = areaLines area n 0 in
+    let ls = area_lines area n 0 in
     let g = (slots-back area n 0 h k.fault).0 in
     ap text_of k.bytes ∙ text-reads ls k.lines g (omega (arith, lines-count area n 0, k.few)) (text_says ls k.lines g k.are)
 
 pub text-slots-back : TextSlotsBack
 text-slots-back area out bytes into new n w d h done z dec fit =
-    let ls = areaLines area n 0 in
+    let ls = area_lines area n 0 in
     let k = wrote-text area n out bytes w done z in
     let b = slots-back area n 0 h k.fault in
     let c : length ls ≡ n = lines-count area n 0 in
     let s : text_of (take w.bytes bytes) ≡ taken ls = text-read-back area out bytes n w h done z in
-    slots-decoded area n ls into new d c b.1 (sym (ap length b.1) ∙ words_long ls b.0 ∙ ap (λ (j : ℕ). slotWords * j) c)
+    slots-decoded area n ls into new d c b.1 (sym (ap length b.1) ∙ words_long ls b.0 ∙ ap (λ (j : ℕ). slot_words * j) c)
     (decodes (text_of (take w.bytes bytes)) ls into new d (ap (λ (x : Score). x.answer) s) (ap (λ (x : Score). x.lines) s) (omega arith) dec)
 
 pub never-refused-18 : NeverRefused18
@@ -224,7 +224,7 @@ values-fit (x ∷ xs) =
     and_i (fits binary32 (meaning x.element)) (all_of (fits binary32) (map (λ (y : Behind Numeral). meaning y.element) xs)) (meaning-fits x.element)
     (values-fit xs)
 
-event-fit : (f : Form) → T (all_of (fits binary32) (eventNumbers (form.eventContent f)))
+event-fit : (f : Form) → T (all_of (fits binary32) (event_numbers (form.event_content f)))
 event-fit (instr l t n d vs) =
     and_i (fits binary32 (meaning d.element)) (all_of (fits binary32) (map (λ (x : Behind Numeral). meaning x.element) vs)) (meaning-fits d.element)
     (values-fit vs)
@@ -232,13 +232,13 @@ event-fit (control t l more n x) = and_i (fits binary32 (meaning x.element)) tru
 event-fit (tempo t more x) = and_i (fits binary32 (meaning x.element)) true (meaning-fits x.element) tt
 event-fit (end t more) = tt
 
-content-fit : (w : TextLine) → T (all_of (fits binary32) (numbersOf (contentBy w)))
-unfolding contentBy
+content-fit : (w : TextLine) → T (all_of (fits binary32) (numbers_of (content_by w)))
+unfolding content_by
 content-fit w =
-    and_i (fits binary32 (meaning (form.timeContent w.form))) (all_of (fits binary32) (eventNumbers (form.eventContent w.form))) (meaning-fits (form.timeContent w.form))
+    and_i (fits binary32 (meaning (form.time_content w.form))) (all_of (fits binary32) (event_numbers (form.event_content w.form))) (meaning-fits (form.time_content w.form))
     (event-fit w.form)
 
-form-names : (f : Form) → ValidForm f → SmallNames (form.eventContent f)
+form-names : (f : Form) → ValidForm f → SmallNames (form.event_content f)
 unfolding ValidForm SmallNames
 form-names (instr none t n d vs) h = h.1.1.0
 form-names (instr (some l) t n d vs) h = (h.0, h.1.1.0)
@@ -251,41 +251,41 @@ form-names (end t more) h = tt
 abbrev HasText : Line → Type 0
 HasText l = T (valid l) × ((w : TextLine) × IsTextOf l w)
 
-line-has : (w : TextLine) (l : Line) (q : ℕ) → ValidForm w.form → lineContent (contentBy w) ≡ got l q → HasText l
-unfolding contentBy
+line-has : (w : TextLine) (l : Line) (q : ℕ) → ValidForm w.form → line_content (content_by w) ≡ got l q → HasText l
+unfolding content_by
 line-has w l q h e =
-    let b = content-back (contentBy w) l q (content-fit w) (form-names w.form h) e in
+    let b = content-back (content_by w) l q (content-fit w) (form-names w.form h) e in
     go b.0 b.1 (every-line-told l (valid-stored l b.0))
   where
-    go : T (valid l) → contentOf l ≡ some (contentBy w) → {o : Option TextLine} → Told l o → HasText l
+    go : T (valid l) → content_of l ≡ some (content_by w) → {o : Option TextLine} → Told l o → HasText l
     go a s (claims.content v k u n) = (a, (v, k))
     go a s (claims.unsaid u n) = absurd (content-not l w h s u)
 
-judged-back : {P : Type 0} (i : ℕ) (s : Content) (ss : List Content) (ls : List Line) (p : ℕ) → judgedFrom i (s ∷ ss) ≡ score.all ls p
-    → ((l : Line) (q : ℕ) (ms : List Line) (r : ℕ) → lineContent s ≡ got l q → judgedFrom (suc i) ss ≡ score.all ms r → ls ≡ l ∷ ms → P) → P
-unfolding judgedFrom
-judged-back {P} i s ss ls p e then = go (lineContent s) refl (judgedFrom (suc i) ss) refl e
+judged-back : {P : Type 0} (i : ℕ) (s : Content) (ss : List Content) (ls : List Line) (p : ℕ) → judged_from i (s ∷ ss) ≡ score.all ls p
+    → ((l : Line) (q : ℕ) (ms : List Line) (r : ℕ) → line_content s ≡ got l q → judged_from (suc i) ss ≡ score.all ms r → ls ≡ l ∷ ms → P) → P
+unfolding judged_from
+judged-back {P} i s ss ls p e then = go (line_content s) refl (judged_from (suc i) ss) refl e
   where
-    go : (x : Read Line) → lineContent s ≡ x → (y : Lines) → judgedFrom (suc i) ss ≡ y → lineThen x i (λ q. y) ≡ score.all ls p → P
+    go : (x : Read Line) → line_content s ≡ x → (y : Lines) → judged_from (suc i) ss ≡ y → line_then x i (λ q. y) ≡ score.all ls p → P
     go (got l q) f (score.all ms r) g k = then l q ms r f g (cc)
     go (got l q) f (score.faulty z j) g k = absurd (let n : ◌≡◌ {A = ℕ} 0 1 = cc in omega arith)
     go (refused z) f y g k = absurd (let n : ◌≡◌ {A = ℕ} 0 1 = cc in omega arith)
 
 record AllHave (ls : List Line) (n : ℕ) : Type 0 where
-  are-valid : T (allValid ls)
+  are-valid : T (all_valid ls)
   texts : List TextLine
   content : AllHaveText ls texts
   count : length ls ≡ n
 
-lines-have : (i : ℕ) (ws : List TextLine) (ls : List Line) (p : ℕ) → ValidLines ws → judgedFrom i (map contentBy ws) ≡ score.all ls p → AllHave ls (length ws)
-unfolding ValidLines allValid
-lines-have i [] ls p h e = let z : ls ≡ [] = unfold judgedFrom in cc in rw z (record { are-valid = tt; texts = []; content = no_lines; count = refl })
+lines-have : (i : ℕ) (ws : List TextLine) (ls : List Line) (p : ℕ) → ValidLines ws → judged_from i (map content_by ws) ≡ score.all ls p → AllHave ls (length ws)
+unfolding ValidLines all_valid
+lines-have i [] ls p h e = let z : ls ≡ [] = unfold judged_from in cc in rw z (record { are-valid = tt; texts = []; content = no_lines; count = refl })
 lines-have i (w ∷ ws) ls p h e =
-    judged-back i (contentBy w) (map contentBy ws) ls p e (λ l q ms r f g k.
+    judged-back i (content_by w) (map content_by ws) ls p e (λ l q ms r f g k.
     let a = line-has w l q h.0 f in
     let b = lines-have (suc i) ws ms r h.1 g in
     rw k (record {
-      are-valid = and_i (valid l) (allValid ms) a.0 b.are-valid;
+      are-valid = and_i (valid l) (all_valid ms) a.0 b.are-valid;
       texts = a.1.0 ∷ b.texts;
       content = one_more a.1.1 b.content;
       count = ap suc b.count;
@@ -302,20 +302,20 @@ no-fault fault.TooManyValues e = let z : ◌≡◌ {A = ℕ} 0 1 = cc in omega a
 record TextTaken (s : List ℕ) : Type 0 where
   lines : List Line
   is : text_of s ≡ taken lines
-  few : length lines ≤ mostLines
+  few : length lines ≤ most_lines
   have : AllHave lines (length lines)
 
 text-taken : (s : List ℕ) → (text_of s).answer ≡ answer.Taken → TextTaken s
 text-taken s e = go (every-text s)
   where
-    by_lines : (ws : List TextLine) (x : Lines) → judgedFrom 0 (map contentBy ws) ≡ x → Encodes s ws → text_of s ≡ judgement x → TextTaken s
+    by_lines : (ws : List TextLine) (x : Lines) → judged_from 0 (map content_by ws) ≡ x → Encodes s ws → text_of s ≡ judgement x → TextTaken s
     by_lines ws (score.all ls p) f k g =
         let h = lines-have 0 ws ls p k.valid f in
         record { lines = ls; is = g; few = omega (arith, h.count, k.few); have = record { are-valid = h.are-valid; texts = h.texts; content = h.content; count = refl } }
     by_lines ws (score.faulty z i) f k g = absurd (no-fault z (sym (ap (λ (x : Score). x.answer) g) ∙ e))
 
     go : Either s → TextTaken s
-    go (encodes ws k) = by_lines ws (judgedFrom 0 (map contentBy ws)) refl k (text-read s ws k)
+    go (encodes ws k) = by_lines ws (judged_from 0 (map content_by ws)) refl k (text-read s ws k)
     go (breaks i b) =
         absurd (let z : answer.Taken ≡ answer.BadText = sym e ∙ ap (λ (x : Score). x.answer) (text-broken s i b) in let n : ◌≡◌ {A = ℕ} 0 1 = cc in omega arith)
 
@@ -328,22 +328,22 @@ read-has-text s z =
 abbrev Tells : List ℕ → List ℕ → call.WriteResult → List ℕ → Type 0
 Tells out new w bytes = (w ≡ told bytes (length out)) × (new ≡ left bytes out)
 
-told_text : (area : List ℕ) (n : ℕ) (out new : List ℕ) (w : call.WriteResult) (ws : List TextLine) → (areaFault area n 0).answer ≡ answer.Taken → n ≤ mostLines
-    → textFrom 0 (areaLines area n 0) ≡ all ws → TextDone area n out new w → Tells out new w (textBytes ws)
-unfolding textWritten textLeft
-told_text area n out new w ws f few e d =
+told-text : (area : List ℕ) (n : ℕ) (out new : List ℕ) (w : call.WriteResult) (ws : List TextLine) → (area_fault area n 0).answer ≡ answer.Taken → n ≤ most_lines
+    → text_from 0 (area_lines area n 0) ≡ all ws → TextDone area n out new w → Tells out new w (text_bytes ws)
+unfolding text_written text_left
+told-text area n out new w ws f few e d =
     let a = ap is_taken f in
-    let b = le-leb n mostLines few in (
-      d.answers ∙ cond-true _ _ a ∙ cond-true _ _ b ∙ ap (λ (t : Text). toldText t (length out)) e,
+    let b = le-leb n most_lines few in (
+      d.answers ∙ cond-true _ _ a ∙ cond-true _ _ b ∙ ap (λ (t : Text). told_text t (length out)) e,
       d.leaves ∙ cond-true _ _ a ∙ cond-true _ _ b ∙ ap
-          (λ (t : Text). leftText t out) e,
+          (λ (t : Text). left_text t out) e,
     )
 
-written-again : (s out new : List ℕ) (w : call.WriteResult) (ws : List TextLine) → text_of (textBytes ws) ≡ text_of s → Tells out new w (textBytes ws) → WrittenAgain s new w
+written-again : (s out new : List ℕ) (w : call.WriteResult) (ws : List TextLine) → text_of (text_bytes ws) ≡ text_of s → Tells out new w (text_bytes ws) → WrittenAgain s new w
 written-again s out new w ws e t =
-    record { number = go (leb (length (textBytes ws)) (length out)) refl; again = λ z. ap text_of (told-zero (textBytes ws) out new w t.0 t.1 z) ∙ e }
+    record { number = go (leb (length (text_bytes ws)) (length out)) refl; again = λ z. ap text_of (told-zero (text_bytes ws) out new w t.0 t.1 z) ∙ e }
   where
-    go : (b : Bool) → leb (length (textBytes ws)) (length out) ≡ b → RoomNumber (number_of w.answer)
+    go : (b : Bool) → leb (length (text_bytes ws)) (length out) ≡ b → RoomNumber (number_of w.answer)
     go true k = let a = t.0 in rw (a, k) written
     go false k = let a = t.0 in rw (a, k) too_short
 
@@ -352,10 +352,10 @@ text-read-again s area words out new d w dec z done =
     let a = decoded-zero (text_of s) area words d dec z in
     let t = text-taken s a.0 in
     let ls = t.lines in
-    let fit : slotWords * length ls ≤ length area = subst (λ (x : List Line). slotWords * length x ≤ length area) (ap (λ (x : Score). x.lines) t.is) a.1 in
+    let fit : slot_words * length ls ≤ length area = subst (λ (x : List Line). slot_words * length x ≤ length area) (ap (λ (x : Score). x.lines) t.is) a.1 in
     let k = decodes (text_of s) ls area words d a.0 (ap (λ (x : Score). x.lines) t.is) fit dec in
-    let f = held-from ls words (drop (length (areaWords ls)) area) 0 t.have.are-valid k.words in
+    let f = held-from ls words (drop (length (area_words ls)) area) 0 t.have.are-valid k.words in
     let ws = t.have.texts in
     written-again s out new w ws (text-reads ls ws t.have.are-valid t.few t.have.content ∙ sym t.is)
-    (told_text words (length ls) out new w ws f.0 t.few (ap (textFrom 0) f.1 ∙ says-text 0 t.have.content)
+    (told-text words (length ls) out new w ws f.0 t.few (ap (text_from 0) f.1 ∙ says-text 0 t.have.content)
     (subst (λ (n : ℕ). TextDone words n out new w) (ap (λ (x : Decoded). x.count) k.is) done))

@@ -17,16 +17,16 @@ use Rattle.score_line_writer.specs.Stored.{stored}
 use Rattle.score_reader.specs.declared.ScoreRead.{ScoreRead}
 use Rattle.score_decoder.proofs.Slots.{taken_is}
 use Rattle.text_format.specs.Form as form
-use Rattle.text_format.specs.Form.{textBytes}
-use Rattle.score_writer.specs.Slots.{slotRead, areaFault, areaLines}
-use Rattle.score_writer.specs.Writing.{mostLines}
+use Rattle.text_format.specs.Form.{text_bytes}
+use Rattle.score_writer.specs.Slots.{slot_read, area_fault, area_lines}
+use Rattle.score_writer.specs.Writing.{most_lines}
 use Rattle.score_writer.specs.Written.{refusal}
 use Rattle.score_writer.specs.declared.WriteResult.{WriteResult}
 use Rattle.score_writer.proofs.InSlots.{fault-back, slot_of}
 use Rattle.text_line_writer.specs.LineText.{IsTextOf}
-use Rattle.text_line_writer.specs.inside.LineText.{lineText}
-use Rattle.text_writer.specs.Writing.{Text, all, lacking, textFrom, toldText, leftText, textWritten, textLeft, TextDone}
-use Rattle.text_writer.specs.inside.Passes.{measuredPast, Measurable, Layable}
+use Rattle.text_line_writer.specs.inside.LineText.{line_text}
+use Rattle.text_writer.specs.Writing.{Text, all, lacking, text_from, told_text, left_text, text_written, text_left, TextDone}
+use Rattle.text_writer.specs.inside.Passes.{measured_past, Measurable, Layable}
 use Rattle.text_writer.specs.Claims.{Told}
 use Rattle.text_writer.specs.Claims as claims
 use Rattle.text_writer.specs.declared.Measure.{Measure}
@@ -35,7 +35,7 @@ use Rattle.text_writer.proofs.Stored.{valid-stored}
 use Rattle.text_writer.proofs.Short.{text-short}
 
 -- a text that is found says the line
-pub found-says : (l : Line) (w : form.TextLine) → T (stored l) → lineText l ≡ some w → IsTextOf l w
+pub found-says : (l : Line) (w : form.TextLine) → T (stored l) → line_text l ≡ some w → IsTextOf l w
 found-says l w h e = go (every-line-told l h) e
   where
     go : {o : Option form.TextLine} → Told l o → o ≡ some w → IsTextOf l w
@@ -43,85 +43,85 @@ found-says l w h e = go (every-line-told l h) e
     go (claims.unsaid u n) f = absurd (none-ne-some w f)
 
 -- where no slot has a fault, each was taken
-pub all-taken : (area : List ℕ) (n i j : ℕ) → (areaFault area n i).answer ≡ Taken → j < n → is_taken (slotRead area (i + j)).answer ≡ true
+pub all-taken : (area : List ℕ) (n i j : ℕ) → (area_fault area n i).answer ≡ Taken → j < n → is_taken (slot_read area (i + j)).answer ≡ true
 all-taken area zero i j e h = absurd (omega arith)
 all-taken area (suc n) i zero e h = cc ((fault-back area n i e).0, add-zero i)
 all-taken area (suc n) i (suc j) e h = let k : i + suc j ≡ suc i + j = omega arith in cc (all-taken area n (suc i) j (fault-back area n i e).1 (omega arith))
 
-module _ (area : List ℕ) (n : ℕ) {f : ScoreRead} {b : Bool} (e : f ≡ areaFault area n 0) (g : b ≡ is_taken f.answer) where
-  area-is : is_taken (areaFault area n 0).answer ≡ b
+module _ (area : List ℕ) (n : ℕ) {f : ScoreRead} {b : Bool} (e : f ≡ area_fault area n 0) (g : b ≡ is_taken f.answer) where
+  area-is : is_taken (area_fault area n 0).answer ≡ b
   area-is = sym (g ∙ ap (λ (x : ScoreRead). is_taken x.answer) e)
 
-  pub text-measurable : b ≡ true → n ≤ mostLines → ((i : ℕ) → get_or area i 0 < 2 ^ 32) → Measurable area n
+  pub text-measurable : b ≡ true → n ≤ most_lines → ((i : ℕ) → get_or area i 0 < 2 ^ 32) → Measurable area n
   text-measurable h few words =
       record {
         few = few;
         short = λ i l w k.
-            let t = all-taken area n 0 i (taken_is (areaFault area n 0).answer (area-is ∙ h)) l in
-            let r = valid-stored (slotRead area i).line (slot_of area i words (rw zero-add at t)).0 in
-            text-short (slotRead area i).line w r (found-says (slotRead area i).line w r k);
+            let t = all-taken area n 0 i (taken_is (area_fault area n 0).answer (area-is ∙ h)) l in
+            let r = valid-stored (slot_read area i).line (slot_of area i words (rw zero-add at t)).0 in
+            text-short (slot_read area i).line w r (found-says (slot_read area i).line w r k);
       }
 
-module _ (area : List ℕ) (n : ℕ) {m : Measure} (size : m ≡ measuredPast 0 (textFrom 0 (areaLines area n 0))) where
+module _ (area : List ℕ) (n : ℕ) {m : Measure} (size : m ≡ measured_past 0 (text_from 0 (area_lines area n 0))) where
   -- the lines of the text, where it is there
   record Lines : Type 0 where
     lines : List form.TextLine
-    are : textFrom 0 (areaLines area n 0) ≡ all lines
-    long : m.bytes ≡ length (textBytes lines)
+    are : text_from 0 (area_lines area n 0) ≡ all lines
+    long : m.bytes ≡ length (text_bytes lines)
 
   there : m.there ≡ true → Lines
-  there t = go (textFrom 0 (areaLines area n 0)) refl size
+  there t = go (text_from 0 (area_lines area n 0)) refl size
     where
-      go : (x : Text) → textFrom 0 (areaLines area n 0) ≡ x → m ≡ measuredPast 0 x → Lines
-      go (all ws) y z = record { lines = ws; are = y; long = ap (λ (k : Measure). k.bytes) z ∙ zero-add (length (textBytes ws)) }
+      go : (x : Text) → text_from 0 (area_lines area n 0) ≡ x → m ≡ measured_past 0 x → Lines
+      go (all ws) y z = record { lines = ws; are = y; long = ap (λ (k : Measure). k.bytes) z ∙ zero-add (length (text_bytes ws)) }
       go (lacking i) y z = absurd (true≢false (sym t ∙ ap (λ (k : Measure). k.there) z))
 
   pub text-layable : (room : ℕ) → Measurable area n → m.there ≡ true → m.bytes ≤ room → Layable area n room
   text-layable room u t l = let k = there t in record { measurable = u; lines = k.lines; are = k.are; within = omega (arith, k.long) }
 
-module _ (area : List ℕ) (n : ℕ) (s : List ℕ) {f : ScoreRead} {b : Bool} (e : f ≡ areaFault area n 0) (g : b ≡ is_taken f.answer) where
-  is : is_taken (areaFault area n 0).answer ≡ b
+module _ (area : List ℕ) (n : ℕ) (s : List ℕ) {f : ScoreRead} {b : Bool} (e : f ≡ area_fault area n 0) (g : b ≡ is_taken f.answer) where
+  is : is_taken (area_fault area n 0).answer ≡ b
   is = area-is area n e g
 
   pub text-refused : {x : WriteResult} → b ≡ false → x ≡ refusal f.answer f.line → TextDone area n s s x
-  unfolding textWritten textLeft
+  unfolding text_written text_left
   text-refused h y =
       record { answers = cc is; leaves = sym (cond-false _ _ (is ∙ h)) }
 
   module _ (h : b ≡ true) where
-    pub text-many : {x : WriteResult} → mostLines < n → x ≡ refusal OutOfRange 0 → TextDone area n s s x
-    unfolding textWritten textLeft
+    pub text-many : {x : WriteResult} → most_lines < n → x ≡ refusal OutOfRange 0 → TextDone area n s s x
+    unfolding text_written text_left
     text-many l y =
-        let k = lt-leb n mostLines l in
+        let k = lt-leb n most_lines l in
         record { answers = y ∙ sym (cond-true _ _ (is ∙ h) ∙ cond-false _ _ k); leaves = sym (cond-true _ _ (is ∙ h) ∙ cond-false _ _ k) }
 
-    module _ (few : n ≤ mostLines) where
-      done : (new : List ℕ) {x : WriteResult} → x ≡ toldText (textFrom 0 (areaLines area n 0)) (length s) → new ≡ leftText (textFrom 0 (areaLines area n 0)) s
+    module _ (few : n ≤ most_lines) where
+      done : (new : List ℕ) {x : WriteResult} → x ≡ told_text (text_from 0 (area_lines area n 0)) (length s) → new ≡ left_text (text_from 0 (area_lines area n 0)) s
           → TextDone area n s new x
-      unfolding textWritten textLeft
+      unfolding text_written text_left
       done new y z =
-          let k = le-leb n mostLines few in
+          let k = le-leb n most_lines few in
           record { answers = y ∙ sym (cond-true _ _ (is ∙ h) ∙ cond-true _ _ k); leaves = z ∙ sym (cond-true _ _ (is ∙ h) ∙ cond-true _ _ k) }
 
-      module _ {m : Measure} (size : m ≡ measuredPast 0 (textFrom 0 (areaLines area n 0))) where
-        pub text-taken : (new : List ℕ) → m.there ≡ true → m.bytes ≤ length s → new ≡ leftText (textFrom 0 (areaLines area n 0)) s
+      module _ {m : Measure} (size : m ≡ measured_past 0 (text_from 0 (area_lines area n 0))) where
+        pub text-taken : (new : List ℕ) → m.there ≡ true → m.bytes ≤ length s → new ≡ left_text (text_from 0 (area_lines area n 0)) s
             → TextDone area n s new (record { answer = Taken; line = 0; bytes = m.bytes })
         text-taken new t l y =
             let k = there area n size t in
-            let ws = textBytes k.lines in
+            let ws = text_bytes k.lines in
             done new (cc (k.long, k.are, le-leb (length ws) (length s) (omega (arith, k.long)))) y
 
         pub text-short-room : {x : WriteResult} → m.there ≡ true → length s < m.bytes → x ≡ refusal NoRoom 0 → TextDone area n s s x
         text-short-room t l y =
             let k = there area n size t in
-            let ws = textBytes k.lines in
+            let ws = text_bytes k.lines in
             let z = lt-leb (length ws) (length s) (omega (arith, k.long)) in
             done s (cc k.are) (cc k.are)
 
         pub text-lacking : {x : WriteResult} → m.there ≡ false → x ≡ refusal NoText m.line → TextDone area n s s x
-        text-lacking {x} t y = go (textFrom 0 (areaLines area n 0)) refl size
+        text-lacking {x} t y = go (text_from 0 (area_lines area n 0)) refl size
           where
-            go : (v : Text) → textFrom 0 (areaLines area n 0) ≡ v → m ≡ measuredPast 0 v → TextDone area n s s x
+            go : (v : Text) → text_from 0 (area_lines area n 0) ≡ v → m ≡ measured_past 0 v → TextDone area n s s x
             go (all ws) u z = absurd (true≢false (sym (ap (λ (k : Measure). k.there) z) ∙ t))
             go (lacking i) u z =
                 done s (cc) (cc)

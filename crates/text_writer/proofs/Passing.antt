@@ -10,115 +10,115 @@ use native.Mathlib.Omega.{arith}
 use borrow.Author.Tests.{le-leb}
 use lib.ListN.{length, get_or, set, take, drop, length-append, length-drop}
 use lib.Seq.{paste, paste-zero, paste-suc, length-paste, take_at, drop_at, drop-drop}
-use Rattle.text_number_writer.specs.Push.{lineRoom, emptyText, pushAll, contentOf}
+use Rattle.text_number_writer.specs.Push.{line_room, empty_text, push_all, content_of}
 use Rattle.text_number_writer.specs.declared.LineText.{LineText}
 use Rattle.text_number_writer.proofs.Pushing.{push-appends}
 use Rattle.score_line.specs.declared.Line.{Line}
 use Rattle.score_line.specs.declared.LineRead.{LineRead}
 use Rattle.text_format.specs.Form as form
-use Rattle.text_format.specs.Form.{lineBytes, textBytes}
-use Rattle.score_writer.specs.Slots.{slotRead, areaLines}
-use Rattle.text_line_writer.specs.inside.LineText.{lineText}
+use Rattle.text_format.specs.Form.{line_bytes, text_bytes}
+use Rattle.score_writer.specs.Slots.{slot_read, area_lines}
+use Rattle.text_line_writer.specs.inside.LineText.{line_text}
 use Rattle.text_line_writer.specs.inside.Drafts.{Holds}
-use Rattle.text_writer.specs.Writing.{Text, all, lacking, before, textFrom, leftText}
-use Rattle.text_writer.specs.inside.Passes.{measuredPast, Measurable, Layable, Fits, Put}
+use Rattle.text_writer.specs.Writing.{Text, all, lacking, before, text_from, left_text}
+use Rattle.text_writer.specs.inside.Passes.{measured_past, Measurable, Layable, Fits, Put}
 use Rattle.text_line_writer.specs.declared.Draft.{Draft}
 
 -- ---- a draft and its line
 
 -- its bytes stand in the code's line of text
 record Whole (t : LineText) (bytes : List ℕ) : Type 0 where
-  content : contentOf t ≡ bytes
+  content : content_of t ≡ bytes
   len : t.len ≡ length bytes
-  room : length t.bytes ≡ lineRoom
+  room : length t.bytes ≡ line_room
 
-whole : (t : LineText) (bytes : List ℕ) → t ≡ pushAll emptyText bytes → length bytes ≤ lineRoom → Whole t bytes
+whole : (t : LineText) (bytes : List ℕ) → t ≡ push_all empty_text bytes → length bytes ≤ line_room → Whole t bytes
 whole t bytes e h =
-    let a = push-appends emptyText bytes refl (omega arith) in
+    let a = push-appends empty_text bytes refl (omega arith) in
     record { content = cc; len = cc (zero-add (length bytes)); room = cc }
 
 record There (l : Line) (d : Draft) : Type 0 where
   written : form.TextLine
-  found : lineText l ≡ some written
-  text : d.text ≡ pushAll emptyText (lineBytes written)
+  found : line_text l ≡ some written
+  text : d.text ≡ push_all empty_text (line_bytes written)
 
-there : (l : Line) (d : Draft) → Holds d (map lineBytes (lineText l)) → d.there ≡ true → There l d
-there l d h e = go (lineText l) refl h
+there : (l : Line) (d : Draft) → Holds d (map line_bytes (line_text l)) → d.there ≡ true → There l d
+there l d h e = go (line_text l) refl h
   where
-    go : (o : Option form.TextLine) → lineText l ≡ o → Holds d (map lineBytes o) → There l d
+    go : (o : Option form.TextLine) → line_text l ≡ o → Holds d (map line_bytes o) → There l d
     go none f k = absurd (true≢false (sym e ∙ k))
     go (some w) f k = record { written = w; found = f; text = k.1 }
 
-lacks : (l : Line) (d : Draft) → Holds d (map lineBytes (lineText l)) → d.there ≡ false → lineText l ≡ none
-lacks l d h e = go (lineText l) refl h
+lacks : (l : Line) (d : Draft) → Holds d (map line_bytes (line_text l)) → d.there ≡ false → line_text l ≡ none
+lacks l d h e = go (line_text l) refl h
   where
-    go : (o : Option form.TextLine) → lineText l ≡ o → Holds d (map lineBytes o) → lineText l ≡ none
+    go : (o : Option form.TextLine) → line_text l ≡ o → Holds d (map line_bytes o) → line_text l ≡ none
     go none f k = f
     go (some w) f k = absurd (true≢false (sym k.0 ∙ e))
 
 -- ---- the lines that are left
 
-lines_left : (area : List ℕ) (n i : ℕ) → i < n → areaLines area (n - i) i ≡ (slotRead area i).line ∷ areaLines area (n - (i + 1)) (i + 1)
-unfolding areaLines
+lines_left : (area : List ℕ) (n i : ℕ) → i < n → area_lines area (n - i) i ≡ (slot_read area i).line ∷ area_lines area (n - (i + 1)) (i + 1)
+unfolding area_lines
 lines_left area n i h =
     let k : n - i ≡ suc (n - (i + 1)) = omega arith in
     cc (add-one i)
 
 text-left : (area : List ℕ) (n i : ℕ) → i < n
-    → textFrom i (areaLines area (n - i) i) ≡ before (lineText (slotRead area i).line) i (textFrom (i + 1) (areaLines area (n - (i + 1)) (i + 1)))
-unfolding textFrom
+    → text_from i (area_lines area (n - i) i) ≡ before (line_text (slot_read area i).line) i (text_from (i + 1) (area_lines area (n - (i + 1)) (i + 1)))
+unfolding text_from
 text-left area n i h =
     cc (lines_left area n i h, add-one i)
 
-text-end : (area : List ℕ) (n i : ℕ) → n ≤ i → textFrom i (areaLines area (n - i) i) ≡ all []
-unfolding textFrom areaLines
-text-end area n i h = let k : n - i ≡ 0 = omega arith in ap (λ (j : ℕ). textFrom i (areaLines area j i)) k
+text-end : (area : List ℕ) (n i : ℕ) → n ≤ i → text_from i (area_lines area (n - i) i) ≡ all []
+unfolding text_from area_lines
+text-end area n i h = let k : n - i ≡ 0 = omega arith in ap (λ (j : ℕ). text_from i (area_lines area j i)) k
 
-text-start : (area : List ℕ) (n : ℕ) → textFrom 0 (areaLines area (n - 0) 0) ≡ textFrom 0 (areaLines area n 0)
-text-start area n = let k : n - 0 ≡ n = omega arith in ap (λ (j : ℕ). textFrom 0 (areaLines area j 0)) k
+text-start : (area : List ℕ) (n : ℕ) → text_from 0 (area_lines area (n - 0) 0) ≡ text_from 0 (area_lines area n 0)
+text-start area n = let k : n - 0 ≡ n = omega arith in ap (λ (j : ℕ). text_from 0 (area_lines area j 0)) k
 
 -- ---- measuring
 
-one_more : (total i : ℕ) (w : form.TextLine) (t : Text) → measuredPast (total + length (lineBytes w)) t ≡ measuredPast total (before (some w) i t)
-unfolding textBytes
-one_more total i w (all ws) = cc (add_assoc total (length (lineBytes w)) (length (textBytes ws)), length-append (lineBytes w) (textBytes ws))
+one_more : (total i : ℕ) (w : form.TextLine) (t : Text) → measured_past (total + length (line_bytes w)) t ≡ measured_past total (before (some w) i t)
+unfolding text_bytes
+one_more total i w (all ws) = cc (add_assoc total (length (line_bytes w)) (length (text_bytes ws)), length-append (line_bytes w) (text_bytes ws))
 one_more total i w (lacking j) = refl
 
 module _ (area : List ℕ) (n : ℕ) where
   pub record Counted (total i : ℕ) : Type 0 where
     pub upto : i ≤ n
-    pub bound : total ≤ lineRoom * i
-    pub same : measuredPast total (textFrom i (areaLines area (n - i) i)) ≡ measuredPast 0 (textFrom 0 (areaLines area n 0))
+    pub bound : total ≤ line_room * i
+    pub same : measured_past total (text_from i (area_lines area (n - i) i)) ≡ measured_past 0 (text_from 0 (area_lines area n 0))
 
   pub count-start : Counted 0 0
-  count-start = record { upto = omega arith; bound = omega arith; same = ap (measuredPast 0) (text-start area n) }
+  count-start = record { upto = omega arith; bound = omega arith; same = ap (measured_past 0) (text-start area n) }
 
-  pub count-more : (total i : ℕ) {r : LineRead} (d : Draft) → Measurable area n → Counted total i → i < n → r ≡ slotRead area i
-      → Holds d (map lineBytes (lineText r.line)) → d.there ≡ true
+  pub count-more : (total i : ℕ) {r : LineRead} (d : Draft) → Measurable area n → Counted total i → i < n → r ≡ slot_read area i
+      → Holds d (map line_bytes (line_text r.line)) → d.there ≡ true
       → Counted (total + d.text.len) (i + 1)
   count-more total i {r} d m c h e k f =
-      let x = (slotRead area i).line in
+      let x = (slot_read area i).line in
       let t = there x d (rw e at k) f in
       let w = t.written in
-      let s : length (lineBytes w) ≤ lineRoom = m.short i h w t.found in
-      let p = whole d.text (lineBytes w) t.text s in
-      let more = textFrom (i + 1) (areaLines area (n - (i + 1)) (i + 1)) in
+      let s : length (line_bytes w) ≤ line_room = m.short i h w t.found in
+      let p = whole d.text (line_bytes w) t.text s in
+      let more = text_from (i + 1) (area_lines area (n - (i + 1)) (i + 1)) in
       record { upto = omega arith; bound = omega (arith, c.bound, p.len); same = cc (p.len, one_more total i w more, t.found, text-left area n i h, c.same) }
 
   -- the sum has a number
-  pub count_room : (total i : ℕ) {r : LineRead} (d : Draft) → Measurable area n → Counted total i → i < n → r ≡ slotRead area i
-      → Holds d (map lineBytes (lineText r.line)) → d.there ≡ true
+  pub count_room : (total i : ℕ) {r : LineRead} (d : Draft) → Measurable area n → Counted total i → i < n → r ≡ slot_read area i
+      → Holds d (map line_bytes (line_text r.line)) → d.there ≡ true
       → total + d.text.len < 18446744073709551616
   count_room total i d m c h e k f = omega (arith, (count-more total i d m c h e k f).bound, m.few)
 
-  pub count-stop : (total i : ℕ) {r : LineRead} (d : Draft) → Counted total i → i < n → r ≡ slotRead area i → Holds d (map lineBytes (lineText r.line))
+  pub count-stop : (total i : ℕ) {r : LineRead} (d : Draft) → Counted total i → i < n → r ≡ slot_read area i → Holds d (map line_bytes (line_text r.line))
       → d.there ≡ false
-      → record { there = false; line = i; bytes = 0 } ≡ measuredPast 0 (textFrom 0 (areaLines area n 0))
+      → record { there = false; line = i; bytes = 0 } ≡ measured_past 0 (text_from 0 (area_lines area n 0))
   count-stop total i {r} d c h e k f =
-      cc (lacks (slotRead area i).line d (rw e at k) f, text-left area n i h, c.same)
+      cc (lacks (slot_read area i).line d (rw e at k) f, text-left area n i h, c.same)
 
-  pub count-end : (total i : ℕ) → Counted total i → n ≤ i → record { there = true; line = 0; bytes = total } ≡ measuredPast 0 (textFrom 0 (areaLines area n 0))
-  unfolding textBytes
+  pub count-end : (total i : ℕ) → Counted total i → n ≤ i → record { there = true; line = 0; bytes = total } ≡ measured_past 0 (text_from 0 (area_lines area n 0))
+  unfolding text_bytes
   count-end total i c h = cc (add-zero total, text-end area n i h, c.same)
 
 -- ---- one line put at a position
@@ -151,18 +151,18 @@ module _ (old : List ℕ) (at : ℕ) (t : LineText) where
   pub copy-end : {new : List ℕ} (i : ℕ) → Copied old at t.len t.bytes new i → t.len ≤ i → Put old at t new (at + t.len)
   copy-end i c h =
       let k : i ≡ t.len = omega (arith, c.upto) in
-      record { past = refl; stands = c.is ∙ ap (paste old at t.bytes) k ∙ append_assoc (take at old) (contentOf t) (drop (at + t.len) old) }
+      record { past = refl; stands = c.is ∙ ap (paste old at t.bytes) k ∙ append_assoc (take at old) (content_of t) (drop (at + t.len) old) }
 
 -- ---- the lines put one behind the other
 
-bytes-append : (us vs : List form.TextLine) → textBytes (us ++ vs) ≡ textBytes us ++ textBytes vs
-unfolding textBytes
+bytes-append : (us vs : List form.TextLine) → text_bytes (us ++ vs) ≡ text_bytes us ++ text_bytes vs
+unfolding text_bytes
 bytes-append [] vs = refl
-bytes-append (u ∷ us) vs = ap (λ (b : List ℕ). lineBytes u ++ b) (bytes-append us vs) ∙ sym (append_assoc (lineBytes u) (textBytes us) (textBytes vs))
+bytes-append (u ∷ us) vs = ap (λ (b : List ℕ). line_bytes u ++ b) (bytes-append us vs) ∙ sym (append_assoc (line_bytes u) (text_bytes us) (text_bytes vs))
 
-bytes-snoc : (us : List form.TextLine) (w : form.TextLine) → textBytes (us ++ (w ∷ [])) ≡ textBytes us ++ lineBytes w
-unfolding textBytes
-bytes-snoc us w = bytes-append us (w ∷ []) ∙ ap (λ (b : List ℕ). textBytes us ++ b) (append-nil (lineBytes w))
+bytes-snoc : (us : List form.TextLine) (w : form.TextLine) → text_bytes (us ++ (w ∷ [])) ≡ text_bytes us ++ line_bytes w
+unfolding text_bytes
+bytes-snoc us w = bytes-append us (w ∷ []) ∙ ap (λ (b : List ℕ). text_bytes us ++ b) (append-nil (line_bytes w))
 
 pub all_same : {us vs : List form.TextLine} → all us ≡ all vs → us ≡ vs
 all_same e = cc
@@ -185,45 +185,45 @@ module _ (area : List ℕ) (n : ℕ) (first : List ℕ) where
     pub upto : i ≤ n
     pub done : List form.TextLine
     pub rest : List form.TextLine
-    pub are : textFrom 0 (areaLines area n 0) ≡ all (done ++ rest)
-    pub left : textFrom i (areaLines area (n - i) i) ≡ all rest
-    pub past : p ≡ length (textBytes done)
-    pub stands : s ≡ textBytes done ++ drop p first
+    pub are : text_from 0 (area_lines area n 0) ≡ all (done ++ rest)
+    pub left : text_from i (area_lines area (n - i) i) ≡ all rest
+    pub past : p ≡ length (text_bytes done)
+    pub stands : s ≡ text_bytes done ++ drop p first
 
   pub lay-start : Layable area n (length first) → Laying first 0 0
-  unfolding textBytes
+  unfolding text_bytes
   lay-start h = record { upto = omega arith; done = []; rest = h.lines; are = h.are; left = text-start area n ∙ h.are; past = refl; stands = refl }
 
   module _ {s : List ℕ} {p i : ℕ} (h : Layable area n (length first)) (c : Laying s p i) where
-    room : length (textBytes c.done) + length (textBytes c.rest) ≤ length first
+    room : length (text_bytes c.done) + length (text_bytes c.rest) ≤ length first
     room =
         let e : h.lines ≡ c.done ++ c.rest = all_same (sym h.are ∙ c.are) in
         omega (
           arith,
-          ap (λ (ws : List form.TextLine). length (textBytes ws)) e,
+          ap (λ (ws : List form.TextLine). length (text_bytes ws)) e,
           ap length (bytes-append c.done c.rest),
-          length-append (textBytes c.done)
-              (textBytes c.rest),
+          length-append (text_bytes c.done)
+              (text_bytes c.rest),
           h.within,
         )
 
     pub lay-length : length s ≡ length first
-    lay-length = omega (arith, ap length c.stands, length-append (textBytes c.done) (drop p first), length-drop p first, room, c.past)
+    lay-length = omega (arith, ap length c.stands, length-append (text_bytes c.done) (drop p first), length-drop p first, room, c.past)
 
-    module _ (below : i < n) {r : LineRead} (d : Draft) (read : r ≡ slotRead area i) (holds : Holds d (map lineBytes (lineText r.line))) where
-      next : First (lineText (slotRead area i).line) (textFrom (i + 1) (areaLines area (n - (i + 1)) (i + 1))) c.rest
-      next = first-of (lineText (slotRead area i).line) i (textFrom (i + 1) (areaLines area (n - (i + 1)) (i + 1))) c.rest (sym (text-left area n i below) ∙ c.left)
+    module _ (below : i < n) {r : LineRead} (d : Draft) (read : r ≡ slot_read area i) (holds : Holds d (map line_bytes (line_text r.line))) where
+      next : First (line_text (slot_read area i).line) (text_from (i + 1) (area_lines area (n - (i + 1)) (i + 1))) c.rest
+      next = first-of (line_text (slot_read area i).line) i (text_from (i + 1) (area_lines area (n - (i + 1)) (i + 1))) c.rest (sym (text-left area n i below) ∙ c.left)
 
-      line : Whole d.text (lineBytes next.one)
+      line : Whole d.text (line_bytes next.one)
       line =
           let w = next.one in
           let f = next.found in
-          let k : Holds d (map lineBytes (some w)) = rw (read, f) at holds in
-          whole d.text (lineBytes w) k.1 (h.measurable.short i below w next.found)
+          let k : Holds d (map line_bytes (some w)) = rw (read, f) at holds in
+          whole d.text (line_bytes w) k.1 (h.measurable.short i below w next.found)
 
-      bytes_left : length (textBytes c.rest) ≡ length (lineBytes next.one) + length (textBytes next.others)
-      unfolding textBytes
-      bytes_left = ap (λ (ws : List form.TextLine). length (textBytes ws)) next.are ∙ length-append (lineBytes next.one) (textBytes next.others)
+      bytes_left : length (text_bytes c.rest) ≡ length (line_bytes next.one) + length (text_bytes next.others)
+      unfolding text_bytes
+      bytes_left = ap (λ (ws : List form.TextLine). length (text_bytes ws)) next.are ∙ length-append (line_bytes next.one) (text_bytes next.others)
 
       pub lay-fits : Fits (length s) p d.text
       lay-fits =
@@ -237,7 +237,7 @@ module _ (area : List ℕ) (n : ℕ) (first : List ℕ) where
       pub lay-more : {t : List ℕ} {q : ℕ} → Put s p d.text t q → Laying t q (i + 1)
       lay-more {t} {q} k =
           let w = next.one in
-          let b = textBytes c.done in
+          let b = text_bytes c.done in
           let len = d.text.len in
           let e = bytes-snoc c.done w in
           let f = take_at b (drop p first) p (sym c.past) in
@@ -248,12 +248,12 @@ module _ (area : List ℕ) (n : ℕ) (first : List ℕ) where
             rest = next.others;
             are = cc (c.are, next.are, append_assoc c.done (w ∷ []) next.others);
             left = next.rest;
-            past = omega (arith, k.past, c.past, line.len, ap length e, length-append b (lineBytes w));
-            stands = cc (k.stands, f, c.stands, line.content, append_assoc b (lineBytes w) (drop (p + len) first), k.past);
+            past = omega (arith, k.past, c.past, line.len, ap length e, length-append b (line_bytes w));
+            stands = cc (k.stands, f, c.stands, line.content, append_assoc b (line_bytes w) (drop (p + len) first), k.past);
           }
 
-    pub lay-end : n ≤ i → s ≡ leftText (textFrom 0 (areaLines area n 0)) first
+    pub lay-end : n ≤ i → s ≡ left_text (text_from 0 (area_lines area n 0)) first
     lay-end m =
         let z : c.rest ≡ [] = all_same (sym c.left ∙ text-end area n i m) in
-        let b = textBytes c.done in
+        let b = text_bytes c.done in
         cc (c.stands, c.past, c.are, append-nil c.done, le-leb (length b) (length first) (omega (arith, room)))

@@ -9,7 +9,7 @@ use lib.Ieee.Fits.{and_l, and_r, and_i}
 use Rattle.base_formats.specs.Format.{all}
 use Rattle.base_formats.specs.Format as F
 use Rattle.base_formats.specs.Description.{format, flag}
-use Rattle.score_line.specs.LineFormat.{eventParts, kind_of, values_of, count_of, used, filled, in_range, float, number, timed, when, label, kind, labelled, body, counted, values, afterTime, parts, is_zero, line, valid}
+use Rattle.score_line.specs.LineFormat.{event_parts, kind_of, values_of, count_of, used, filled, in_range, float, number, timed, when, label, kind, labelled, body, counted, values, after_time, parts, is_zero, line, valid}
 use Rattle.score_line.specs.declared.When.{When}
 use Rattle.score_line.specs.declared.When.TheVariants.{Timed, Untimed}
 use Rattle.score_line.specs.declared.Label.{Label}
@@ -19,7 +19,7 @@ use Rattle.score_line.specs.declared.Range.TheVariants as range
 use Rattle.score_line.specs.declared.Event.{Event}
 use Rattle.score_line.specs.declared.Event.TheVariants.{Instr, Control, End, Tempo}
 use Rattle.score_line.specs.declared.Line.{Line}
-use Rattle.score_line_writer.specs.Stored.{isSymbol, storedWhen, storedLabel, storedEvent, stored}
+use Rattle.score_line_writer.specs.Stored.{is_symbol, stored_when, stored_label, stored_event, stored}
 
 -- ---- tests, each weaker than another
 
@@ -37,26 +37,26 @@ float_stored : (r : Range) (x : Float) → T ((format (float r)).valid x) → T 
 unfolding float
 float_stored r x h = and_l (fits binary32 x) (in_range r (to_bits binary32 x)) h
 
-when-stored : (w : When) → T ((format when).valid w) → T (storedWhen w)
+when-stored : (w : When) → T ((format when).valid w) → T (stored_when w)
 unfolding when timed
 when-stored Untimed h = tt
 when-stored (Timed late t) h = float_stored range.Time t (and_r ((format flag).valid late) ((format (float range.Time)).valid t) h)
 
-label-stored : (l : Label) → T ((format label).valid l) → T (storedLabel l)
+label-stored : (l : Label) → T ((format label).valid l) → T (stored_label l)
 unfolding label F.small
 label-stored Unlabelled h = tt
 label-stored (Labelled n) h = h
 
-event-stored : (e : Event) → T ((format (body (kind_of e))).valid (eventParts e).1) → T (storedEvent e)
+event-stored : (e : Event) → T ((format (body (kind_of e))).valid (event_parts e).1) → T (stored_event e)
 unfolding body labelled F.small
 event-stored (Instr l i d) h =
     let f = (format (float range.Duration)).valid d in
-    and-map ((format label).valid l) (isSymbol i && f) (storedLabel l) (isSymbol i && fits binary32 d) (label-stored l)
-    (and-map (isSymbol i) f (isSymbol i) (fits binary32 d) (λ k. k) (float_stored range.Duration d)) h
+    and-map ((format label).valid l) (is_symbol i && f) (stored_label l) (is_symbol i && fits binary32 d) (label-stored l)
+    (and-map (is_symbol i) f (is_symbol i) (fits binary32 d) (λ k. k) (float_stored range.Duration d)) h
 event-stored (Control l v x) h =
     let f = (format (float range.Value)).valid x in
-    and-map (isSymbol l) (isSymbol v && f) (isSymbol l) (isSymbol v && fits binary32 x) (λ k. k)
-    (and-map (isSymbol v) f (isSymbol v) (fits binary32 x) (λ k. k) (float_stored range.Value x)) h
+    and-map (is_symbol l) (is_symbol v && f) (is_symbol l) (is_symbol v && fits binary32 x) (λ k. k)
+    (and-map (is_symbol v) f (is_symbol v) (fits binary32 x) (λ k. k) (float_stored range.Value x)) h
 event-stored End h = tt
 event-stored (Tempo x) h = float_stored range.Tempo x h
 
@@ -84,10 +84,10 @@ values-stored End n xs h k = zeros-stored xs k
 values-stored (Tempo x) n xs h k = zeros-stored xs k
 
 pub valid-stored : (l : Line) → T (valid l) → T (stored l)
-unfolding line parts afterTime kind
+unfolding line parts after_time kind
 valid-stored l h =
     let k = kind_of l.event in
-    let b = (format (body k)).valid (eventParts l.event).1 in
+    let b = (format (body k)).valid (event_parts l.event).1 in
     let v = (format (values k)).valid (values_of k l.count l.values) in
     let w = (format when).valid l.when in
     let p = (format flag).valid l.priority in
@@ -97,6 +97,6 @@ valid-stored l h =
     let g = and_r (filled l) (w && (p && (b && v))) h in
     let m = and_r p (b && v) (and_r w (p && (b && v)) g) in
     let q = and_r (eqb l.count (used l)) z (and_r long (eqb l.count (used l) && z) f) in
-    and_i (storedWhen l.when) (storedEvent l.event && (long && all (fits binary32) l.values)) (when-stored l.when (and_l w (p && (b && v)) g))
-    (and_i (storedEvent l.event) (long && all (fits binary32) l.values) (event-stored l.event (and_l b v m))
+    and_i (stored_when l.when) (stored_event l.event && (long && all (fits binary32) l.values)) (when-stored l.when (and_l w (p && (b && v)) g))
+    (and_i (stored_event l.event) (long && all (fits binary32) l.values) (event-stored l.event (and_l b v m))
     (and_i long (all (fits binary32) l.values) (and_l long (eqb l.count (used l) && z) f) (values-stored l.event l.count l.values (and_r b v m) q)))

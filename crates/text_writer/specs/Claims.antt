@@ -1,23 +1,23 @@
 -- What is promised of scores written as text: which text a line has, which refusals come first, and that reading and writing undo each other, through the
--- calls. Read this file first. Statements only; the proofs are in proofs/Lines.antt and proofs/Calls.antt.
+-- calls. Read this file first. Statements only; the proofs are in proofs/lines.antt and proofs/calls.antt.
 use Rattle.std.specs.Prelude.{ℕ, ◌*◌, ◌≤◌, ◌≡◌, List, [], ◌∷◌, ◌++◌, T, length, take}
 use Rattle.std.proofs.Math.Option.{Option, none, some}
 use Rattle.base_answer.specs.Numbers.{number_of}
 use Rattle.score_line.specs.declared.Line.{Line}
-use Rattle.score_line.specs.LineFormat.{slotWords}
+use Rattle.score_line.specs.LineFormat.{slot_words}
 use Rattle.score_line_writer.specs.Stored.{stored}
 use Rattle.score_reader.specs.Score.{taken}
 use Rattle.text_format.specs.Form as form
 use Rattle.text_format.specs.inside.Reading.{text_of}
 use Rattle.score_decoder.specs.Area.{DecodesTo}
 use Rattle.score_decoder.specs.declared.Decoded.{Decoded}
-use Rattle.score_writer.specs.Slots.{areaLines}
+use Rattle.score_writer.specs.Slots.{area_lines}
 use Rattle.score_writer.specs.Written.{ScoreDone}
-use Rattle.score_writer.specs.Claims.{Words, SlotsBack, allStored}
+use Rattle.score_writer.specs.Claims.{Words, SlotsBack, all_stored}
 use Rattle.score_writer.specs.declared.WriteResult.{WriteResult}
 use Rattle.text_line_writer.specs.LineText.{IsTextOf, NoTextForm}
-use Rattle.text_line_writer.specs.inside.LineText.{lineText}
-use Rattle.text_writer.specs.Writing.{Text, all, lacking, textFrom, TextDone}
+use Rattle.text_line_writer.specs.inside.LineText.{line_text}
+use Rattle.text_writer.specs.Writing.{Text, all, lacking, text_from, TextDone}
 
 -- ---- a line
 
@@ -27,7 +27,7 @@ pub data Told (l : Line) : Option form.TextLine → Type 0 where
   unsaid : NoTextForm l → ((v : form.TextLine) → IsTextOf l v → ⊥) → Told l none
 
 abbrev pub EveryLineTold : Type 0
-EveryLineTold = (l : Line) → T (stored l) → Told l (lineText l)
+EveryLineTold = (l : Line) → T (stored l) → Told l (line_text l)
 
 -- ---- the lines of a score
 
@@ -52,7 +52,7 @@ pub data TextIs (ls : List Line) : Text → Type 0 where
   broken : (i : ℕ) → FirstWithoutText ls i → TextIs ls (lacking i)
 
 abbrev pub EveryTextTold : Type 0
-EveryTextTold = (ls : List Line) → T (allStored ls) → TextIs ls (textFrom 0 ls)
+EveryTextTold = (ls : List Line) → T (all_stored ls) → TextIs ls (text_from 0 ls)
 
 -- ---- refusals: first those of the score writer, then 19, then 8
 
@@ -77,13 +77,13 @@ TextLikeScore = (area to bytes out new : List ℕ) (n : ℕ) (v w : WriteResult)
 abbrev pub TextReadBack : Type 0
 TextReadBack =
     (area out bytes : List ℕ) (n : ℕ) (w : WriteResult) → Words area → TextDone area n out bytes w → number_of w.answer ≡ 0
-    → text_of (take w.bytes bytes) ≡ taken (areaLines area n 0)
+    → text_of (take w.bytes bytes) ≡ taken (area_lines area n 0)
 
 -- decoded into any area that has room for them, the slots are its first words; the others are as they were
 abbrev pub TextSlotsBack : Type 0
 TextSlotsBack =
     (area out bytes into new : List ℕ) (n : ℕ) (w : WriteResult) (d : Decoded) → Words area → TextDone area n out bytes w → number_of w.answer ≡ 0
-    → DecodesTo (text_of (take w.bytes bytes)) into new d → slotWords * n ≤ length into → SlotsBack area n into new d
+    → DecodesTo (text_of (take w.bytes bytes)) into new d → slot_words * n ≤ length into → SlotsBack area n into new d
 
 -- it is never refused 18
 abbrev pub NeverRefused18 : Type 0

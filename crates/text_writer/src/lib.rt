@@ -1,8 +1,8 @@
 // Scores written as text, from an area of words, a slot to a line.
 ghost use Rattle.std.specs.Prelude.{◌≡◌, length};
-ghost use Rattle.score_writer.specs.Slots.{areaLines};
-ghost use Rattle.text_writer.specs.Writing.{textFrom, leftText, TextDone};
-ghost use Rattle.text_writer.specs.inside.Passes.{measuredPast, Measurable, Layable, Fits, Put};
+ghost use Rattle.score_writer.specs.Slots.{area_lines};
+ghost use Rattle.text_writer.specs.Writing.{text_from, left_text, TextDone};
+ghost use Rattle.text_writer.specs.inside.Passes.{measured_past, Measurable, Layable, Fits, Put};
 
 use base_answer::Answer;
 use score_writer::{MOST_LINES, WriteResult};
@@ -19,7 +19,7 @@ struct Measure {
 // One pass over the first n slots: how many bytes their text has, or the first line that has none.
 fn measured_lines(area: &[u32], n: usize) -> Measure
     requires { Measurable area.now n }
-    ensures { result ≡ measuredPast 0 (textFrom 0 (areaLines area.now n 0)) }
+    ensures { result ≡ measured_past 0 (text_from 0 (area_lines area.now n 0)) }
 {
     let mut total: usize = 0;
     let mut i: usize = 0;
@@ -64,7 +64,7 @@ fn put_text(out: &mut [u8], at: usize, text: LineText) -> usize
 // The other pass: the lines of the first n slots, one behind the other from the first byte on.
 fn put_lines(area: &[u32], n: usize, out: &mut [u8])
     requires { Layable area.now n (length out.old) }
-    ensures { out.new ≡ leftText (textFrom 0 (areaLines area.now n 0)) out.old }
+    ensures { out.new ≡ left_text (text_from 0 (area_lines area.now n 0)) out.old }
 {
     let mut p: usize = 0;
     let mut i: usize = 0;

@@ -8,10 +8,10 @@ use lib.ListN.{length, take, replicate, length-set, length-take, length-append, 
 use lib.Ieee.{Float, binary32, fits}
 use lib.Ieee.Fits.{add-fits}
 use Rattle.orchestra_syntax.specs.Tree.{Statements, done, assign, output, branch}
-use Rattle.orchestra_syntax.specs.inside.Program.{zeroF}
-use Rattle.orchestra_syntax.specs.inside.Placed.{rateOf, place_of}
+use Rattle.orchestra_syntax.specs.inside.Program.{zero_f}
+use Rattle.orchestra_syntax.specs.inside.Placed.{rate_of, place_of}
 use Rattle.base_float32.specs.Builtins.{truth}
-use Rattle.orchestra_semantics.specs.inside.Placed.{value, aRate, Sounding, sounding, assigned, outputs, pass, fresh, birth, kPass, aPasses}
+use Rattle.orchestra_semantics.specs.inside.Placed.{value, a_rate, Sounding, sounding, assigned, outputs, pass, fresh, birth, k_pass, a_passes}
 use Rattle.code_translation.specs.Statements.{AllFit}
 use Rattle.player_model.proofs.Lists.{either_way}
 use Rattle.voices_compiled.specs.Voices.{named}
@@ -28,11 +28,11 @@ both a b = record { size = b.size ∙ a.size; fit = λ h. b.fit (a.fit h) }
 
 assigned-kept : (r n : ℕ) (x : Float) (s : Sounding) → Kept s (assigned r n x s)
 unfolding assigned
-assigned-kept r n x s = either_way (Kept s) (eqb (rateOf n) r) (record { size = length-set s.values (place_of n) x; fit = λ h. h }) (same s)
+assigned-kept r n x s = either_way (Kept s) (eqb (rate_of n) r) (record { size = length-set s.values (place_of n) x; fit = λ h. h }) (same s)
 
 outputs-kept : (r : ℕ) (x : Float) (s : Sounding) → Kept s (outputs r x s)
 unfolding outputs
-outputs-kept r x s = either_way (Kept s) (eqb r aRate) (record { size = refl; fit = λ h. add-fits binary32 s.sample x }) (same s)
+outputs-kept r x s = either_way (Kept s) (eqb r a_rate) (record { size = refl; fit = λ h. add-fits binary32 s.sample x }) (same s)
 
 pass_kept : (r : ℕ) (t : Statements) (s : Sounding) → Kept s (pass r t s)
 unfolding pass
@@ -45,21 +45,21 @@ pass_kept r (branch e a b t) s =
 pub birth-size : (t : Statements) (vs : List Float) → length (birth t vs) ≡ 16
 unfolding birth fresh
 birth-size t vs =
-    (pass_kept 0 t (sounding (take 16 (vs ++ replicate 16 zeroF)) zeroF)).size
-    ∙ length-take 16 (vs ++ replicate 16 zeroF)
+    (pass_kept 0 t (sounding (take 16 (vs ++ replicate 16 zero_f)) zero_f)).size
+    ∙ length-take 16 (vs ++ replicate 16 zero_f)
     ∙ simp (length-append, length-replicate) (omega arith)
 
-pub k-size : (t : Statements) (vs : List Float) → length (kPass t vs) ≡ length vs
-unfolding kPass
-k-size t vs = (pass_kept 1 t (sounding vs zeroF)).size
+pub k-size : (t : Statements) (vs : List Float) → length (k_pass t vs) ≡ length vs
+unfolding k_pass
+k-size t vs = (pass_kept 1 t (sounding vs zero_f)).size
 
-pub a-size : (t : Statements) (vs mix : List Float) → length (aPasses t vs mix).values ≡ length vs
-unfolding aPasses
+pub a-size : (t : Statements) (vs mix : List Float) → length (a_passes t vs mix).values ≡ length vs
+unfolding a_passes
 a-size t vs [] = refl
 a-size t vs (x ∷ xs) = a-size t (pass 2 t (sounding vs x)).values xs ∙ (pass_kept 2 t (sounding vs x)).size
 
-pub a-fits : (t : Statements) (vs mix : List Float) → AllFit mix → AllFit (aPasses t vs mix).mix
-unfolding aPasses AllFit
+pub a-fits : (t : Statements) (vs mix : List Float) → AllFit mix → AllFit (a_passes t vs mix).mix
+unfolding a_passes AllFit
 a-fits t vs [] h = tt
 a-fits t vs (x ∷ xs) h = ((pass_kept 2 t (sounding vs x)).fit h.0, a-fits t (pass 2 t (sounding vs x)).values xs h.1)
 

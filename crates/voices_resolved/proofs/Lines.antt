@@ -9,13 +9,13 @@ use lib.ListN.{length, take, replicate}
 use lib.Ieee.{Float}
 use borrow.Author.Tests.{ne_eqb}
 use Rattle.score_line.specs.declared.Event.TheVariants.{Instr, Control, End, Tempo}
-use Rattle.orchestra_syntax.specs.Tree.{importsKind}
+use Rattle.orchestra_syntax.specs.Tree.{imports_kind}
 use Rattle.orchestra_syntax.specs.Names.{Named, names_of}
 use Rattle.code_program.specs.declared.FieldCount.TheVariants.{Count, NoSuch}
 use Rattle.player_model.proofs.Lists.{by-test}
 use Rattle.voices_compiled.specs.Voices.{named}
-use Rattle.orchestra_semantics.specs.Meaning.{noSymbol, instrumentOf}
-use Rattle.voices_resolved.specs.Tree.{importOf, importsOf}
+use Rattle.orchestra_semantics.specs.Meaning.{no_symbol, instrument_of}
+use Rattle.voices_resolved.specs.Tree.{import_of, imports_of}
 use Rattle.voices_resolved.specs.Claims.{FieldsTree, imported, ControlNames}
 
 pub fields-tree : FieldsTree
@@ -25,24 +25,24 @@ fields-tree is table code vals r (Control label x value) = refl
 fields-tree is table code vals r End = refl
 fields-tree is table code vals r (Tempo t) = refl
 
-module _ (x : ℕ) (a : Float) (small : x < noSymbol) where
+module _ (x : ℕ) (a : Float) (small : x < no_symbol) where
   -- 65,536 is no symbol
-  none : eqb noSymbol x ≡ false
-  none = ne_eqb noSymbol x (λ (e : noSymbol ≡ x). omega arith)
+  none : eqb no_symbol x ≡ false
+  none = ne_eqb no_symbol x (λ (e : no_symbol ≡ x). omega arith)
 
   -- behind the names nothing is set
-  behind : (k n : ℕ) (vs : List Float) → named x a (take k (replicate n noSymbol)) vs ≡ vs
+  behind : (k n : ℕ) (vs : List Float) → named x a (take k (replicate n no_symbol)) vs ≡ vs
   unfolding named
   behind zero n vs = refl
   behind (suc k) zero vs = refl
   behind (suc k) (suc n) [] = refl
   behind (suc k) (suc n) (v ∷ vs) = λ i. cond (none i) a v ∷ behind k n vs i
 
-  hit : (n : Named) → eqb (importOf n) x ≡ (eqb n.kind importsKind && eqb n.name x)
-  hit n = by-test (eqb n.kind importsKind) (λ e. rw e) (λ e. rw e none)
+  hit : (n : Named) → eqb (import_of n) x ≡ (eqb n.kind imports_kind && eqb n.name x)
+  hit n = by-test (eqb n.kind imports_kind) (λ e. rw e) (λ e. rw e none)
 
   sets : (k n : ℕ) (ns : List Named) (vs : List Float) → length vs ≤ k
-      → named x a (take k (map importOf ns ++ replicate n noSymbol)) vs ≡ imported x a ns vs
+      → named x a (take k (map import_of ns ++ replicate n no_symbol)) vs ≡ imported x a ns vs
   unfolding named imported
   sets k n [] vs h = behind k n vs
   sets zero n (m ∷ ns) [] h = refl
@@ -51,5 +51,5 @@ module _ (x : ℕ) (a : Float) (small : x < noSymbol) where
   sets (suc k) n (m ∷ ns) (v ∷ vs) h = λ i. cond (hit m i) a v ∷ sets k n ns vs (omega arith) i
 
 pub control-names : ControlNames
-unfolding importsOf
-control-names is x a s small h = sets x a small 16 16 (names_of (instrumentOf is s.instrument)) s.values (omega arith)
+unfolding imports_of
+control-names is x a s small h = sets x a small 16 16 (names_of (instrument_of is s.instrument)) s.values (omega arith)

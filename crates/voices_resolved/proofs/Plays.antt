@@ -5,14 +5,14 @@ use Prim.Native.Nat.{ℕ}
 use lib.ListN.{length, take}
 use lib.Ieee.{Float}
 use Rattle.orchestra_syntax.specs.Tree.{Instrument}
-use Rattle.orchestra_semantics.specs.inside.Placed.{birth, kPass, cycle}
+use Rattle.orchestra_semantics.specs.inside.Placed.{birth, k_pass, cycle}
 use Rattle.code_interpreter.specs.Passes.{stretch, fresh_of, once, played}
 use Rattle.code_translation.specs.Statements.{AllFit}
 use Rattle.code_program.specs.declared.Instrument as row
-use Rattle.code_program.specs.InstrumentTable.{instrumentIn}
-use Rattle.voices_compiled.specs.Voices.{VoiceState, named, voices, birthOf, ranValues, ranMixOf}
-use Rattle.voices_resolved.specs.Tree.{treeVoices, importsOf, body_of}
-use Rattle.orchestra_semantics.specs.Meaning.{instrumentOf}
+use Rattle.code_program.specs.InstrumentTable.{instrument_in}
+use Rattle.voices_compiled.specs.Voices.{VoiceState, named, voices, birth_of, ran_values, ran_mix_of}
+use Rattle.voices_resolved.specs.Tree.{tree_voices, imports_of, body_of}
+use Rattle.orchestra_semantics.specs.Meaning.{instrument_of}
 use Rattle.voices_resolved.specs.Represents.{Represents}
 use Rattle.voices_resolved.specs.Claims.{PlaysTree}
 use Rattle.voices_resolved.proofs.Kept.{birth-size, k-size, a-size, a-fits, named-size}
@@ -23,39 +23,39 @@ abbrev pub Sixteen : VoiceState → Type 0
 Sixteen s = length s.values ≡ 16
 
 module _ (is : List Instrument) (table : List row.Instrument) (code : List ℕ) (vals : List Float) (r : Represents is table code vals) where
-  born-is : (name : ℕ) (xs : List Float) → birthOf table code vals name xs ≡ birth (body_of is name) (take (length (instrumentOf is name).fields) xs)
-  unfolding birthOf
+  born-is : (name : ℕ) (xs : List Float) → birth_of table code vals name xs ≡ birth (body_of is name) (take (length (instrument_of is name).fields) xs)
+  unfolding birth_of
   born-is name xs =
       (λ i. once vals ((r.rows name).icode i) (fresh_of (take ((r.rows name).fields i) xs)))
-      ∙ (r.rows name).sounds.born (take (length (instrumentOf is name).fields) xs)
+      ∙ (r.rows name).sounds.born (take (length (instrument_of is name).fields) xs)
 
   module _ (name : ℕ) (vs mix : List Float) (h : length vs ≡ 16) (f : AllFit mix) where
-    k-is : once vals (stretch (instrumentIn table name).kstart (instrumentIn table name).kend code) vs ≡ kPass (body_of is name) vs
+    k-is : once vals (stretch (instrument_in table name).kstart (instrument_in table name).kend code) vs ≡ k_pass (body_of is name) vs
     k-is = ap (λ (ws : List ℕ). once vals ws vs) (r.rows name).kcode ∙ (r.rows name).sounds.cycled vs h
 
-    k-sixteen : length (kPass (body_of is name) vs) ≡ 16
+    k-sixteen : length (k_pass (body_of is name) vs) ≡ 16
     k-sixteen = k-size (body_of is name) vs ∙ h
 
-    values-are : ranValues table code vals name vs mix ≡ (cycle (body_of is name) vs mix).values
-    unfolding ranValues cycle
+    values-are : ran_values table code vals name vs mix ≡ (cycle (body_of is name) vs mix).values
+    unfolding ran_values cycle
     values-are =
-        (λ i. (played vals ((r.rows name).acode i) (k-is i) mix).values) ∙ (r.rows name).sounds.values (kPass (body_of is name) vs) mix k-sixteen f
+        (λ i. (played vals ((r.rows name).acode i) (k-is i) mix).values) ∙ (r.rows name).sounds.values (k_pass (body_of is name) vs) mix k-sixteen f
 
-    mix-is : ranMixOf table code vals name vs mix ≡ (cycle (body_of is name) vs mix).mix
-    unfolding ranMixOf cycle
+    mix-is : ran_mix_of table code vals name vs mix ≡ (cycle (body_of is name) vs mix).mix
+    unfolding ran_mix_of cycle
     mix-is =
-        (λ i. (played vals ((r.rows name).acode i) (k-is i) mix).mix) ∙ (r.rows name).sounds.sums (kPass (body_of is name) vs) mix k-sixteen f
+        (λ i. (played vals ((r.rows name).acode i) (k-is i) mix).mix) ∙ (r.rows name).sounds.sums (k_pass (body_of is name) vs) mix k-sixteen f
 
     cycle-sixteen : length (cycle (body_of is name) vs mix).values ≡ 16
     unfolding cycle
-    cycle-sixteen = a-size (body_of is name) (kPass (body_of is name) vs) mix ∙ k-sixteen
+    cycle-sixteen = a-size (body_of is name) (k_pass (body_of is name) vs) mix ∙ k-sixteen
 
     cycle-fits : AllFit (cycle (body_of is name) vs mix).mix
     unfolding cycle
-    cycle-fits = a-fits (body_of is name) (kPass (body_of is name) vs) mix f
+    cycle-fits = a-fits (body_of is name) (k_pass (body_of is name) vs) mix f
 
-  pub alike : Alike Sixteen (voices table code vals) (treeVoices is)
-  unfolding voices treeVoices
+  pub alike : Alike Sixteen (voices table code vals) (tree_voices is)
+  unfolding voices tree_voices
   alike =
       record {
         birth = λ name xs i. record { instrument = name; values = born-is name xs i };
@@ -65,8 +65,8 @@ module _ (is : List Instrument) (table : List row.Instrument) (code : List ℕ) 
               state = record { instrument = s.instrument; values = values-are s.instrument s.values mix h f i };
               mix = mix-is s.instrument s.values mix h f i;
             };
-        birth-good = λ name xs. birth-size (body_of is name) (take (length (instrumentOf is name).fields) xs);
-        control-good = λ x a s h. named-size x a (importsOf (instrumentOf is s.instrument)) s.values ∙ h;
+        birth-good = λ name xs. birth-size (body_of is name) (take (length (instrument_of is name).fields) xs);
+        control-good = λ x a s h. named-size x a (imports_of (instrument_of is s.instrument)) s.values ∙ h;
         run-good = λ s mix h f.
             record { good = cycle-sixteen s.instrument s.values mix h f; fit = cycle-fits s.instrument s.values mix h f };
       }

@@ -6,44 +6,44 @@ use Prim.Native.Nat.{ℕ}
 use lib.Dec.{eqb}
 use lib.Ieee.{Float}
 use Rattle.orchestra_syntax.specs.Tree.{Instrument, done}
-use Rattle.orchestra_syntax.specs.Names.{has, titleOf, named, named_by}
+use Rattle.orchestra_syntax.specs.Names.{has, title_of, named, named_by}
 use Rattle.orchestra_syntax.specs.inside.Placed.{put}
 use Rattle.code_bounds.proofs.Sounding.{sounds}
 use Rattle.code_translation.specs.Translation.{lowered}
 use Rattle.code_translation.specs.Statements.{Playable}
 use Rattle.player_model.proofs.Lists.{by-test}
 use Rattle.code_program.specs.declared.Instrument as row
-use Rattle.code_program.specs.InstrumentTable.{lookupIn, instrumentIn, blank}
-use Rattle.orchestra_semantics.specs.Meaning.{silent, instrumentOf}
-use Rattle.voices_resolved.specs.Tree.{importsOf}
+use Rattle.code_program.specs.InstrumentTable.{lookup_in, instrument_in, blank}
+use Rattle.orchestra_semantics.specs.Meaning.{silent, instrument_of}
+use Rattle.voices_resolved.specs.Tree.{imports_of}
 use Rattle.voices_resolved.specs.Represents.{Row, Rows, Represents}
 
 module _ (code : List ℕ) (vals : List Float) where
   -- no instrument's row: no code, no imports
   silent-row : Row code vals silent blank
-  unfolding silent blank importsOf named named_by put lowered Playable
+  unfolding silent blank imports_of named named_by put lowered Playable
   silent-row =
       record { fields = refl; imports = refl; start = 0; icode = refl; kcode = refl; acode = refl; sounds = sounds vals 0 done tt }
 
   known_in : (is : List Instrument) (table : List row.Instrument) → Rows code vals is table → (name : ℕ)
-      → (lookupIn name table).there ≡ has name (map titleOf is)
-  unfolding lookupIn has Rows
+      → (lookup_in name table).there ≡ has name (map title_of is)
+  unfolding lookup_in has Rows
   known_in [] [] h name = refl
   known_in [] (x ∷ xs) h name = absurd h
   known_in (i ∷ is) [] h name = absurd h
   known_in (i ∷ is) (x ∷ xs) h name =
-      ap (λ (n : ℕ). (cond (eqb n name) (record { there = true; instrument = x }) (lookupIn name xs)).there) h.0
+      ap (λ (n : ℕ). (cond (eqb n name) (record { there = true; instrument = x }) (lookup_in name xs)).there) h.0
       ∙ by-test (eqb i.name name) (λ e. rw e) (λ e. rw e (known_in is xs h.1.1 name))
 
   row_of : (is : List Instrument) (table : List row.Instrument) → Rows code vals is table → (name : ℕ)
-      → Row code vals (instrumentOf is name) (instrumentIn table name)
-  unfolding lookupIn instrumentOf Rows
+      → Row code vals (instrument_of is name) (instrument_in table name)
+  unfolding lookup_in instrument_of Rows
   row_of [] [] h name = silent-row
   row_of [] (x ∷ xs) h name = absurd h
   row_of (i ∷ is) [] h name = absurd h
   row_of (i ∷ is) (x ∷ xs) h name =
       subst
-      (λ (n : ℕ). Row code vals (cond (eqb i.name name) i (instrumentOf is name)) (cond (eqb n name) (record { there = true; instrument = x }) (lookupIn name xs)).instrument)
+      (λ (n : ℕ). Row code vals (cond (eqb i.name name) i (instrument_of is name)) (cond (eqb n name) (record { there = true; instrument = x }) (lookup_in name xs)).instrument)
       (sym h.0) (by-test (eqb i.name name) (λ e. rw e h.1.0) (λ e. rw e (row_of is xs h.1.1 name)))
 
   pub represents : (is : List Instrument) (table : List row.Instrument) → Rows code vals is table → Represents is table code vals

@@ -6,20 +6,20 @@ use Prim.Native.Nat.{ℕ, zero, suc, ◌+◌}
 use lib.Dec.{ltb, eqb}
 use lib.ListN.{length, take, replicate}
 use lib.Ieee.{Float, binary32, of_bits}
-use Rattle.base_timebase.specs.Time.{cycleIn}
+use Rattle.base_timebase.specs.Time.{cycle_in}
 use Rattle.score_line.specs.declared.Event.{Event}
 use Rattle.score_line.specs.declared.Event.TheVariants.{Instr, Control, End, Tempo}
 use Rattle.score_line.specs.declared.Line.{Line}
-use Rattle.midi_keys.specs.Keys.{frequencyOf, normalizedVelocity}
+use Rattle.midi_keys.specs.Keys.{frequency_of, normalized_velocity}
 use Rattle.midi_messages.specs.declared.NoteMessage.{NoteMessage}
 use Rattle.player_model.specs.Lists.{filter, each, All}
-use Rattle.player_model.specs.Cycle.{Voices, Note, Started, samples, isDue, withState, canCut, cutOldest, joinedBy, born, startedBy, started, controlledBy, controlEvent, controlled, run_from, runAll, anyEnd, positionLimit, lastTempo, limited, goesOn, release, is_held, releaseOldest, pressed, afterMessage, afterMessages}
+use Rattle.player_model.specs.Cycle.{Voices, Note, Started, samples, is_due, with_state, can_cut, cut_oldest, joined_by, born, started_by, started, controlled_by, control_event, controlled, run_from, run_all, any_end, position_limit, last_tempo, limited, goes_on, release, is_held, release_oldest, pressed, after_message, after_messages}
 use Rattle.settings_records.specs.declared.InUse.{InUse}
-use Rattle.player_model.specs.Set.{inForce, startingTempo, setWith}
-use Rattle.player_model.specs.PlayerState.{Settings, PlayerState, behind, due_at, laterThan, dueOf, endsBy, markedEnded, answer_of, startedOf, renderedOf, block_of, played, cycled, Due, withMessages, notesToRun}
-use Rattle.player_model.specs.Plain.{plainStart, plainAt, answerAt, block_at}
-use Rattle.player_model.specs.Calls.{numbered, Transition, takenIn, messagesTaken, allTaken}
-use Rattle.player_model.specs.History.{at, History, withTransition, historyFrom, historyOf}
+use Rattle.player_model.specs.Set.{in_force, starting_tempo, set_with}
+use Rattle.player_model.specs.PlayerState.{Settings, PlayerState, behind, due_at, later_than, due_of, ends_by, marked_ended, answer_of, started_of, rendered_of, block_of, played, cycled, Due, with_messages, notes_to_run}
+use Rattle.player_model.specs.Plain.{plain_start, plain_at, answer_at, block_at}
+use Rattle.player_model.specs.Calls.{numbered, Transition, taken_in, messages_taken, all_taken}
+use Rattle.player_model.specs.History.{at, History, with_transition, history_from, history_of}
 use Rattle.player_model.proofs.Lists.{fold-related, all_filter, all_append, all-parts, all_of}
 use Rattle.player_model.proofs.Count.{due_all}
 use Rattle.voices_source.specs.Alike.{NoteAs, NotesAs, StateAs}
@@ -61,44 +61,44 @@ module _ {S S' : Type 0} (R : S → S' → Type 0) (Ok : Line → Event → Type
     missed : s.missed ≡ t.missed
 
   -- the same note is cut off
-  can-cut : (xs : List (Note S)) (ys : List (Note S')) → NotesAs R xs ys → canCut xs ≡ canCut ys
-  unfolding canCut
-  can-cut = along (λ xs ys. canCut xs ≡ canCut ys) refl (λ x y xs ys g h r i. cond (g.priority i) (r i) true)
+  can-cut : (xs : List (Note S)) (ys : List (Note S')) → NotesAs R xs ys → can_cut xs ≡ can_cut ys
+  unfolding can_cut
+  can-cut = along (λ xs ys. can_cut xs ≡ can_cut ys) refl (λ x y xs ys g h r i. cond (g.priority i) (r i) true)
 
-  cut-alike : (xs : List (Note S)) (ys : List (Note S')) → NotesAs R xs ys → NotesAs R (cutOldest xs) (cutOldest ys)
-  unfolding cutOldest
+  cut-alike : (xs : List (Note S)) (ys : List (Note S')) → NotesAs R xs ys → NotesAs R (cut_oldest xs) (cut_oldest ys)
+  unfolding cut_oldest
   cut-alike =
-      along (λ xs ys. NotesAs R (cutOldest xs) (cutOldest ys)) tt (λ x y xs ys g h r. chosen (NotesAs R) x.priority y.priority g.priority (g, r) h)
+      along (λ xs ys. NotesAs R (cut_oldest xs) (cut_oldest ys)) tt (λ x y xs ys g h r. chosen (NotesAs R) x.priority y.priority g.priority (g, r) h)
 
-  joined : (most : ℕ) (s : Started S) (t : Started S') (x : Note S) (y : Note S') → Begun s t → NoteAs R x y → Begun (joinedBy most s x) (joinedBy most t y)
-  unfolding joinedBy
+  joined : (most : ℕ) (s : Started S) (t : Started S') (x : Note S) (y : Note S') → Begun s t → NoteAs R x y → Begun (joined_by most s x) (joined_by most t y)
+  unfolding joined_by
   joined most s t x y h g =
       let more : s.missed + 1 ≡ t.missed + 1 = ap (λ m. m + 1) h.missed in
       chosen Begun _ _ (ap (λ (n : ℕ). ltb n most) (long s.notes t.notes h.notes))
       (record { notes = one_more x y g s.notes t.notes h.notes; missed = h.missed })
       (chosen Begun _ _ (λ i. g.priority i && can-cut s.notes t.notes h.notes i)
-      (record { notes = one_more x y g (cutOldest s.notes) (cutOldest t.notes) (cut-alike s.notes t.notes h.notes); missed = more })
+      (record { notes = one_more x y g (cut_oldest s.notes) (cut_oldest t.notes) (cut-alike s.notes t.notes h.notes); missed = more })
       (record { notes = h.notes; missed = more }))
 
-  kept : {p p' : ℕ} → p ≡ p' → (xs : List (Note S)) (ys : List (Note S')) → NotesAs R xs ys → NotesAs R (filter (goesOn p) xs) (filter (goesOn p') ys)
-  unfolding filter goesOn
+  kept : {p p' : ℕ} → p ≡ p' → (xs : List (Note S)) (ys : List (Note S')) → NotesAs R xs ys → NotesAs R (filter (goes_on p) xs) (filter (goes_on p') ys)
+  unfolding filter goes_on
   kept {p} {p'} e =
-      along (λ xs ys. NotesAs R (filter (goesOn p) xs) (filter (goesOn p') ys)) tt (λ x y xs ys g h r.
-      chosen (NotesAs R) (goesOn p x) (goesOn p' y) (λ j. not (g.released j) && (g.endless j || ltb (e j) (g.end j))) (g, r) r)
+      along (λ xs ys. NotesAs R (filter (goes_on p) xs) (filter (goes_on p') ys)) tt (λ x y xs ys g h r.
+      chosen (NotesAs R) (goes_on p x) (goes_on p' y) (λ j. not (g.released j) && (g.endless j || ltb (e j) (g.end j))) (g, r) r)
 
   -- a note-off marks the same note
-  marked-alike : (channel key : ℕ) (xs : List (Note S)) (ys : List (Note S')) → NotesAs R xs ys → NotesAs R (releaseOldest channel key xs) (releaseOldest channel key ys)
-  unfolding releaseOldest is_held
+  marked-alike : (channel key : ℕ) (xs : List (Note S)) (ys : List (Note S')) → NotesAs R xs ys → NotesAs R (release_oldest channel key xs) (release_oldest channel key ys)
+  unfolding release_oldest is_held
   marked-alike channel key =
-      along (λ xs ys. NotesAs R (releaseOldest channel key xs) (releaseOldest channel key ys)) tt (λ x y xs ys g h r.
+      along (λ xs ys. NotesAs R (release_oldest channel key xs) (release_oldest channel key ys)) tt (λ x y xs ys g h r.
       chosen (NotesAs R) (is_held channel key x) (is_held channel key y)
       (λ j. g.keyed j && eqb (g.channel j) channel && eqb (g.key j) key && not (g.released j))
-      (let markedEnded : NoteAs R (release x) (release y) = search in (markedEnded, h)) (g, r))
+      (let marked_ended : NoteAs R (release x) (release y) = search in (marked_ended, h)) (g, r))
 
   module _ {v : Voices S} {w : Voices S'} (a : Related v w) where
     -- ---- step 3
 
-    begins : (most pos : ℕ) (l : Line) (s : Started S) (t : Started S') (ev : Event) → Ok l ev → Begun s t → Begun (startedBy v most pos l s ev) (startedBy w most pos l t ev)
+    begins : (most pos : ℕ) (l : Line) (s : Started S) (t : Started S') (ev : Event) → Ok l ev → Begun s t → Begun (started_by v most pos l s ev) (started_by w most pos l t ev)
     unfolding born
     begins most pos l s t (Instr label name d) o h =
         let b = a.birth name (take l.count l.values) in joined most s t (born v pos l label name d) (born w pos l label name d) h (search)
@@ -108,27 +108,27 @@ module _ {S S' : Type 0} (R : S → S' → Type 0) (Ok : Line → Event → Type
 
     -- ---- step 4
 
-    one : (l : Line) (label x : ℕ) (y : Float) (m : Note S) (n : Note S') → Ok l (Control label x y) → NoteAs R m n → NoteAs R (controlledBy v label x y m) (controlledBy w label x y n)
-    unfolding controlledBy
+    one : (l : Line) (label x : ℕ) (y : Float) (m : Note S) (n : Note S') → Ok l (Control label x y) → NoteAs R m n → NoteAs R (controlled_by v label x y m) (controlled_by w label x y n)
+    unfolding controlled_by
     one l label x y m n o h =
         let c = a.control l label x y m.state n.state o h.state in
-        let set : NoteAs R (withState m (v.control x y m.state)) (withState n (w.control x y n.state)) = search in
+        let set : NoteAs R (with_state m (v.control x y m.state)) (with_state n (w.control x y n.state)) = search in
         chosen (NoteAs R) _ _ (λ j. h.labelled j && eqb label (h.label j)) set h
 
-    event : (l : Line) (ms : List (Note S)) (ns : List (Note S')) (ev : Event) → Ok l ev → NotesAs R ms ns → NotesAs R (controlEvent v ms ev) (controlEvent w ns ev)
+    event : (l : Line) (ms : List (Note S)) (ns : List (Note S')) (ev : Event) → Ok l ev → NotesAs R ms ns → NotesAs R (control_event v ms ev) (control_event w ns ev)
     unfolding each
     event l ms ns (Instr label name d) o h = h
     event l ms ns (Control label x y) o h =
-        along (λ ms ns. NotesAs R (each (controlledBy v label x y) ms) (each (controlledBy w label x y) ns)) tt (λ m n ms ns g h r. (one l label x y m n o g, r)) ms ns h
+        along (λ ms ns. NotesAs R (each (controlled_by v label x y) ms) (each (controlled_by w label x y) ns)) tt (λ m n ms ns g h r. (one l label x y m n o g, r)) ms ns h
     event l ms ns End o h = h
     event l ms ns (Tempo d) o h = h
 
     -- ---- the note messages
 
-    message : (most chosen : ℕ) (m : NoteMessage) (s : Started S) (t : Started S') → Begun s t → Begun (afterMessage v most chosen s m) (afterMessage w most chosen t m)
-    unfolding afterMessage pressed
+    message : (most chosen : ℕ) (m : NoteMessage) (s : Started S) (t : Started S') → Begun s t → Begun (after_message v most chosen s m) (after_message w most chosen t m)
+    unfolding after_message pressed
     message most choice m s t h =
-        let b = a.birth choice (frequencyOf m.key ∷ normalizedVelocity m.velocity ∷ []) in
+        let b = a.birth choice (frequency_of m.key ∷ normalized_velocity m.velocity ∷ []) in
         chosen Begun m.on m.on refl (joined most s t (pressed v choice m) (pressed w choice m) h (search))
         (record { notes = marked-alike m.channel m.key s.notes t.notes h.notes; missed = h.missed })
 
@@ -143,7 +143,7 @@ module _ {S S' : Type 0} (R : S → S' → Type 0) (Ok : Line → Event → Type
     runs =
         along Rendered (λ mix. (tt, refl)) (λ m n ms ns g h r mix.
         let s = a.run m.state n.state mix g.state in
-        let ran : NoteAs R (withState m (v.run m.state mix).state) (withState n (w.run n.state mix).state) = search in
+        let ran : NoteAs R (with_state m (v.run m.state mix).state) (with_state n (w.run n.state mix).state) = search in
         let e = a.mix m.state n.state mix g.state in
         ((ran, rw e (r (w.run n.state mix).mix).0), ap (λ (z : List Float). (run_from v ms z).mix) e ∙ (r (w.run n.state mix).mix).1))
 
@@ -157,69 +157,69 @@ module _ {S S' : Type 0} (R : S → S' → Type 0) (Ok : Line → Event → Type
       abbrev h : StateAs R c d
       h = cores.same
 
-      due-same : dueOf c ≡ dueOf d
+      due-same : due_of c ≡ due_of d
       due-same = λ j. record { lines = due_at (h.position j) (h.waits j); messages = h.messages j }
 
-      due-ok : AllOk (dueOf c).lines
+      due-ok : AllOk (due_of c).lines
       due-ok = due_all c (λ l. Ok l l.event) cores.ok
 
-      begun : Begun (startedOf v q (dueOf c) c.plays) (startedOf w q (dueOf d) d.plays)
-      unfolding startedOf started
+      begun : Begun (started_of v q (due_of c) c.plays) (started_of w q (due_of d) d.plays)
+      unfolding started_of started
       begun =
-          subst₂ (λ (p : ℕ) (u : Due). Begun (startedOf v q (dueOf c) c.plays) (started w q.mostNotes p d.plays.notes u.lines)) h.position due-same
-          (fold-related Begun (λ l. Ok l l.event) _ _ (λ s t l. begins q.mostNotes c.plays.position l s t l.event) (dueOf c).lines due-ok _ _
+          subst₂ (λ (p : ℕ) (u : Due). Begun (started_of v q (due_of c) c.plays) (started w q.most_notes p d.plays.notes u.lines)) h.position due-same
+          (fold-related Begun (λ l. Ok l l.event) _ _ (λ s t l. begins q.most_notes c.plays.position l s t l.event) (due_of c).lines due-ok _ _
           (record { notes = h.notes; missed = refl }))
 
-      sounding : Begun (notesToRun v q (dueOf c) c.plays) (notesToRun w q (dueOf d) d.plays)
-      unfolding notesToRun controlled afterMessages
+      sounding : Begun (notes_to_run v q (due_of c) c.plays) (notes_to_run w q (due_of d) d.plays)
+      unfolding notes_to_run controlled after_messages
       sounding =
-          let s = startedOf v q (dueOf c) c.plays in
-          let t = startedOf w q (dueOf d) d.plays in
-          subst (λ (u : Due). Begun (notesToRun v q (dueOf c) c.plays) (afterMessages w q.mostNotes q.chosen (record { notes = controlled w t.notes u.lines; missed = t.missed }) u.messages)) due-same
-          (fold-related Begun (λ m. Unit {0}) _ _ (λ s t m u. message q.mostNotes q.chosen m s t) c.messages (all_of _ (λ m. tt) c.messages) _ _
+          let s = started_of v q (due_of c) c.plays in
+          let t = started_of w q (due_of d) d.plays in
+          subst (λ (u : Due). Begun (notes_to_run v q (due_of c) c.plays) (after_messages w q.most_notes q.chosen (record { notes = controlled w t.notes u.lines; missed = t.missed }) u.messages)) due-same
+          (fold-related Begun (λ m. Unit {0}) _ _ (λ s t m u. message q.most_notes q.chosen m s t) c.messages (all_of _ (λ m. tt) c.messages) _ _
           (record {
-            notes = fold-related (NotesAs R) (λ l. Ok l l.event) _ _ (λ ms ns l. event l ms ns l.event) (dueOf c).lines
+            notes = fold-related (NotesAs R) (λ l. Ok l l.event) _ _ (λ ms ns l. event l ms ns l.event) (due_of c).lines
                 due-ok _ _ begun.notes;
             missed = begun.missed;
           }))
 
-      rendered : NotesAs R (renderedOf v q (dueOf c) c.plays).notes (renderedOf w q (dueOf d) d.plays).notes × ((renderedOf v q (dueOf c) c.plays).mix ≡ (renderedOf w q (dueOf d) d.plays).mix)
-      unfolding renderedOf runAll
+      rendered : NotesAs R (rendered_of v q (due_of c) c.plays).notes (rendered_of w q (due_of d) d.plays).notes × ((rendered_of v q (due_of c) c.plays).mix ≡ (rendered_of w q (due_of d) d.plays).mix)
+      unfolding rendered_of run_all
       rendered =
-          runs (notesToRun v q (dueOf c) c.plays).notes (notesToRun w q (dueOf d) d.plays).notes sounding.notes (replicate samples (of_bits binary32 0))
+          runs (notes_to_run v q (due_of c) c.plays).notes (notes_to_run w q (due_of d) d.plays).notes sounding.notes (replicate samples (of_bits binary32 0))
 
-      block : block_of v q (dueOf c) c.plays ≡ block_of w q (dueOf d) d.plays
+      block : block_of v q (due_of c) c.plays ≡ block_of w q (due_of d) d.plays
       unfolding block_of
       block = ap (limited q.ceiling) rendered.1
 
-      ends_same : endsBy (dueOf c) c.plays ≡ endsBy (dueOf d) d.plays
-      unfolding endsBy
-      ends_same = λ j. ltb positionLimit (h.position j) || anyEnd (due-same j).lines
+      ends_same : ends_by (due_of c) c.plays ≡ ends_by (due_of d) d.plays
+      unfolding ends_by
+      ends_same = λ j. ltb position_limit (h.position j) || any_end (due-same j).lines
 
       answer : answer_of c ≡ answer_of d
       unfolding answer_of
       answer = λ j. cond (h.ended j) 9 (cond (ends_same j) 9 0)
 
-      steps : Cores (record { waits = laterThan c.plays.position c.waits; messages = []; plays = played v q (dueOf c) c.plays })
-          (record { waits = laterThan d.plays.position d.waits; messages = []; plays = played w q (dueOf d) d.plays })
-      unfolding played laterThan
+      steps : Cores (record { waits = later_than c.plays.position c.waits; messages = []; plays = played v q (due_of c) c.plays })
+          (record { waits = later_than d.plays.position d.waits; messages = []; plays = played w q (due_of d) d.plays })
+      unfolding played later_than
       steps =
           record {
             same = record {
-              waits = λ j. filter (λ (l : Line). not (isDue (h.position j) l)) (h.waits j);
+              waits = λ j. filter (λ (l : Line). not (is_due (h.position j) l)) (h.waits j);
               messages = refl;
-              notes = kept h.position (renderedOf v q (dueOf c) c.plays).notes (renderedOf w q (dueOf d) d.plays).notes rendered.0;
-              position = λ j. h.position j + cycleIn (lastTempo (h.tempo j) (due-same j).lines);
-              tempo = λ j. lastTempo (h.tempo j) (due-same j).lines;
+              notes = kept h.position (rendered_of v q (due_of c) c.plays).notes (rendered_of w q (due_of d) d.plays).notes rendered.0;
+              position = λ j. h.position j + cycle_in (last_tempo (h.tempo j) (due-same j).lines);
+              tempo = λ j. last_tempo (h.tempo j) (due-same j).lines;
               counts = λ j. record { missed = (h.counts j).missed + sounding.missed j };
               ended = refl;
             };
-            ok = all_filter (λ (l : Line). not (isDue c.plays.position l)) (λ (l : Line). Ok l l.event) c.waits cores.ok;
+            ok = all_filter (λ (l : Line). not (is_due c.plays.position l)) (λ (l : Line). Ok l l.event) c.waits cores.ok;
           }
 
-      stops : Cores (record { waits = c.waits; messages = c.messages; plays = markedEnded c.plays })
-          (record { waits = d.waits; messages = d.messages; plays = markedEnded d.plays })
-      unfolding markedEnded
+      stops : Cores (record { waits = c.waits; messages = c.messages; plays = marked_ended c.plays })
+          (record { waits = d.waits; messages = d.messages; plays = marked_ended d.plays })
+      unfolding marked_ended
       stops = search
 
       next : Cores (cycled v q c) (cycled w q d)
@@ -228,81 +228,81 @@ module _ {S S' : Type 0} (R : S → S' → Type 0) (Ok : Line → Event → Type
 
     -- ---- every cycle
 
-    begin : (start : Float) (ls : List Line) → AllOk ls → Cores (plainStart start ls) (plainStart start ls)
-    unfolding plainStart
+    begin : (start : Float) (ls : List Line) → AllOk ls → Cores (plain_start start ls) (plain_start start ls)
+    unfolding plain_start
     begin start ls o = record { same = record { waits = refl; messages = refl; notes = tt; position = refl; tempo = refl; counts = refl; ended = refl }; ok = o }
 
     module _ (start : Float) (settings : ℕ → Settings) where
-      at-cores : (ls : List Line) → AllOk ls → (n : ℕ) → Cores (plainAt v start settings ls n) (plainAt w start settings ls n)
-      unfolding plainAt
+      at-cores : (ls : List Line) → AllOk ls → (n : ℕ) → Cores (plain_at v start settings ls n) (plain_at w start settings ls n)
+      unfolding plain_at
       at-cores ls o zero = begin start ls o
-      at-cores ls o (suc n) = next (settings n) (plainAt v start settings ls n) (plainAt w start settings ls n) (at-cores ls o n)
+      at-cores ls o (suc n) = next (settings n) (plain_at v start settings ls n) (plain_at w start settings ls n) (at-cores ls o n)
 
       pub blocks-related : (ls : List Line) (n : ℕ) → AllOk ls → block_at v start settings ls n ≡ block_at w start settings ls n
       unfolding block_at
-      blocks-related ls n o = block (settings n) (plainAt v start settings ls n) (plainAt w start settings ls n) (at-cores ls o n)
+      blocks-related ls n o = block (settings n) (plain_at v start settings ls n) (plain_at w start settings ls n) (at-cores ls o n)
 
-      pub answers-related : (ls : List Line) (n : ℕ) → AllOk ls → answerAt v start settings ls n ≡ answerAt w start settings ls n
-      unfolding answerAt
-      answers-related ls n o = answer (settings n) (plainAt v start settings ls n) (plainAt w start settings ls n) (at-cores ls o n)
+      pub answers-related : (ls : List Line) (n : ℕ) → AllOk ls → answer_at v start settings ls n ≡ answer_at w start settings ls n
+      unfolding answer_at
+      answers-related ls n o = answer (settings n) (plain_at v start settings ls n) (plain_at w start settings ls n) (at-cores ls o n)
 
-      pub holds-related : (ls : List Line) (n : ℕ) → AllOk ls → StateAs R (plainAt v start settings ls n) (plainAt w start settings ls n)
+      pub holds-related : (ls : List Line) (n : ℕ) → AllOk ls → StateAs R (plain_at v start settings ls n) (plain_at w start settings ls n)
       holds-related ls n o = (at-cores ls o n).same
 
     -- ---- every list of calls
 
-    module _ (name : ℕ) (inUse : InUse) where
+    module _ (name : ℕ) (in_use : InUse) where
       record Pasts (h : History S) (h' : History S') : Type 0 where
         holds : Cores h.holds h'.holds
         reached : h.reached ≡ h'.reached
         set : h.set ≡ h'.set
 
       module _ {P : Type 0} where
-        one-transition : (m : Transition P) (h : History S) (h' : History S') → AllOk (takenIn m) → Pasts h h' → Pasts (withTransition v name h m) (withTransition w name h' m)
-        unfolding behind withMessages
+        one-transition : (m : Transition P) (h : History S) (h' : History S') → AllOk (taken_in m) → Pasts h h' → Pasts (with_transition v name h m) (with_transition w name h' m)
+        unfolding behind with_messages
         one-transition m h h' o g =
-            let k = inForce name h.set in
+            let k = in_force name h.set in
             let c = g.holds in
             let s = c.same in
             chosen Pasts (numbered m.call) (numbered m.call) refl
             (record {
-              holds = subst (λ (x : InUse). Cores (cycled v k h.holds) (cycled w (inForce name x) h'.holds)) g.set (next k h.holds h'.holds c);
+              holds = subst (λ (x : InUse). Cores (cycled v k h.holds) (cycled w (in_force name x) h'.holds)) g.set (next k h.holds h'.holds c);
               reached = λ j. cond (eqb (answer k h.holds h'.holds c j) 0) (at (s.position j)) (g.reached j);
               set = g.set;
             })
             (record {
               holds = record {
                 same = record {
-                  waits = λ j. s.waits j ++ takenIn m;
-                  messages = λ j. s.messages j ++ messagesTaken m;
+                  waits = λ j. s.waits j ++ taken_in m;
+                  messages = λ j. s.messages j ++ messages_taken m;
                   notes = s.notes;
                   position = s.position;
                   tempo = s.tempo;
                   counts = s.counts;
                   ended = s.ended;
                 };
-                ok = all_append _ h.holds.waits (takenIn m) c.ok o;
+                ok = all_append _ h.holds.waits (taken_in m) c.ok o;
               };
               reached = g.reached;
-              set = λ j. setWith (g.set j) m;
+              set = λ j. set_with (g.set j) m;
             })
 
-        all-transitions : (ms : List (Transition P)) (h : History S) (h' : History S') → AllOk (allTaken ms) → Pasts h h' → Pasts (historyFrom v name h ms) (historyFrom w name h' ms)
-        unfolding allTaken historyFrom
+        all-transitions : (ms : List (Transition P)) (h : History S) (h' : History S') → AllOk (all_taken ms) → Pasts h h' → Pasts (history_from v name h ms) (history_from w name h' ms)
+        unfolding all_taken history_from
         all-transitions [] h h' o g = g
         all-transitions (m ∷ ms) h h' o g =
-            let p = all-parts (λ (l : Line). Ok l l.event) (takenIn m) (allTaken ms) o in
-            all-transitions ms (withTransition v name h m) (withTransition w name h' m) p.1 (one-transition m h h' p.0 g)
+            let p = all-parts (λ (l : Line). Ok l l.event) (taken_in m) (all_taken ms) o in
+            all-transitions ms (with_transition v name h m) (with_transition w name h' m) p.1 (one-transition m h h' p.0 g)
 
-        past : (ms : List (Transition P)) → AllOk (allTaken ms) → Pasts (historyOf v name inUse ms) (historyOf w name inUse ms)
-        past ms o = all-transitions ms _ _ o (record { holds = begin (startingTempo inUse) [] tt; reached = refl; set = refl })
+        past : (ms : List (Transition P)) → AllOk (all_taken ms) → Pasts (history_of v name in_use ms) (history_of w name in_use ms)
+        past ms o = all-transitions ms _ _ o (record { holds = begin (starting_tempo in_use) [] tt; reached = refl; set = refl })
 
-        pub past-related : (ms : List (Transition P)) → AllOk (allTaken ms)
-            → StateAs R (historyOf v name inUse ms).holds (historyOf w name inUse ms).holds × ((historyOf v name inUse ms).reached ≡ (historyOf w name inUse ms).reached)
-            × ((historyOf v name inUse ms).set ≡ (historyOf w name inUse ms).set)
+        pub past-related : (ms : List (Transition P)) → AllOk (all_taken ms)
+            → StateAs R (history_of v name in_use ms).holds (history_of w name in_use ms).holds × ((history_of v name in_use ms).reached ≡ (history_of w name in_use ms).reached)
+            × ((history_of v name in_use ms).set ≡ (history_of w name in_use ms).set)
         past-related ms o = let p = past ms o in (p.holds.same, p.reached, p.set)
 
-        pub past-block-related : (q : Settings) (ms : List (Transition P)) → AllOk (allTaken ms)
-            → block_of v q (dueOf (historyOf v name inUse ms).holds) (historyOf v name inUse ms).holds.plays
-            ≡ block_of w q (dueOf (historyOf w name inUse ms).holds) (historyOf w name inUse ms).holds.plays
-        past-block-related q ms o = block q (historyOf v name inUse ms).holds (historyOf w name inUse ms).holds (past ms o).holds
+        pub past-block-related : (q : Settings) (ms : List (Transition P)) → AllOk (all_taken ms)
+            → block_of v q (due_of (history_of v name in_use ms).holds) (history_of v name in_use ms).holds.plays
+            ≡ block_of w q (due_of (history_of w name in_use ms).holds) (history_of w name in_use ms).holds.plays
+        past-block-related q ms o = block q (history_of v name in_use ms).holds (history_of w name in_use ms).holds (past ms o).holds

@@ -10,17 +10,17 @@ use lib.Ieee.{Float}
 use borrow.Author.Tests.{eqb-true, eqb-false, eq-eqb, ne_eqb}
 use Rattle.player_model.proofs.Lists.{by-test, either_way}
 use Rattle.base_laws.proofs.Choice.{both_true}
-use Rattle.orchestra_syntax.specs.Tree.{Instrument, importsKind}
-use Rattle.orchestra_syntax.specs.Names.{Named, names_of, symbols, has, apart, distinct, obeysNameRules, allObeyNameRules, titleOf, name_rules, known, named, named_by}
-use Rattle.base_float32.specs.Builtins.{zeroF}
-use Rattle.orchestra_semantics.specs.Meaning.{instrumentOf, silent, Memory, importsIn, control, birth, cycle}
-use Rattle.voices_resolved.specs.Tree.{treeVoices}
+use Rattle.orchestra_syntax.specs.Tree.{Instrument, imports_kind}
+use Rattle.orchestra_syntax.specs.Names.{Named, names_of, symbols, has, apart, distinct, obeys_name_rules, all_obey_name_rules, title_of, name_rules, known, named, named_by}
+use Rattle.base_float32.specs.Builtins.{zero_f}
+use Rattle.orchestra_semantics.specs.Meaning.{instrument_of, silent, Memory, imports_in, control, birth, cycle}
+use Rattle.voices_resolved.specs.Tree.{tree_voices}
 use Rattle.voices_resolved.specs.Claims.{imported}
 use Rattle.voices_resolved.proofs.Lines.{control-names}
 use Rattle.orchestra_semantics.specs.inside.Translation.{Stands}
 use Rattle.orchestra_semantics.proofs.Translation.{birth-agrees, cycle-agrees}
 use Rattle.orchestra_syntax.proofs.Places.{kept, index, place_is}
-use Rattle.voices_source.specs.Voices.{writtenVoices, Fits}
+use Rattle.voices_source.specs.Voices.{written_voices, Fits}
 use Rattle.voices_source.specs.inside.Translation.{HeldAs, EveryPiece, EveryPast}
 use Rattle.voices_source.proofs.Related.{Related, blocks-related, answers-related, holds-related, past-related, past-block-related}
 
@@ -44,8 +44,8 @@ no_more before (n ∷ ns) x e h =
     let p = both_true (not (has n before)) (apart (before ++ n ∷ []) ns) e in
     by-test (eqb n x) (λ q. cc (p.0, eqb-true n x q)) (λ q. rw q (no_more (before ++ n ∷ []) ns x p.1 (has_left x n before h)))
 
-no-import : (ms : List Named) (x : ℕ) → has x (symbols ms) ≡ false → importsIn ms x ≡ false
-unfolding importsIn has
+no-import : (ms : List Named) (x : ℕ) → has x (symbols ms) ≡ false → imports_in ms x ≡ false
+unfolding imports_in has
 no-import [] x e = refl
 no-import (m ∷ ms) x e = by-test (eqb m.name x) (λ q. cc) (λ q. rw q (no-import ms x (rw q at e)))
 
@@ -53,8 +53,8 @@ no-import (m ∷ ms) x e = by-test (eqb m.name x) (λ q. cc) (λ q. rw q (no-imp
 
 -- the value of a declared name after a control line
 imported-at : (before : List ℕ) (ms : List Named) (vs : List Float) (n x : ℕ) (y : Float) → apart before (symbols ms) ≡ true → length ms ≤ length vs → has n (symbols ms) ≡ true
-    → get_or (imported x y ms vs) (index n ms) zeroF ≡ cond (importsIn ms x && eqb n x) y (get_or vs (index n ms) zeroF)
-unfolding imported index importsIn apart has
+    → get_or (imported x y ms vs) (index n ms) zero_f ≡ cond (imports_in ms x && eqb n x) y (get_or vs (index n ms) zero_f)
+unfolding imported index imports_in apart has
 imported-at before [] vs n x y e l h = absurd (true≢false (sym h))
 imported-at before (m ∷ ms) [] n x y e l h = absurd (omega arith)
 imported-at before (m ∷ ms) (v ∷ vs) n x y e l h =
@@ -65,9 +65,9 @@ imported-at before (m ∷ ms) (v ∷ vs) n x y e l h =
     (λ b. by-test (eqb n x)
     (λ c. let same = eqb-true m.name n b ∙ eqb-true n x c in
     let d = eq-eqb m.name x same in
-    let i = rw same at none in by-test (eqb m.kind importsKind) (λ k. rw (b, c, d, i, k)) (λ k. rw (b, c, d, i, k)))
+    let i = rw same at none in by-test (eqb m.kind imports_kind) (λ k. rw (b, c, d, i, k)) (λ k. rw (b, c, d, i, k)))
     (λ c. let d = ne_eqb m.name x (λ q. eqb-false n x c (sym (eqb-true m.name n b) ∙ q)) in
-    rw (b, c, d, and-false (eqb m.kind importsKind), and-false (importsIn ms x))))
+    rw (b, c, d, and-false (eqb m.kind imports_kind), and-false (imports_in ms x))))
     (λ b. by-test (eqb m.name x)
     (λ d. let c = ne_eqb n x (λ q. eqb-false m.name n b (eqb-true m.name x d ∙ sym q)) in rw (b, c, and-false) (rw (c, and-false) at (rest (rw b at h))))
     (λ d. rw (b, d) (rest (rw b at h))))
@@ -78,7 +78,7 @@ length-imported x y [] vs = refl
 length-imported x y (m ∷ ms) [] = refl
 length-imported x y (m ∷ ms) (v ∷ vs) = ap suc (length-imported x y ms vs)
 
-control-stands : (x : Instrument) (vs : List Float) (m : Memory) (n : ℕ) (y : Float) → obeysNameRules x ≡ true → Stands (names_of x) vs m.values
+control-stands : (x : Instrument) (vs : List Float) (m : Memory) (n : ℕ) (y : Float) → obeys_name_rules x ≡ true → Stands (names_of x) vs m.values
     → Stands (names_of x) (imported n y (names_of x) vs) (control x n y m).values
 unfolding control
 control-stands x vs m n y e s =
@@ -87,28 +87,28 @@ control-stands x vs m n y e s =
       holds = λ p h.
           let l = (kept x e).few in
           let i = place_is p (names_of x) l h in
-          ap (λ (q : ℕ). get_or (imported n y (names_of x) vs) q zeroF) i
+          ap (λ (q : ℕ). get_or (imported n y (names_of x) vs) q zero_f) i
           ∙ imported-at [] (names_of x) vs p n y (kept x e).once (omega (arith, s.size)) h
-          ∙ ap (λ (z : Float). cond (importsIn (names_of x) n && eqb p n) y z) (ap (λ (q : ℕ). get_or vs q zeroF) (sym i) ∙ s.holds p h)
-          ∙ by-test (importsIn (names_of x) n) (λ b. rw b) (λ b. rw b);
+          ∙ ap (λ (z : Float). cond (imports_in (names_of x) n && eqb p n) y z) (ap (λ (q : ℕ). get_or vs q zero_f) (sym i) ∙ s.holds p h)
+          ∙ by-test (imports_in (names_of x) n) (λ b. rw b) (λ b. rw b);
     }
 
 -- ---- the voices
 
-each-found : (is : List Instrument) (name : ℕ) → allObeyNameRules is ≡ true → obeysNameRules (instrumentOf is name) ≡ true
-unfolding allObeyNameRules instrumentOf silent known named named_by apart
+each-found : (is : List Instrument) (name : ℕ) → all_obey_name_rules is ≡ true → obeys_name_rules (instrument_of is name) ≡ true
+unfolding all_obey_name_rules instrument_of silent known named named_by apart
 each-found [] name e = refl
 each-found (x ∷ is) name e =
-    let p = both_true (obeysNameRules x) (allObeyNameRules is) e in
-    either_way (λ (i : Instrument). obeysNameRules i ≡ true) (eqb x.name name) p.0 (each-found is name p.1)
+    let p = both_true (obeys_name_rules x) (all_obey_name_rules is) e in
+    either_way (λ (i : Instrument). obeys_name_rules i ≡ true) (eqb x.name name) p.0 (each-found is name p.1)
 
-born : (is : List Instrument) → allObeyNameRules is ≡ true → (name : ℕ) (xs : List Float)
-    → Stands (names_of (instrumentOf is name)) ((treeVoices is).birth name xs).values (birth (instrumentOf is name) xs).memory.values
-unfolding treeVoices
-born is e name xs = birth-agrees (instrumentOf is name) xs (each-found is name e)
+born : (is : List Instrument) → all_obey_name_rules is ≡ true → (name : ℕ) (xs : List Float)
+    → Stands (names_of (instrument_of is name)) ((tree_voices is).birth name xs).values (birth (instrument_of is name) xs).memory.values
+unfolding tree_voices
+born is e name xs = birth-agrees (instrument_of is name) xs (each-found is name e)
 
-related : (is : List Instrument) → allObeyNameRules is ≡ true → Related (HeldAs is) (Fits is) (treeVoices is) (writtenVoices is)
-unfolding treeVoices writtenVoices
+related : (is : List Instrument) → all_obey_name_rules is ≡ true → Related (HeldAs is) (Fits is) (tree_voices is) (written_voices is)
+unfolding tree_voices written_voices
 related is e =
     record {
       birth = λ name xs. record { instrument = refl; values = born is e name xs };
@@ -117,24 +117,24 @@ related is e =
           record {
             instrument = h.instrument;
             values =
-                subst (λ (vs : List Float). Stands (names_of (instrumentOf is s.instrument)) vs (control (instrumentOf is t.instrument) x y t.memory).values) (sym k)
-                (subst (λ (j : ℕ). Stands (names_of (instrumentOf is s.instrument)) (imported x y (names_of (instrumentOf is s.instrument)) s.values) (control (instrumentOf is j) x y t.memory).values) h.instrument
-                (control-stands (instrumentOf is s.instrument) s.values t.memory x y (each-found is s.instrument e) h.values));
+                subst (λ (vs : List Float). Stands (names_of (instrument_of is s.instrument)) vs (control (instrument_of is t.instrument) x y t.memory).values) (sym k)
+                (subst (λ (j : ℕ). Stands (names_of (instrument_of is s.instrument)) (imported x y (names_of (instrument_of is s.instrument)) s.values) (control (instrument_of is j) x y t.memory).values) h.instrument
+                (control-stands (instrument_of is s.instrument) s.values t.memory x y (each-found is s.instrument e) h.values));
           };
       run = λ s t mix h.
-          let c = cycle-agrees (instrumentOf is s.instrument) s.values mix t.memory (each-found is s.instrument e) h.values in
+          let c = cycle-agrees (instrument_of is s.instrument) s.values mix t.memory (each-found is s.instrument e) h.values in
           record {
             instrument = h.instrument;
-            values = subst (λ (j : ℕ). Stands (names_of (instrumentOf is s.instrument)) ((treeVoices is).run s mix).state.values (cycle (instrumentOf is j) t.memory mix).memory.values) h.instrument c.0;
+            values = subst (λ (j : ℕ). Stands (names_of (instrument_of is s.instrument)) ((tree_voices is).run s mix).state.values (cycle (instrument_of is j) t.memory mix).memory.values) h.instrument c.0;
           };
       mix = λ s t mix h.
-          let c = cycle-agrees (instrumentOf is s.instrument) s.values mix t.memory (each-found is s.instrument e) h.values in
-          c.1 ∙ ap (λ (j : ℕ). (cycle (instrumentOf is j) t.memory mix).mix) h.instrument;
+          let c = cycle-agrees (instrument_of is s.instrument) s.values mix t.memory (each-found is s.instrument e) h.values in
+          c.1 ∙ ap (λ (j : ℕ). (cycle (instrument_of is j) t.memory mix).mix) h.instrument;
     }
 
-pub named-related : (is : List Instrument) → name_rules is ≡ true → Related (HeldAs is) (Fits is) (treeVoices is) (writtenVoices is)
+pub named-related : (is : List Instrument) → name_rules is ≡ true → Related (HeldAs is) (Fits is) (tree_voices is) (written_voices is)
 named-related is e =
-    related is (both_true (distinct (map titleOf is)) (allObeyNameRules is) (both_true (leb (length is) 8) (distinct (map titleOf is) && allObeyNameRules is) e).1).1
+    related is (both_true (distinct (map title_of is)) (all_obey_name_rules is) (both_true (leb (length is) 8) (distinct (map title_of is) && all_obey_name_rules is) e).1).1
 
 pub every-piece : EveryPiece
 every-piece is start settings ls n e o =

@@ -5,26 +5,26 @@ use Rattle.score_line.specs.declared.Event.{Event}
 use Rattle.score_line.specs.declared.Event.TheVariants.{Instr, Control, End, Tempo}
 use Rattle.orchestra_syntax.specs.Tree.{Instrument}
 use Rattle.player_model.specs.Cycle.{Voices}
-use Rattle.orchestra_semantics.specs.Meaning.{instrumentOf, noSymbol, Memory, birth, control, cycle}
+use Rattle.orchestra_semantics.specs.Meaning.{instrument_of, no_symbol, Memory, birth, control, cycle}
 
 pub record VoiceState : Type 0 where
   pub instrument : ℕ
   pub memory : Memory
 
 module _ (is : List Instrument) where
-  unfoldable pub writtenVoices : Voices VoiceState
-  writtenVoices =
+  unfoldable pub written_voices : Voices VoiceState
+  written_voices =
       record {
-        birth = λ (name : ℕ) (xs : List Float). record { instrument = name; memory = (birth (instrumentOf is name) xs).memory };
-        control = λ (x : ℕ) (y : Float) (s : VoiceState). record { instrument = s.instrument; memory = control (instrumentOf is s.instrument) x y s.memory };
+        birth = λ (name : ℕ) (xs : List Float). record { instrument = name; memory = (birth (instrument_of is name) xs).memory };
+        control = λ (x : ℕ) (y : Float) (s : VoiceState). record { instrument = s.instrument; memory = control (instrument_of is s.instrument) x y s.memory };
         run = λ (s : VoiceState) (mix : List Float).
-            let p = cycle (instrumentOf is s.instrument) s.memory mix in
+            let p = cycle (instrument_of is s.instrument) s.memory mix in
             record { state = record { instrument = s.instrument; memory = p.memory }; mix = p.mix };
       }
 
   -- what every line taken keeps: no more values than fields (4), a symbol of 16 bits
   abbrev pub Fits : Line → Event → Type 0
-  Fits l (Instr label name d) = length (take l.count l.values) ≤ length (instrumentOf is name).fields
-  Fits l (Control label x y) = x < noSymbol
+  Fits l (Instr label name d) = length (take l.count l.values) ≤ length (instrument_of is name).fields
+  Fits l (Control label x y) = x < no_symbol
   Fits l End = Unit {0}
   Fits l (Tempo t) = Unit {0}

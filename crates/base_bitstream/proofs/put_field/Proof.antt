@@ -7,7 +7,7 @@ use native.Mathlib.Omega.{arith}
 use lib.ListN.{length, set}
 use lib.Seq.{paste, paste-zero, paste-suc}
 use Rattle.base_bitstream.specs.Bits.{bits_of, field, bit}
-use Rattle.base_bitstream.proofs.BitValues.{length-bitsOf, length-field, getD-field}
+use Rattle.base_bitstream.proofs.BitValues.{length-bits_of, length-field, get_d-field}
 use Rattle.base_bitstream.proofs.Fields.{paste-over}
 use Rattle.base_bitstream.proofs.put_field.Statement.{statement}
 use Rattle.base_bitstream.proofs.put_field.Tie as tie
@@ -16,7 +16,7 @@ use Rattle.base_bitstream.proofs.put_field.Tie as tie
 more : (d : List Bool) (at n v i : ℕ) → i < n → at + n ≤ length d → set (paste d at (field n v) i) (at + i) (bit (n - 1 - i) v) ≡ paste d at (field n v) (i + 1)
 more d at n v i h hd =
     let e : n - 1 - i ≡ n - suc i = omega arith in
-    cc (getD-field n v i h, paste-suc d at (field n v) i false (omega arith) (rw length-field h), add-one i)
+    cc (get_d-field n v i h, paste-suc d at (field n v) i false (omega arith) (rw length-field h), add-one i)
 
 pub put-field-spec : {M : Type 1} → statement M
 put-field-spec =
@@ -29,7 +29,7 @@ put-field-spec =
     let a = p.before.before.args in
     let i = p.loop.i in
     let d = bits_of a.s.now in
-    let e : length d ≡ 8 * length a.s.now = length-bitsOf a.s.now in (
+    let e : length d ≡ 8 * length a.s.now = length-bits_of a.s.now in (
       omega arith,
       c.before.before.put-bit.auto.0 ∙ p.loop.invariant.1,
       c.before.before.put-bit.ensures ∙ ap (λ (l : List Bool). set l (a.at + i) (bit (a.n - 1 - i) a.v)) p.loop.invariant.2

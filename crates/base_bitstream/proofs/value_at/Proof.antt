@@ -8,7 +8,7 @@ use lib.ListN.{length, take, drop, get_or, length-drop, length-take}
 use lib.Seq.{length-take-le}
 use lib.Pow.{pow_mono}
 use Rattle.base_bitstream.specs.Bits.{bits_of, value_of}
-use Rattle.base_bitstream.proofs.BitValues.{length-bitsOf, valueOf-lt}
+use Rattle.base_bitstream.proofs.BitValues.{length-bits_of, value_of-lt}
 use Rattle.base_bitstream.proofs.Window.{window_more, value-part, in_window}
 use Rattle.base_bitstream.proofs.value_at.Statement.{statement}
 use Rattle.base_bitstream.proofs.value_at.Tie as tie
@@ -20,7 +20,7 @@ abbrev decreases-loop : tie.decreases-loop
 decreases-loop s at n q k w₀ i₀ w i = k - i
 
 window-lt : (l : List ℕ) (i : ℕ) → i ≤ 4 → value_of (bits_of (take i l)) < 2 ^ 32
-window-lt l i h = lt_of_lt_of_le (valueOf-lt (bits_of (take i l))) (pow_mono {j = 32} (rw (length-bitsOf, length-take) (omega arith)))
+window-lt l i h = lt_of_lt_of_le (value_of-lt (bits_of (take i l))) (pow_mono {j = 32} (rw (length-bits_of, length-take) (omega arith)))
 
 -- in the loop's body, at most 4 bytes have been read
 small : (c : tie.In-loop invariant-loop decreases-loop) → c.before.loop.w < 2 ^ 32
@@ -55,11 +55,11 @@ value-at-spec =
     let r = a.at % 8 in
     let k = (r + n + 7) / 8 in
     let m = 8 * k - r - n in
-    let L : length (bits_of s) ≡ 8 * length s = length-bitsOf s in
+    let L : length (bits_of s) ≡ 8 * length s = length-bits_of s in
     let i : f.loop.i ≡ k = omega arith in
     let t = take k (drop q s) in
     let lt : length t ≡ k = length-take-le k (drop q s) (rw length-drop (omega arith)) in
-    let lw : length (bits_of t) ≡ 8 * length t = length-bitsOf t in
+    let lw : length (bits_of t) ≡ 8 * length t = length-bits_of t in
     let w : f.loop.w ≡ value_of (bits_of t) = f.loop.invariant.1 ∙ ap (λ (x : ℕ). value_of (bits_of (take x (drop q s)))) i in
     let e : 8 * q + r ≡ a.at = omega arith in
     c.low-bits.ensures ∙ ap (λ (x : ℕ). x / 2 ^ m % 2 ^ n) w ∙ sym (value-part (bits_of t) r n m (omega arith))

@@ -3,7 +3,7 @@ use Prim.Native.Nat.{◌≤◌, ◌-◌}
 use native.Mathlib.Omega.{arith}
 use borrow.Author.Tests.{not-true, not-false}
 use lib.ListN.{length, length-map}
-use Rattle.code_program.specs.InstrumentTable.{instrumentsOf}
+use Rattle.code_program.specs.InstrumentTable.{instruments_of}
 use Rattle.entrance_admission.proofs.Pushing.{Pushing, pushing-none, pushing-next, pushing-off, pushing-end, all-pushed}
 use Rattle.entrance_admission.proofs.admit_lines.Statement.{statement}
 use Rattle.entrance_admission.proofs.admit_lines.Tie as tie
@@ -11,7 +11,7 @@ use Rattle.entrance_admission.proofs.admit_lines.Tie as tie
 pub admit-lines-spec : {M : Type 1} → statement M
 admit-lines-spec =
     tie.close (tie.spec
-    (λ instruments old lines timed m q₀ i₀ q i. (m ≤ 65) × Pushing timed (instrumentsOf instruments) old lines m q i)
+    (λ instruments old lines timed m q₀ i₀ q i. (m ≤ 65) × Pushing timed (instruments_of instruments) old lines m q i)
     (λ instruments old lines timed m q₀ i₀ q i. m - i) (λ c κs. tt)
     (λ c. let s = c.before.before in
     let l : length s.args.h.lines ≡ 65 = simp length-map at s.well-formed.1.1.0.1.1.0.1.0.1 in

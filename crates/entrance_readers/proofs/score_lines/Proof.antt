@@ -1,7 +1,7 @@
 use Prim.Native.Nat.{◌≤◌, ◌-◌}
 use native.Mathlib.Omega.{arith}
 use Rattle.base_bitstream.specs.Bits.{bits_of}
-use Rattle.score_reader.specs.Score.{scoreOf}
+use Rattle.score_reader.specs.Score.{score_of}
 use Rattle.score_reader.specs.inside.Walk.{Ahead}
 use Rattle.entrance_readers.proofs.Gathering.{score-told, Gathered, score-start, score-steps, gather-next, gather-end}
 use Rattle.entrance_readers.proofs.score_lines.Statement.{statement}
@@ -10,7 +10,7 @@ use Rattle.entrance_readers.proofs.score_lines.Tie as tie
 pub score-lines-spec : {M : Type 1} → statement M
 score-lines-spec =
     tie.close
-    (tie.spec (λ s lines₀ c₀ m i₀ lines c i. (m ≤ 65) × Gathered (Ahead (bits_of s)) (scoreOf (bits_of s)).lines m lines c i)
+    (tie.spec (λ s lines₀ c₀ m i₀ lines c i. (m ≤ 65) × Gathered (Ahead (bits_of s)) (score_of (bits_of s)).lines m lines c i)
     (λ s lines₀ c₀ m i₀ lines c i. m - i)
     (λ c κs. tt) (λ c κs. tt) (λ c κs. tt)
     (λ c. (

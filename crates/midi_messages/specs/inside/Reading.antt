@@ -2,7 +2,7 @@
 use Rattle.std.specs.Prelude.{ℕ, cond, List, [], ◌∷◌, ◌++◌, length, take, drop, replicate, eqb, ltb}
 use Rattle.base_answer.specs.declared.Answer.{Answer}
 use Rattle.base_answer.specs.declared.Answer.TheVariants.{Taken, CutShort, NotCarried}
-use Rattle.midi_messages.specs.Message.{firstStatus, firstSystem, none, dataBytes, noteOff, classified}
+use Rattle.midi_messages.specs.Message.{first_status, first_system, none, data_bytes, note_off, classified}
 use Rattle.midi_messages.specs.Writing.{Call, whole, fault, before}
 use Rattle.midi_messages.specs.declared.NoteMessage.{NoteMessage}
 use Rattle.midi_messages.specs.declared.Classified.TheVariants.{Other}
@@ -12,58 +12,58 @@ use Rattle.midi_messages.specs.declared.Step.TheVariants.{Stops, Goes}
 use Rattle.midi_messages.specs.declared.CallMessages.{CallMessages}
 
 -- between two bytes: the running status, how many data bytes the message that has begun still wants, and the first that it had
-abbrev pub parserState : ℕ → ℕ → ℕ → ParserState
-parserState s w d = record { status = s; wants = w; first = d }
+abbrev pub parser_state : ℕ → ℕ → ℕ → ParserState
+parser_state s w d = record { status = s; wants = w; first = d }
 
 -- none at its start
 abbrev pub start : ParserState
-start = parserState none 0 0
+start = parser_state none 0 0
 
 -- a data byte for a message of status s that wants w of them
-unfoldable pub feedData : ℕ → ℕ → ℕ → ℕ → Step
-feedData s w d b = cond (eqb w 1) (Goes (parserState s 0 0) (classified s d b)) (Goes (parserState s 1 b) Other)
+unfoldable pub feed_data : ℕ → ℕ → ℕ → ℕ → Step
+feed_data s w d b = cond (eqb w 1) (Goes (parser_state s 0 0) (classified s d b)) (Goes (parser_state s 1 b) Other)
 
 -- a data byte between messages: the running status has another message
-unfoldable pub feedRunning : ℕ → ℕ → Step
-feedRunning s b = cond (eqb s none) (Stops NotCarried) (feedData s (dataBytes s) 0 b)
+unfoldable pub feed_running : ℕ → ℕ → Step
+feed_running s b = cond (eqb s none) (Stops NotCarried) (feed_data s (data_bytes s) 0 b)
 
 -- a status byte between messages
-unfoldable pub feedStatus : ℕ → Step
-feedStatus b = cond (ltb b firstSystem) (Goes (parserState b (dataBytes b) 0) Other) (Stops NotCarried)
+unfoldable pub feed_status : ℕ → Step
+feed_status b = cond (ltb b first_system) (Goes (parser_state b (data_bytes b) 0) Other) (Stops NotCarried)
 
 unfoldable pub stepped : ParserState → ℕ → Step
 stepped p b =
     cond (eqb p.wants 0)
-    (cond (ltb b firstStatus) (feedRunning p.status b) (feedStatus b))
-    (cond (ltb b firstStatus) (feedData p.status p.wants p.first b) (Stops CutShort))
+    (cond (ltb b first_status) (feed_running p.status b) (feed_status b))
+    (cond (ltb b first_status) (feed_data p.status p.wants p.first b) (Stops CutShort))
 
 -- the rest of a call behind a step
 abbrev pub behind : Step → (ParserState → Call) → Call
 behind (Stops a) f = fault a
 behind (Goes p h) f = before h (f p)
 
-unfoldable pub callFrom : ParserState → List ℕ → Call
-callFrom p [] = cond (eqb p.wants 0) (whole []) (fault CutShort)
-callFrom p (b ∷ bs) = behind (stepped p b) (λ q. callFrom q bs)
+unfoldable pub call_from : ParserState → List ℕ → Call
+call_from p [] = cond (eqb p.wants 0) (whole []) (fault CutShort)
+call_from p (b ∷ bs) = behind (stepped p b) (λ q. call_from q bs)
 
 -- the note messages of a keyboard call, in order, or the first of 1 and 2 in reading
 unfoldable pub call_of : List ℕ → Call
-call_of bs = callFrom start bs
+call_of bs = call_from start bs
 
 -- ---- what is handed on: the first 65 note messages, since 64 can wait and one more is too many
 abbrev pub most : ℕ
 most = 65
 
 abbrev pub blank : NoteMessage
-blank = noteOff 0 0
+blank = note_off 0 0
 
 -- 65 places that start with some messages
 abbrev pub padded : List NoteMessage → List NoteMessage
 padded ms = ms ++ drop (length ms) (replicate most blank)
 
-abbrev pub messagesWith : List NoteMessage → Answer → CallMessages
-messagesWith ms a = record { list = padded ms; count = length ms; answer = a }
+abbrev pub messages_with : List NoteMessage → Answer → CallMessages
+messages_with ms a = record { list = padded ms; count = length ms; answer = a }
 
-unfoldable pub callMessages : Call → CallMessages
-callMessages (whole ms) = messagesWith (take most ms) Taken
-callMessages (fault a) = messagesWith [] a
+unfoldable pub call_messages : Call → CallMessages
+call_messages (whole ms) = messages_with (take most ms) Taken
+call_messages (fault a) = messages_with [] a

@@ -3,11 +3,11 @@ use mathlib.Core.List.{List}
 use Prim.Native.Nat.{◌≤◌, ◌-◌}
 use native.Mathlib.Omega.{arith}
 use lib.ListN.{length, take, length-map}
-use Rattle.code_program.specs.InstrumentTable.{instrumentsOf}
+use Rattle.code_program.specs.InstrumentTable.{instruments_of}
 use Rattle.player_model.specs.Lists.{each, over}
 use Rattle.player_model.proofs.Loops.{take-end}
 use Rattle.note_state.specs.declared.Note.{Note}
-use Rattle.note_events.specs.Controls.{controlledIn}
+use Rattle.note_events.specs.Controls.{controlled_in}
 use Rattle.note_pool.proofs.Steps.{each_over}
 use Rattle.note_events.proofs.Rendered.{control-in}
 use Rattle.note_events.proofs.control_notes.Statement.{statement}
@@ -16,7 +16,7 @@ use Rattle.note_events.proofs.control_notes.Tie as tie
 pub control-notes-spec : {M : Type 1} → statement M
 control-notes-spec =
     tie.close (tie.spec
-    (λ instruments v label variable value notes m a₀ j₀ a j. (j ≤ m) × (m ≤ 16) × (a ≡ over (each (controlledIn (instrumentsOf instruments) label variable value) (take j notes)) notes))
+    (λ instruments v label variable value notes m a₀ j₀ a j. (j ≤ m) × (m ≤ 16) × (a ≡ over (each (controlled_in (instruments_of instruments) label variable value) (take j notes)) notes))
     (λ instruments v label variable value notes m a₀ j₀ a j. m - j)
     (λ c κs. tt)
     (λ c. unfold each in (omega (arith, c.at_most.ensures), omega (arith, c.at_most.ensures), refl))
@@ -30,7 +30,7 @@ control-notes-spec =
     ))
     (λ c. let s = c.before.before.before.before in
     let l : length s.args.v.notes ≡ 16 = simp length-map at s.well-formed.1.0.1.1.0.1.0.1 in
-    let g = controlledIn (instrumentsOf s.args.instruments) s.args.label s.args.variable s.args.value in (
+    let g = controlled_in (instruments_of s.args.instruments) s.args.label s.args.variable s.args.value in (
       refl,
       c.before.loop.invariant.2
           ∙ ap (λ (ns : List Note). over (each g ns) s.args.v.notes)

@@ -15,7 +15,7 @@ use borrow.Author.Rules.{rules}
 use native.Mathlib.Omega.{arith}
 use mathlib.Core.Path.{refl}
 use Rattle.orchestra_tokens.specs.inside.Token.{toks}
-use Rattle.orchestra_syntax.specs.Tree.{importsKind}
+use Rattle.orchestra_syntax.specs.Tree.{imports_kind}
 use Rattle.orchestra_expressions.specs.Reader.{seq, sign}
 use Rattle.orchestra_expressions.specs.Areas.{left, gone}
 use Rattle.orchestra_expressions.proofs.Toks.{length-toks}
@@ -88,7 +88,7 @@ pub +declarations-spec : {M : Type 1} → statement M
     let s = c₅.before.before.before.before.before.before.before.before in
     let T = toks s.args.kinds.now s.args.words.now s.args.reals.now in
     let p₀ = lead-past T c₅.got.given.0.0 s.requires.1 s.requires.0 c₅.got.given.1 c₄.declaration-start-at.ensures c₃.enum-told2.given.1 tt in
-    let p₂ = past-took 1 (listed-took importsKind) (past-sign 3 p₀ c₂.expect.ensures) c₁.listed2.ensures in (p₂.less, past-ready p₂))
+    let p₂ = past-took 1 (listed-took imports_kind) (past-sign 3 p₀ c₂.expect.ensures) c₁.listed2.ensures in (p₂.less, past-ready p₂))
     (λ c. search rules) (λ c. search rules) (λ c. search rules) (λ c. search rules)
     (λ c. let c₁ = c.before.before.before.before.before.before in
     let c₂ = c₁.before.before.before.before.before.before.before.before.before.before in
@@ -108,8 +108,8 @@ pub +declarations-spec : {M : Type 1} → statement M
     let c₆ = c₅.before.before in
     let s = c₆.before.before.before.before.before.before.before.before in
     let T = toks s.args.kinds.now s.args.words.now s.args.reals.now in
-    declarations-as T c₆.got.given.0.0 Imports (λ z. seq (sign 3 z) (λ p. seq (R.listed importsKind p) R.declarations)) (λ z. refl) c₆.got.given.1 c₅.declaration-start-at.ensures c₄.enum-told2.given.1
-    (runs_seq (λ p. seq (R.listed importsKind p) R.declarations) (runs-sign T 3 _ c₃.expect.ensures) (runs_seq R.declarations c₂.listed2.ensures c₁.declarations2.ensures)))
+    declarations-as T c₆.got.given.0.0 Imports (λ z. seq (sign 3 z) (λ p. seq (R.listed imports_kind p) R.declarations)) (λ z. refl) c₆.got.given.1 c₅.declaration-start-at.ensures c₄.enum-told2.given.1
+    (runs_seq (λ p. seq (R.listed imports_kind p) R.declarations) (runs-sign T 3 _ c₃.expect.ensures) (runs_seq R.declarations c₂.listed2.ensures c₁.declarations2.ensures)))
     (λ c. let c₁ = c.before.before in
     let c₂ = c₁.before.before in
     let s = c₂.before.before.before.before.before.before.before.before in

@@ -1,7 +1,7 @@
 use borrow.Author.Rules.{rules}
 use native.Mathlib.Omega.{arith}
 use Rattle.orchestra_tokens.specs.inside.Token.{toks}
-use Rattle.orchestra_syntax.specs.inside.Program.{instrOp}
+use Rattle.orchestra_syntax.specs.inside.Program.{instr_op}
 use Rattle.orchestra_expressions.specs.Reader.{seq, sign}
 use Rattle.orchestra_expressions.proofs.Runs.{runs_seq, runs-sign, ready-sign, ready-less, ready-took}
 use Rattle.orchestra_grammar.specs.Reader as R
@@ -16,7 +16,7 @@ header-spec =
     (λ c κs. search rules)
     (λ c κs. let c₁ = c.before.before.before in
     let c₂ = c₁.before.before.before.before.before.before.before in
-    let r₁ = ready-took 0 (name-took instrOp) c₂.before.before.before.before.before.before.before.before.before.before.requires c₂.name.ensures in
+    let r₁ = ready-took 0 (name-took instr_op) c₂.before.before.before.before.before.before.before.before.before.before.requires c₂.name.ensures in
     ready-less (omega arith) (ready-sign 15 r₁ c₁.expect.ensures))
     (λ c κs. search rules) (λ c. search rules) (λ c. search rules) (λ c. search rules)
     (λ c. let c₁ = c.before.before.before.before.before.before.before in

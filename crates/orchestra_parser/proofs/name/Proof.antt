@@ -2,7 +2,7 @@ use borrow.Author.Rules.{rules}
 use native.Mathlib.Omega.{arith}
 use mathlib.Core.Path.{refl}
 use Rattle.orchestra_tokens.specs.inside.Token.{toks}
-use Rattle.orchestra_syntax.specs.inside.Program.{insArg}
+use Rattle.orchestra_syntax.specs.inside.Program.{ins_arg}
 use Rattle.orchestra_expressions.specs.Areas.{gone}
 use Rattle.orchestra_expressions.proofs.Toks.{length-toks}
 use Rattle.orchestra_expressions.proofs.Runs.{runs-emit, ready-place}
@@ -34,7 +34,7 @@ name-spec =
     let s = c₄.before.before.before.before.before.before.before.before in
     let T = toks s.args.kinds.now s.args.words.now s.args.reals.now in
     let r = ready-next s.requires c₄.got.given.1 (word_in T c₄.got.given.0.0 c₃.name-token-at.ensures c₂.n.given.1) in
-    name-as T s.args.op c₄.got.given.0.0 c₄.got.given.1 c₃.name-token-at.ensures c₂.n.given.1 (runs-emit (insArg s.args.op c₂.n.given.0.0) r c₁.emit.ensures.0 c₁.emit.ensures.1))
+    name-as T s.args.op c₄.got.given.0.0 c₄.got.given.1 c₃.name-token-at.ensures c₂.n.given.1 (runs-emit (ins_arg s.args.op c₂.n.given.0.0) r c₁.emit.ensures.0 c₁.emit.ensures.1))
     (λ c. let c₁ = c.before.before in
     let c₂ = c₁.before.before in
     let s = c₂.before.before.before.before.before.before.before.before in

@@ -2,7 +2,7 @@
 use Rattle.std.specs.Prelude.{ℕ, ◌+◌, List, [], ◌∷◌, ◌++◌, map, length, drop, replicate, Float}
 use Rattle.orchestra_syntax.specs.Tree.{Instrument}
 use Rattle.orchestra_syntax.specs.inside.Placed.{placed}
-use Rattle.orchestra_syntax.specs.inside.Program.{zeroF, program, instrument}
+use Rattle.orchestra_syntax.specs.inside.Program.{zero_f, program, instrument}
 use Rattle.orchestra_rules.specs.Formed.{ops_of, args_of, vals_of}
 use Rattle.orchestra_reader.specs.declared.PostfixProgram.{PostfixProgram}
 
@@ -19,19 +19,19 @@ laid hs os ns vs =
       length = length os;
       ops = padded 2048 0 os;
       args = padded 2048 0 ns;
-      vals = padded 2048 zeroF vs;
+      vals = padded 2048 zero_f vs;
     }
 
 -- where each instrument's code starts, the first at n
-unfoldable pub headsFrom : ℕ → List Instrument → List ℕ
-headsFrom n [] = []
-headsFrom n (i ∷ is) = n ∷ headsFrom (n + length (instrument (placed i))) is
+unfoldable pub heads_from : ℕ → List Instrument → List ℕ
+heads_from n [] = []
+heads_from n (i ∷ is) = n ∷ heads_from (n + length (instrument (placed i))) is
 
 -- The program of an orchestra: the code of each instrument, its names put by their places, one after the other.
 unfoldable pub compile : List Instrument → PostfixProgram
 compile is =
     let code = program (map placed is) in
-    laid (headsFrom 0 is) (ops_of code) (args_of code) (vals_of code)
+    laid (heads_from 0 is) (ops_of code) (args_of code) (vals_of code)
 
 -- the program of no instruments
 abbrev pub blank : PostfixProgram

@@ -4,13 +4,13 @@ use Rattle.orchestra_tokens.specs.declared.Token.{Token}
 use Rattle.orchestra_syntax.specs.Tree.{Instrument}
 use Rattle.orchestra_syntax.specs.Grammar.{Orchestra}
 use Rattle.orchestra_syntax.specs.Names.{name_rules}
-use Rattle.orchestra_syntax.specs.Rates.{rateRules}
+use Rattle.orchestra_syntax.specs.Rates.{rate_rules}
 use Rattle.orchestra_syntax.specs.inside.Program.{Ins, program}
 use Rattle.orchestra_expressions.specs.Reader.{ok}
 use Rattle.orchestra_grammar.specs.Reader.{orchestra}
 use Rattle.orchestra_rules.specs.Formed.{ops_of, args_of}
-use Rattle.orchestra_rules.specs.Naming.{namesPass, placesPass}
-use Rattle.orchestra_rules.specs.Rating.{ratesPass}
+use Rattle.orchestra_rules.specs.Naming.{names_pass, places_pass}
+use Rattle.orchestra_rules.specs.Rating.{rates_pass}
 
 -- Every orchestra of the grammar is read, whole, as the program of its tree,
 abbrev pub GrammarComplete : Type 0
@@ -32,10 +32,10 @@ GrammarUnique = (is js : List Instrument) (ts : List Token) → Orchestra is ts 
 
 -- The pass over a tree's program finds what the name rules say of the tree,
 abbrev pub NamesJudged : Type 0
-NamesJudged = (is : List Instrument) (ts : List Token) → Orchestra is ts → namesPass (ops_of (program is)) (args_of (program is)) ≡ name_rules is
+NamesJudged = (is : List Instrument) (ts : List Token) → Orchestra is ts → names_pass (ops_of (program is)) (args_of (program is)) ≡ name_rules is
 
 -- and, with the names put by their places, what the rate rules say.
 abbrev pub RatesJudged : Type 0
 RatesJudged =
     (is : List Instrument) (ts : List Token) → Orchestra is ts → name_rules is ≡ true
-    → ratesPass (ops_of (program is)) (placesPass (ops_of (program is)) (args_of (program is))) ≡ rateRules is
+    → rates_pass (ops_of (program is)) (places_pass (ops_of (program is)) (args_of (program is))) ≡ rate_rules is

@@ -25,7 +25,7 @@ use borrow.Author.Rules.{rules}
 use native.Mathlib.Omega.{arith}
 use mathlib.Core.Path.{refl, sym, ◌∙◌}
 use Rattle.orchestra_tokens.specs.inside.Token.{toks}
-use Rattle.orchestra_syntax.specs.inside.Program.{ins, elseOp, endOp}
+use Rattle.orchestra_syntax.specs.inside.Program.{ins, else_op, end_op}
 use Rattle.orchestra_expressions.specs.Reader.{seq}
 use Rattle.orchestra_expressions.specs.Areas.{left, gone}
 use Rattle.orchestra_expressions.proofs.Toks.{length-toks}
@@ -35,7 +35,7 @@ use Rattle.orchestra_statement_parser.proofs.Reading.{start-in, start-past, stat
 use Rattle.orchestra_grammar.specs.Reader as R
 use Rattle.orchestra_grammar.specs.declared.StatementStart.TheVariants.{Name, Output, If}
 use Rattle.orchestra_grammar.proofs.Results.{sign-emit}
-use Rattle.orchestra_grammar.proofs.Steps.{setTo-took, bracketed-took, branches-took}
+use Rattle.orchestra_grammar.proofs.Steps.{set_to-took, bracketed-took, branches-took}
 
 abbrev μ-branches : Measures 6 branches-kinds.ps ℕ
 μ-branches κs a = left (toks a.0.now a.1.0.now a.1.1.0.now) a.1.1.1.0
@@ -84,7 +84,7 @@ pub +branches-otherwise-statements-spec : {M : Type 1} → statement M
     (λ c κs. c.before.before.before.before.before.before.before.before.before.requires.1)
     (λ c. search rules) (λ c. search rules) (λ c. search rules) (λ c. search rules) (λ c. search rules)
     (λ c. let c₁ = c.before.before.before.before.before.before.before.before in
-    runs_seq (λ p. seq (R.statements p) (λ q. seq (R.close elseOp q) (R.otherwise R.statements))) (runs_to c.enum_told.given.1 c₁.bracketed.ensures) (gone refl refl refl))
+    runs_seq (λ p. seq (R.statements p) (λ q. seq (R.close else_op q) (R.otherwise R.statements))) (runs_to c.enum_told.given.1 c₁.bracketed.ensures) (gone refl refl refl))
     (λ c κs. let c₁ = c.before.before.before.before in
     let c₂ = c₁.before.before.before.before.before.before.before.before in
     let s = c₂.before.before.before.before.before.before.before.before.before.before in
@@ -101,7 +101,7 @@ pub +branches-otherwise-statements-spec : {M : Type 1} → statement M
     let c₄ = c₃.before.before.before.before.before.before.before.before in
     let s = c₄.before.before.before.before.before.before.before.before.before.before in
     let p₁ = past_first 1 (bracketed-took 17 7) s.requires.1 s.requires.0 (runs_to c₃.at.given.1 c₄.bracketed.ensures) refl in
-    let p₃ = past-took 0 (sign-emit 18 (ins elseOp)) (past-took 0 statements-took p₁ c₂.statements.ensures) c₁.block-end.ensures in
+    let p₃ = past-took 0 (sign-emit 18 (ins else_op)) (past-took 0 statements-took p₁ c₂.statements.ensures) c₁.block-end.ensures in
     (p₃.less, ready-less (omega arith) p₃.ready))
     (λ c. search (rules, c.before.before.before.before.before.before.otherwise.auto, c.before.before.before.before.before.before.before.before.before.before.before.before.before.before.before.before.block-end.auto, c.before.before.before.before.before.before.before.before.before.before.before.before.before.before.before.before.before.before.before.before.before.before.before.before.before.before.statements.auto, c.before.before.before.before.before.before.before.before.before.before.before.before.before.before.before.before.before.before.before.before.before.before.before.before.before.before.before.before.before.before.before.before.before.before.before.before.before.before.before.bracketed.auto))
     (λ c. search (rules, c.before.before.before.before.before.before.otherwise.auto, c.before.before.before.before.before.before.before.before.before.before.before.before.before.before.before.before.block-end.auto, c.before.before.before.before.before.before.before.before.before.before.before.before.before.before.before.before.before.before.before.before.before.before.before.before.before.before.statements.auto, c.before.before.before.before.before.before.before.before.before.before.before.before.before.before.before.before.before.before.before.before.before.before.before.before.before.before.before.before.before.before.before.before.before.before.before.before.before.before.before.bracketed.auto))
@@ -112,8 +112,8 @@ pub +branches-otherwise-statements-spec : {M : Type 1} → statement M
     let c₄ = c₃.before.before.before.before.before in
     let c₅ = c₄.before.before.before.before.before.before.before.before in
     let s = c₅.before.before.before.before.before.before.before.before.before.before in
-    runs_seq (λ p. seq (R.statements p) (λ q. seq (R.close elseOp q) (R.otherwise R.statements))) (runs_to c₄.at.given.1 c₅.bracketed.ensures)
-    (runs_seq (λ q. seq (R.close elseOp q) (R.otherwise R.statements)) c₃.statements.ensures (runs_seq (R.otherwise R.statements) c₂.block-end.ensures c₁.otherwise.ensures))))
+    runs_seq (λ p. seq (R.statements p) (λ q. seq (R.close else_op q) (R.otherwise R.statements))) (runs_to c₄.at.given.1 c₅.bracketed.ensures)
+    (runs_seq (λ q. seq (R.close else_op q) (R.otherwise R.statements)) c₃.statements.ensures (runs_seq (R.otherwise R.statements) c₂.block-end.ensures c₁.otherwise.ensures))))
     (λ t. otherwise-lts.spec
     (K-otherwise t) (otherwise-at t) otherwise.Post (λ c. search rules) (λ c. search rules) (λ c. gone c.enum_told.given.1 refl refl)
     (λ c κs. search rules)
@@ -151,7 +151,7 @@ pub +branches-otherwise-statements-spec : {M : Type 1} → statement M
     let s = c₆.before.before.before.before.before.before.before.before in
     let T = toks s.args.kinds.now s.args.words.now s.args.reals.now in
     else-on T c₆.got.given.0.0 c₆.got.given.1 c₅.sign_at.ensures c₄.if1.true
-    (runs_seq (λ p. seq (R.statements p) (R.close endOp)) (runs-sign T 17 _ c₃.expect.ensures) (runs_seq (R.close endOp) c₂.statements.ensures c₁.block-end.ensures)))
+    (runs_seq (λ p. seq (R.statements p) (R.close end_op)) (runs-sign T 17 _ c₃.expect.ensures) (runs_seq (R.close end_op) c₂.statements.ensures c₁.block-end.ensures)))
     (λ c. search rules) (λ c. search rules) (λ c. search rules)
     (λ c. let c₁ = c.before.before.before.before.before.before in
     let c₂ = c₁.before.before.before.before in
@@ -160,7 +160,7 @@ pub +branches-otherwise-statements-spec : {M : Type 1} → statement M
     let s = c₄.before.before.before.before.before.before.before.before in
     let T = toks s.args.kinds.now s.args.words.now s.args.reals.now in
     else-off T c₄.got.given.0.0 c₄.got.given.1 c₃.sign_at.ensures c₂.if1.false
-    (runs-emit (ins endOp) (ready_at c₄.got.given.1 s.requires.1) c₁.emit.ensures.0 c₁.emit.ensures.1)))
+    (runs-emit (ins end_op) (ready_at c₄.got.given.1 s.requires.1) c₁.emit.ensures.0 c₁.emit.ensures.1)))
     (λ t. statements-lts.spec
     (K-statements t) (statements-at t) statements.Post (λ c. search rules) (λ c. search rules) (λ c. gone c.enum_told.given.1 refl refl)
     (λ c κs. search rules) (λ c. search rules)
@@ -183,7 +183,7 @@ pub +branches-otherwise-statements-spec : {M : Type 1} → statement M
     let s = c₄.before.before.before.before.before.before.before.before in
     let T = toks s.args.kinds.now s.args.words.now s.args.reals.now in
     let p₀ = start-past T c₄.got.given.0.0 s.requires.1 s.requires.0 c₄.got.given.1 c₃.statement-start-at.ensures c₂.n.given.1 tt in
-    let p₁ = past-took 1 (setTo-took c₂.n.given.0.0) p₀ c₁.assignment.ensures in (p₁.less, past-ready p₁))
+    let p₁ = past-took 1 (set_to-took c₂.n.given.0.0) p₀ c₁.assignment.ensures in (p₁.less, past-ready p₁))
     (λ c. search rules)
     (λ c. let c₁ = c.before.before in
     let c₂ = c₁.before.before in

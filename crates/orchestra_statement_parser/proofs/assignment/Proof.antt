@@ -1,7 +1,7 @@
 use borrow.Author.Rules.{rules}
 use native.Mathlib.Omega.{arith}
 use Rattle.orchestra_tokens.specs.inside.Token.{toks}
-use Rattle.orchestra_syntax.specs.inside.Program.{insArg, storeOp}
+use Rattle.orchestra_syntax.specs.inside.Program.{ins_arg, store_op}
 use Rattle.orchestra_expressions.specs.Reader.{reader, seq, sign}
 use Rattle.orchestra_expressions.specs.Reader as E
 use Rattle.orchestra_expressions.proofs.Runs.{runs_seq, runs-sign, runs-emit, ready-sign, ready-place, ready-less}
@@ -29,5 +29,5 @@ assignment-spec =
     let s = c₄.before.before.before.before.before.before.before in
     let T = toks s.args.kinds.now s.args.words.now s.args.reals.now in
     let r₃ = ready-sign 20 (ready-expr 0 (ready-sign 21 s.requires c₄.expect.ensures) c₃.expr.ensures) c₂.expect2.ensures in
-    runs_seq (λ p. seq (reader.expr 0 p) (λ q. seq (sign 20 q) (E.emit (insArg storeOp s.args.n)))) (runs-sign T 21 s.args.got c₄.expect.ensures)
-    (runs_seq (λ q. seq (sign 20 q) (E.emit (insArg storeOp s.args.n))) c₃.expr.ensures (runs_seq (E.emit (insArg storeOp s.args.n)) (runs-sign T 20 _ c₂.expect2.ensures) (runs-emit (insArg storeOp s.args.n) r₃ c₁.emit.ensures.0 c₁.emit.ensures.1)))))
+    runs_seq (λ p. seq (reader.expr 0 p) (λ q. seq (sign 20 q) (E.emit (ins_arg store_op s.args.n)))) (runs-sign T 21 s.args.got c₄.expect.ensures)
+    (runs_seq (λ q. seq (sign 20 q) (E.emit (ins_arg store_op s.args.n))) c₃.expr.ensures (runs_seq (E.emit (ins_arg store_op s.args.n)) (runs-sign T 20 _ c₂.expect2.ensures) (runs-emit (ins_arg store_op s.args.n) r₃ c₁.emit.ensures.0 c₁.emit.ensures.1)))))

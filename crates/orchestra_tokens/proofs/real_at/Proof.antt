@@ -1,5 +1,5 @@
 use lib.Ieee.{nan}
-use Rattle.orchestra_tokens.specs.inside.Token.{zeroF}
+use Rattle.orchestra_tokens.specs.inside.Token.{zero_f}
 use mathlib.Core.Path.{sym}
 use lib.ListN.{get_or-eq_default}
 use Rattle.base_laws.proofs.Lists.{get_d_any}
@@ -11,5 +11,5 @@ pub real-at-spec : {M : Type 1} → statement M
 real-at-spec =
     tie.close (tie.spec
     (λ c. search rules) (λ c. search rules)
-    (λ c. get_d_any c.before.before.args.s.now c.before.before.args.i nan zeroF c.before.if1.true)
-    (λ c. sym (get_or-eq_default c.before.args.s.now zeroF c.if1.false)))
+    (λ c. get_d_any c.before.before.args.s.now c.before.before.args.i nan zero_f c.before.if1.true)
+    (λ c. sym (get_or-eq_default c.before.args.s.now zero_f c.if1.false)))

@@ -2,15 +2,15 @@
 use Rattle.std.specs.Prelude.{ℕ, ◌+◌, Bool, true, ◌&&◌, cond, List, [], length, drop, get_or, eqb, leb}
 use Rattle.base_answer.specs.declared.Answer.{Answer}
 use Rattle.base_answer.specs.declared.Answer.TheVariants.{Taken, BadToken, TooLarge}
-use Rattle.orchestra_tokens.specs.inside.Scanning.{Scanned, none, some, tokenFrom, tokensOf}
-use Rattle.orchestra_tokens.specs.Measures.{mostTokens, mostBrackets, longestStretch, opened, since, bracketsWithin, stretchesWithin}
+use Rattle.orchestra_tokens.specs.inside.Scanning.{Scanned, none, some, token_from, tokens_of}
+use Rattle.orchestra_tokens.specs.Measures.{most_tokens, most_brackets, longest_stretch, opened, since, brackets_within, stretches_within}
 use Rattle.orchestra_tokens.specs.declared.Token.{Token}
 use Rattle.orchestra_tokens.specs.declared.Measure.{Measure}
 use Rattle.orchestra_tokens.specs.declared.ScanResult.{ScanResult}
 
 -- the token that stands at a place
 abbrev pub standing : List ℕ → ℕ → Token
-standing bs at = tokenFrom (get_or bs at 0) (drop (at + 1) bs)
+standing bs at = token_from (get_or bs at 0) (drop (at + 1) bs)
 
 abbrev pub found : Answer → ℕ → ScanResult
 found a n = record { answer = a; count = n }
@@ -22,23 +22,23 @@ measure c o r f = record { count = c; depth = o; run = r; fits = f }
 unfoldable pub next : Measure → ℕ → Measure
 next m k =
     measure (m.count + 1) (opened m.depth k) (since m.run k)
-    (m.fits && (leb (opened m.depth k) mostBrackets && leb (since m.run k) longestStretch))
+    (m.fits && (leb (opened m.depth k) most_brackets && leb (since m.run k) longest_stretch))
 
 -- whether tokens that follow keep the measures too
-abbrev pub measuresHold : Measure → List Token → Bool
-measuresHold m ts = m.fits && (leb (m.count + length ts) mostTokens && (bracketsWithin m.depth ts && stretchesWithin m.run ts))
+abbrev pub measures_hold : Measure → List Token → Bool
+measures_hold m ts = m.fits && (leb (m.count + length ts) most_tokens && (brackets_within m.depth ts && stretches_within m.run ts))
 
 -- the answer and the number of tokens, where m was measured and the tokens left are those got
 abbrev pub finished : Measure → Scanned → ScanResult
 finished m none = found BadToken 0
-finished m (some ts) = cond (measuresHold m ts) (found Taken (m.count + length ts)) (found TooLarge 0)
+finished m (some ts) = cond (measures_hold m ts) (found Taken (m.count + length ts)) (found TooLarge 0)
 
 -- at the end token, with as many bytes left as it and those after it are
-abbrev pub closedOf : Measure → ℕ → ScanResult
-closedOf m left = finished m (cond (eqb left 1) (some []) none)
+abbrev pub closed_of : Measure → ℕ → ScanResult
+closed_of m left = finished m (cond (eqb left 1) (some []) none)
 
 abbrev pub start : Measure
 start = measure 0 0 0 true
 
 unfoldable pub scanned : List ℕ → ScanResult
-scanned bs = finished start (tokensOf bs)
+scanned bs = finished start (tokens_of bs)

@@ -3,7 +3,7 @@ use mathlib.Core.List.{List}
 use Prim.Native.Nat.{ℕ}
 use borrow.Author.Rules.{rules}
 use borrow.Author.Tests.{not-true, not-false}
-use Rattle.settings_records.specs.Changes.{noneInUse, changeOf, areaChanged}
+use Rattle.settings_records.specs.Changes.{none_in_use, change_of, area_changed}
 use Rattle.settings_records.specs.declared.InUse.{InUse}
 use Rattle.settings_records.specs.declared.Changed.{Changed}
 use Rattle.player_start.proofs.OneStart.{bad-record, unaccepted, absent, started}
@@ -11,12 +11,12 @@ use Rattle.player_start.proofs.fresh_start.Statement.{statement}
 use Rattle.player_start.proofs.fresh_start.Tie as tie
 
 -- a change with none in use
-on_none : {k : InUse} {c : Changed} (area first : List ℕ) → k ≡ noneInUse → c ≡ changeOf k area first → c ≡ changeOf noneInUse area first
-on_none area first e q = q ∙ ap (λ (x : InUse). changeOf x area first) e
+on_none : {k : InUse} {c : Changed} (area first : List ℕ) → k ≡ none_in_use → c ≡ change_of k area first → c ≡ change_of none_in_use area first
+on_none area first e q = q ∙ ap (λ (x : InUse). change_of x area first) e
 
-both-none : {k : InUse} {c : Changed} {left : List ℕ} (area first : List ℕ) → k ≡ noneInUse → (c ≡ changeOf k area first) × (left ≡ areaChanged k.count area first)
-    → (c ≡ changeOf noneInUse area first) × (left ≡ areaChanged noneInUse.count area first)
-both-none area first e q = (on_none area first e q.0, q.1 ∙ ap (λ (x : InUse). areaChanged x.count area first) e)
+both-none : {k : InUse} {c : Changed} {left : List ℕ} (area first : List ℕ) → k ≡ none_in_use → (c ≡ change_of k area first) × (left ≡ area_changed k.count area first)
+    → (c ≡ change_of none_in_use area first) × (left ≡ area_changed none_in_use.count area first)
+both-none area first e q = (on_none area first e q.0, q.1 ∙ ap (λ (x : InUse). area_changed x.count area first) e)
 
 pub fresh-start-spec : {M : Type 1} → statement M
 fresh-start-spec =

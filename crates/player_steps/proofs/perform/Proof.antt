@@ -1,11 +1,11 @@
 use mathlib.Core.Path.{ap, ◌∙◌}
 use Prim.Native.Nat.{ℕ, min}
 use lib.ListN.{take}
-use Rattle.code_program.specs.InstrumentTable.{instrumentsOf}
+use Rattle.code_program.specs.InstrumentTable.{instruments_of}
 use Rattle.note_events.proofs.Rendered.{control-lines-are}
 use native.Mathlib.Omega.{arith}
 use borrow.Author.Rules.{rules}
-use Rattle.player_steps.specs.Steps.{dueIn}
+use Rattle.player_steps.specs.Steps.{due_in}
 use Rattle.player_steps.proofs.Steps.{born-law, sounds-law, heard-law, perform-law, block-law}
 use Rattle.player_steps.proofs.perform.Statement.{statement}
 use Rattle.player_steps.proofs.perform.Tie as tie
@@ -26,8 +26,8 @@ perform-spec =
     let m = v.before.before.before in
     let s = m.before.before.before.before in
     let a = s.args in
-    let t = instrumentsOf a.instruments in
-    let due = dueIn a.due in
+    let t = instruments_of a.instruments in
+    let due = due_in a.due in
     let x = a.settings in
     let b = born-law t a.code.now a.vals.now x.ceiling (min x.notes 16) x.chosen a.p due m.at_most.result m.at_most.ensures v.start-notes.result v.start-notes.ensures.0 in
     let controlled = ap (λ (n : ℕ). take n l.control-lines.result.notes) l.control-lines.ensures.0

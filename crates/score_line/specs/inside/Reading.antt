@@ -1,10 +1,10 @@
 -- A line's parts, as the functions of the code read them. Definitions only.
 use Rattle.std.specs.Prelude.{ℕ, Bool, List, Float}
 use Rattle.std.proofs.Math.Option.{some}
-use Rattle.base_formats.specs.Format.{Source, Read, got, refused, and_then, small, named, found, timesFrom}
+use Rattle.base_formats.specs.Format.{Source, Read, got, refused, and_then, small, named, found, times_from}
 use Rattle.base_formats.specs.Description.{format}
 use Rattle.base_formats.specs.declared.Fault.TheVariants as fault
-use Rattle.score_line.specs.LineFormat.{float, whenOf, timed, when, label, Kind, instr, control, tempo, type_of, kinds, Body, body, labelled, eventOf, eventParts, kind_of, counted, values, padded, lineWith, afterTime}
+use Rattle.score_line.specs.LineFormat.{float, when_of, timed, when, label, Kind, instr, control, tempo, type_of, kinds, Body, body, labelled, event_of, event_parts, kind_of, counted, values, padded, line_with, after_time}
 use Rattle.score_line.specs.declared.When.{When}
 use Rattle.score_line.specs.declared.Label.{Label}
 use Rattle.score_line.specs.declared.Event.{Event}
@@ -24,76 +24,76 @@ use Rattle.score_line.specs.declared.EventRead.TheVariants as event-read
 
 -- ---- what is left of the format where each function of the code begins
 
-abbrev pub smallFrom : Source → ℕ → ℕ → ℕ → Read ℕ
-smallFrom s width most at = (small width most).from s at
+abbrev pub small_from : Source → ℕ → ℕ → ℕ → Read ℕ
+small_from s width most at = (small width most).from s at
 
-abbrev pub floatFrom : Source → Range → ℕ → Read Float
-floatFrom s r at = (format (float r)).from s at
+abbrev pub float_from : Source → Range → ℕ → Read Float
+float_from s r at = (format (float r)).from s at
 
-unfoldable pub timedFrom : Source → ℕ → Read When
-timedFrom s at = and_then (and_then ((format timed).from s at) (λ a q. got (some a) q)) (λ x q. got (whenOf x) q)
+unfoldable pub timed_from : Source → ℕ → Read When
+timed_from s at = and_then (and_then ((format timed).from s at) (λ a q. got (some a) q)) (λ x q. got (when_of x) q)
 
-abbrev pub whenFrom : Source → ℕ → Read When
-whenFrom s at = (format when).from s at
+abbrev pub when_from : Source → ℕ → Read When
+when_from s at = (format when).from s at
 
-abbrev pub labelFrom : Source → ℕ → Read Label
-labelFrom s at = (format label).from s at
+abbrev pub label_from : Source → ℕ → Read Label
+label_from s at = (format label).from s at
 
 -- the event of what was read of its body
-abbrev pub asEvent : (k : Kind) → Read (Body k) → Read Event
-asEvent k r = and_then r (λ b q. got (eventOf k b) q)
+abbrev pub as_event : (k : Kind) → Read (Body k) → Read Event
+as_event k r = and_then r (λ b q. got (event_of k b) q)
 
-unfoldable pub instrFrom : Source → ℕ → Read Event
-instrFrom s at = asEvent instr ((format (body instr)).from s at)
+unfoldable pub instr_from : Source → ℕ → Read Event
+instr_from s at = as_event instr ((format (body instr)).from s at)
 
-unfoldable pub labelledFrom : Source → ℕ → Read Event
-labelledFrom s at = asEvent control ((format labelled).from s at)
+unfoldable pub labelled_from : Source → ℕ → Read Event
+labelled_from s at = as_event control ((format labelled).from s at)
 
-unfoldable pub controlFrom : Source → ℕ → Read Event
-controlFrom s at = asEvent control ((format (body control)).from s at)
+unfoldable pub control_from : Source → ℕ → Read Event
+control_from s at = as_event control ((format (body control)).from s at)
 
-unfoldable pub tempoFrom : Source → ℕ → Read Event
-tempoFrom s at = asEvent tempo ((format (body tempo)).from s at)
+unfoldable pub tempo_from : Source → ℕ → Read Event
+tempo_from s at = as_event tempo ((format (body tempo)).from s at)
 
 -- the event of a line's type
-unfoldable pub eventFrom : Source → ℕ → ℕ → Read Event
-eventFrom s type at = and_then (found fault.NotCarried at (named type_of kinds type)) (λ k p. asEvent k ((format (body k)).from s p))
+unfoldable pub event_from : Source → ℕ → ℕ → Read Event
+event_from s type at = and_then (found fault.NotCarried at (named type_of kinds type)) (λ k p. as_event k ((format (body k)).from s p))
 
-abbrev pub valuesFrom : Source → ℕ → ℕ → Read (List Float)
-valuesFrom s n at = timesFrom (format (float range.Value)) s n at
+abbrev pub values_from : Source → ℕ → ℕ → Read (List Float)
+values_from s n at = times_from (format (float range.Value)) s n at
 
 -- a line with the values that were read
-unfoldable pub withValues : When → Bool → Event → ℕ → Read (List Float) → Read Line
-withValues w priority e n r = and_then r (λ xs p. got (record { when = w; priority = priority; event = e; count = n; values = padded xs }) p)
+unfoldable pub with_values : When → Bool → Event → ℕ → Read (List Float) → Read Line
+with_values w priority e n r = and_then r (λ xs p. got (record { when = w; priority = priority; event = e; count = n; values = padded xs }) p)
 
-unfoldable pub afterCount : Source → When → Bool → Event → ℕ → Read Line
-unfolding withValues
-afterCount s w priority e at = and_then ((format counted).from s at) (λ x p. withValues w priority e x.0 (got x.1 p))
+unfoldable pub after_count : Source → When → Bool → Event → ℕ → Read Line
+unfolding with_values
+after_count s w priority e at = and_then ((format counted).from s at) (λ x p. with_values w priority e x.0 (got x.1 p))
 
-unfoldable pub afterEvent : Source → When → Bool → Event → ℕ → Read Line
-afterEvent s w priority e at = and_then ((format (values (kind_of e))).from s at) (λ x p. got (lineWith (w, (priority, (kind_of e, ((eventParts e).1, x))))) p)
+unfoldable pub after_event : Source → When → Bool → Event → ℕ → Read Line
+after_event s w priority e at = and_then ((format (values (kind_of e))).from s at) (λ x p. got (line_with (w, (priority, (kind_of e, ((event_parts e).1, x))))) p)
 
-unfoldable pub afterWhen : Source → When → ℕ → Read Line
-afterWhen s w at = and_then ((format afterTime).from s at) (λ y q. got (lineWith (w, y)) q)
+unfoldable pub after_when : Source → When → ℕ → Read Line
+after_when s w at = and_then ((format after_time).from s at) (λ y q. got (line_with (w, y)) q)
 
 -- ---- the code's results as readings
 
-abbrev pub numberIs : IntegerRead → Read ℕ
-numberIs (number.Of v p) = got v p
-numberIs (number.Refused f) = refused f
+abbrev pub number_is : IntegerRead → Read ℕ
+number_is (number.Of v p) = got v p
+number_is (number.Refused f) = refused f
 
-abbrev pub realIs : FloatRead → Read Float
-realIs (real.Of x p) = got x p
-realIs (real.Refused f) = refused f
+abbrev pub real_is : FloatRead → Read Float
+real_is (real.Of x p) = got x p
+real_is (real.Refused f) = refused f
 
-abbrev pub whenIs : WhenRead → Read When
-whenIs (when-read.Of w p) = got w p
-whenIs (when-read.Refused f) = refused f
+abbrev pub when_is : WhenRead → Read When
+when_is (when-read.Of w p) = got w p
+when_is (when-read.Refused f) = refused f
 
-abbrev pub labelIs : LabelRead → Read Label
-labelIs (label-read.Of l p) = got l p
-labelIs (label-read.Refused f) = refused f
+abbrev pub label_is : LabelRead → Read Label
+label_is (label-read.Of l p) = got l p
+label_is (label-read.Refused f) = refused f
 
-abbrev pub eventIs : EventRead → Read Event
-eventIs (event-read.Of e p) = got e p
-eventIs (event-read.Refused f) = refused f
+abbrev pub event_is : EventRead → Read Event
+event_is (event-read.Of e p) = got e p
+event_is (event-read.Refused f) = refused f

@@ -3,7 +3,7 @@ use Prim.Native.Nat.{ℕ, ◌-◌}
 use mathlib.Core.Path.{◌≡◌, ap, ◌∙◌}
 use native.Mathlib.Omega.{arith}
 use lib.ListN.{take}
-use Rattle.score_line.specs.Reading.{keypadLine}
+use Rattle.score_line.specs.Reading.{keypad_line}
 use Rattle.score_line.specs.declared.LineRead.{LineRead}
 use Rattle.score_line_writer.proofs.first_answer.Statement.{statement}
 use Rattle.score_line_writer.proofs.first_answer.Tie as tie
@@ -14,4 +14,4 @@ first-answer-spec =
     (λ c. search rules) (λ c. search rules) (λ c. search rules) (λ c κs. search rules)
     (λ c. let a = c.before.before.before.args in
     let e : a.n - 0 ≡ a.n = omega arith in
-    ap (λ (r : LineRead). r.answer) c.keypad-line.ensures ∙ ap (λ (k : ℕ). (keypadLine (take k a.words.now)).answer) e))
+    ap (λ (r : LineRead). r.answer) c.keypad-line.ensures ∙ ap (λ (k : ℕ). (keypad_line (take k a.words.now)).answer) e))

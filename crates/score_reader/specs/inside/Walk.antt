@@ -1,6 +1,6 @@
 -- A score's lines as the code walks over them. Definitions only.
 use Rattle.std.specs.Prelude.{ℕ, zero, suc, ◌-◌, ◌≡◌, Bool, List, [], ◌∷◌}
-use Rattle.base_bitstream.specs.Fields.{readAt}
+use Rattle.base_bitstream.specs.Fields.{read_at}
 use Rattle.base_bitstream.specs.declared.FieldRead.{FieldRead}
 use Rattle.base_bitstream.specs.declared.FieldRead.TheVariants.{Value, Short}
 use Rattle.score_line.specs.Reading.{line_at}
@@ -12,8 +12,8 @@ use Rattle.score_reader.specs.declared.Step.{Step}
 use Rattle.score_reader.specs.Score.{lines_from, Score, all}
 
 -- what the call gives: all but the lines
-abbrev pub scoreReadOf : Score → ScoreRead
-scoreReadOf s = record { answer = s.answer; line = s.line }
+abbrev pub score_read_of : Score → ScoreRead
+score_read_of s = record { answer = s.answer; line = s.line }
 
 -- ---- the second pass over an accepted score: a cursor and the next line
 
@@ -23,7 +23,7 @@ start_of (Value n p) = record { at = p; left = n }
 start_of Short = record { at = 0; left = 0 }
 
 unfoldable pub first_of : List Bool → Cursor
-first_of bits = start_of (readAt bits 0 20)
+first_of bits = start_of (read_at bits 0 20)
 
 -- what reading a line gives, and the cursor past it
 abbrev pub step_of : ℕ → LineRead → Step

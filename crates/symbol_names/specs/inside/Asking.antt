@@ -8,25 +8,25 @@ before name none = none
 before name (some names) = some (name ∷ names)
 
 -- a length byte and that many bytes, then the others; no bytes are no names, and a list that is cut is none
-abbrev pub entryThen : List ℕ → (List ℕ → Option Names) → Option Names
-entryThen [] others = some []
-entryThen (b ∷ s) others = cond (leb b (length s)) (before (take b s) (others (drop b s))) none
+abbrev pub entry_then : List ℕ → (List ℕ → Option Names) → Option Names
+entry_then [] others = some []
+entry_then (b ∷ s) others = cond (leb b (length s)) (before (take b s) (others (drop b s))) none
 
 -- at most k names
 unfoldable pub entries : ℕ → List ℕ → Option Names
-entries zero s = entryThen s (λ r. none)
-entries (suc k) s = entryThen s (entries k)
+entries zero s = entry_then s (λ r. none)
+entries (suc k) s = entry_then s (entries k)
 
 -- the names of a list; there are no more of them than bytes
 unfoldable pub list_of : List ℕ → Option Names
 unfolding entries
 list_of s = entries (length s) s
 
-abbrev pub nameAmong : Option Names → ℕ → List ℕ
-nameAmong none symbol = []
-nameAmong (some names) symbol = name_of names symbol
+abbrev pub name_among : Option Names → ℕ → List ℕ
+name_among none symbol = []
+name_among (some names) symbol = name_of names symbol
 
 -- a symbol's name in a list; empty where it has none there
-unfoldable pub nameIn : List ℕ → ℕ → List ℕ
+unfoldable pub name_in : List ℕ → ℕ → List ℕ
 unfolding list_of
-nameIn s symbol = nameAmong (list_of s) symbol
+name_in s symbol = name_among (list_of s) symbol

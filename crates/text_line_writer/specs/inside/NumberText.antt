@@ -3,7 +3,7 @@ use Rattle.std.specs.Prelude.{ℕ, zero, suc, Bool, cond, eqb, Float}
 use Rattle.std.proofs.Math.Option.{Option, none, some, map}
 use Rattle.std.specs.Float.{binary32}
 use Rattle.std.specs.Float.Ieee.{to_bits}
-use Rattle.text_numerals.specs.Numeral.{Numeral, mostNumber, float_of, numeralOf}
+use Rattle.text_numerals.specs.Numeral.{Numeral, most_number, float_of, numeral_of}
 use Rattle.text_numerals.specs.Nearest.{sign_of}
 
 -- ---- the same as a function: looked for among all numbers
@@ -23,11 +23,11 @@ smallest test zero = none
 smallest test (suc k) = or_else (smallest test k) (cond (test k) (some k) none)
 
 -- the smallest with d decimals
-unfoldable pub withDecimals : Float → ℕ → Option Numeral
+unfoldable pub with_decimals : Float → ℕ → Option Numeral
 unfolding smallest
-withDecimals x d = map (λ n. numeralOf (sign_of x) n d) (smallest (reads x d) mostNumber)
+with_decimals x d = map (λ n. numeral_of (sign_of x) n d) (smallest (reads x d) most_number)
 
 -- the fewest decimals, of none to three
-unfoldable pub numberText : Float → Option Numeral
-unfolding withDecimals
-numberText x = or_else (withDecimals x 0) (or_else (withDecimals x 1) (or_else (withDecimals x 2) (withDecimals x 3)))
+unfoldable pub number_text : Float → Option Numeral
+unfolding with_decimals
+number_text x = or_else (with_decimals x 0) (or_else (with_decimals x 1) (or_else (with_decimals x 2) (with_decimals x 3)))
