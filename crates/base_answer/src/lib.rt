@@ -1,8 +1,10 @@
 // Every answer that a call of the panel software can give (document 01, "Refusal numbers").
+#![tactic(auto)]
+
 ghost use Rattle.std.specs.Prelude.{◌≡◌};
 ghost use Rattle.base_answer.specs.Numbers.{number_of, is_taken};
 
-#[derive(Drop)]
+#[derive(Clone, Copy)]
 pub enum Answer {
     Taken,
     CutShort,

@@ -1,4 +1,6 @@
 // Fields of bits in bytes, most significant first: reading one at a bit position, and writing one.
+#![tactic(auto)]
+
 ghost use Rattle.std.specs.Prelude.{◌≡◌, ◌+◌, ◌*◌, ◌/◌, ◌%◌, ◌^◌, ◌<◌, ◌≤◌, length, take, drop, set};
 ghost use Rattle.base_bitstream.specs.Bits.{bits_of, bit, field, value_of};
 ghost use Rattle.base_bitstream.specs.inside.Fields.{Room, written};
@@ -9,7 +11,7 @@ ghost use Rattle.base_bitstream.specs.Filling.{filled};
 const FARTHEST: usize = 0x4000_0000_0000_0000;
 
 // What reading a field gives: its number and the position past it.
-#[derive(Drop)]
+#[derive(Clone, Copy)]
 pub enum FieldRead {
     Value(u32, usize),
     Short,

@@ -22,6 +22,10 @@ whole m e = m * up e / down e
 -- the parts of `fits`, for m above 0
 parts : (a b c d : Bool) → T (a && b && c && d) → T b × T d
 parts true true true true t = (tt, tt)
+parts false b c d t = elim t [ ]
+parts true false c d t = elim t [ ]
+parts true true false d t = elim t [ ]
+parts true true true false t = elim t [ ]
 
 fits-parts : (s : Bool) (m : ℕ) (e : ℤ) → T (fits binary32 (fin s m e)) → (m < 2 ^ 24) × (m * up e < 2 ^ 128 * down e)
 unfolding fits
@@ -67,6 +71,10 @@ sub-whole (fin false m e) (fin false n d) a b h k l =
     rw (le-ltb _ _ o)
     (round_same binary32 false (m * up e * down d - n * up d * down e) c (a - b) 1 (mul-pos (down_pos e) (down_pos d)) (lit≤ tt)
     (cc (mul-one (m * up e * down d - n * up d * down e), mul-sub c a b, mul_comm c (a - b))))
+sub-whole nan y a b h k l = elim h [ ]
+sub-whole (inf _) y a b h k l = elim h [ ]
+sub-whole (fin false m e) nan a b h k l = elim k [ ]
+sub-whole (fin false m e) (inf _) a b h k l = elim k [ ]
 
 -- 0 less a whole number; the zero is +0
 minus-whole : (y : Float) (n : ℕ) → HasValue y false n 1 → sub binary32 zero_f y ≡ cond (eqb n 0) zero_f (round binary32 true n 1)
@@ -79,6 +87,8 @@ minus-whole (fin false k d) (suc n) v =
     let o : 0 * down d < k * up d * 1 = rw (zero-mul, v.1) (mul-pos (zero-lt-suc n) (down_pos d)) in
     let w : (k * up d * 1 - 0 * down d) * 1 ≡ suc n * (1 * down d) = rw one-mul (omega (arith, v.1, zero-mul (down d))) in
     rw (lt-ltb _ _ o, eqb-suc-zero) (round_same binary32 true (k * up d * 1 - 0 * down d) (1 * down d) (suc n) 1 (mul-pos (lit≤ tt) (down_pos d)) (lit≤ tt) w)
+minus-whole nan n v = elim v [ ]
+minus-whole (inf _) n v = elim v [ ]
 
 -- ---- a float against a whole number
 across : (k : ℕ) (d : ℤ) (n c : ℕ) → k * up d * 1 ≡ n * down d → k * up d * c ≡ n * c * down d
@@ -88,11 +98,15 @@ below-whole : (m : ℕ) (e : ℤ) (y : Float) (n : ℕ) → HasValue y false n 1
 unfolding lt
 below-whole m e (fin true k d) n v h = absurd (true≢false v.0)
 below-whole m e (fin false k d) n v h = lt-ltb (m * up e * down d) (k * up d * down e) (rw (across k d n (down e) v.1) (mul-lt-mul_of_pos_right h (down_pos d)))
+below-whole m e nan n v h = elim v [ ]
+below-whole m e (inf _) n v h = elim v [ ]
 
 from-whole : (m : ℕ) (e : ℤ) (y : Float) (n : ℕ) → HasValue y false n 1 → n * down e ≤ m * up e → lt (fin false m e) y ≡ false
 unfolding lt
 from-whole m e (fin true k d) n v h = absurd (true≢false v.0)
 from-whole m e (fin false k d) n v h = le-ltb (m * up e * down d) (k * up d * down e) (rw (across k d n (down e) v.1) (mul-le-mul_right (down d) h))
+from-whole m e nan n v h = elim v [ ]
+from-whole m e (inf _) n v h = elim v [ ]
 
 -- ---- the sum with 2^23
 -- from 2^23 on a float is whole, so that between a number and the next it is one of them

@@ -1,5 +1,7 @@
 // The built-in functions and operators of the orchestra's code on 32-bit floats (document 01, "What the
 // code does"), and the limited sample (step 6 of a cycle). Every function is total.
+#![tactic(auto)]
+
 ghost use Rattle.std.specs.Prelude.{◌≡◌, min as lesser, if◌then◌else◌};
 ghost use Rattle.std.specs.Float.Ieee as Ieee;
 ghost use Rattle.base_float32.specs.Builtins.{abs_of, sgn_of, int_of, frac_of, min_of, max_of, flag_of, truth, either_of, both_of, not_of, select_of};

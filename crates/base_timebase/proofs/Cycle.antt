@@ -37,6 +37,10 @@ cut (fin false m e) a c p h l =
 -- the parts of `fits`
 parts : (a b c d : Bool) → T (a && b && c && d) → T b × T c
 parts true true true true t = (tt, tt)
+parts false b c d t = elim t [ ]
+parts true false c d t = elim t [ ]
+parts true true false d t = elim t [ ]
+parts true true true false t = elim t [ ]
 
 fits-parts : (s : Bool) (m : ℕ) (e : ℤ) → T (fits binary32 (fin s (suc m) e)) → (suc m < 2 ^ 24) × (down e ≤ 2 ^ 149)
 unfolding fits

@@ -1,5 +1,5 @@
 -- Ticks follow the exact number: they do not fall as it grows, and so the ends of a range bound them. Assumes nothing.
-use Rattle.std.proofs.Common.{◌≡◌, ℕ, ◌+◌, ◌-◌, ◌*◌, ◌/◌, ◌<◌, ◌≤◌, true, false, ℤ, pos, sym, ap, ◌∙◌, true≢false, zero-le, le_trans, le_of_eq, mul-le-mul_right, mul_comm, mul-pos, le-div_iff_mul-le, mul_right_comm, div-mul-le_self, arith}
+use Rattle.std.proofs.Common.{◌≡◌, ℕ, ◌+◌, ◌*◌, ◌/◌, ◌<◌, ◌≤◌, true, false, ℤ, pos, sym, ap, ◌∙◌, true≢false, zero-le, le_trans, le_of_eq, mul-le-mul_right, mul_comm, mul-pos, le-div_iff_mul-le, mul_right_comm, div-mul-le_self, arith}
 use lib.Ieee.{Float, nan, inf, fin, up, down, lt, eq, le}
 use lib.Ieee.Fits.{down_pos}
 use lib.Ieee.Nearest.{div_same}

@@ -1,5 +1,7 @@
 // Times, durations, tempos and values by their 32-bit patterns; ticks of a time and of a tempo (document 01,
 // "Score lines, bit by bit"). Every function is total.
+#![tactic(auto)]
+
 ghost use Rattle.std.specs.Prelude.{◌≡◌, ◌+◌, ◌-◌, ◌*◌, ◌/◌, ◌%◌, ◌^◌, ◌<◌, ◌≤◌, min};
 ghost use Rattle.base_timebase.specs.Time.{nearest, ticks_in, cycle_in, finite_bits, time_bits, duration_bits, tempo_bits};
 ghost use Rattle.base_timebase.specs.inside.Range.{checked};
@@ -96,7 +98,7 @@ pub fn ticks_per_cycle(tempo: f32) -> u64
 }
 
 // What a pattern of 32 bits is: the float that it means, or outside its range.
-#[derive(Drop)]
+#[derive(Clone, Copy)]
 pub enum Checked {
     Value(f32),
     Outside,

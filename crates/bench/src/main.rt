@@ -1,5 +1,8 @@
 // 16 notes of one fixed tone for 1,000 cycles, and a checksum of the samples. The orchestra is bench/tone.orc.
+#![tactic(auto)]
+
 use panel::{Core, Panel, SplitPanel};
+use std::io;
 
 const CYCLES: u32 = 1000;
 
@@ -46,11 +49,9 @@ fn played<'a>(c: Core, code: &'a [u64], vals: &'a [f32]) -> u32 {
     sum
 }
 
-fn main() {
+fn main(rt: HostRuntime) -> io::Result<()> {
     let p = started();
     let core = p.core;
     let sum = played(with_notes(core), &p.code, &p.vals);
-    io::write_all(1, b"16 notes, 1,000 cycles, checksum ");
-    io::print_hex(1, sum as u64, 8);
-    io::write_all(1, b"\n");
+    println!(rt; "16 notes, 1,000 cycles, checksum {sum:08x}")
 }

@@ -1,6 +1,10 @@
 // The score on standard input, read over and over: as text where an argument is given, else as bits. With two arguments it is a
 // symbol table, which is unpacked and asked for its last name. bench/run.sh times it.
+#![tactic(auto)]
+
 mod naming;
+
+use std::io;
 
 const ROOM: usize = 1048576;
 
@@ -44,33 +48,31 @@ fn repeated_names(bytes: &[u8]) -> u8 {
     number
 }
 
-fn last_answer(bytes: &[u8], text: bool) -> u8 {
-    if 2 < os::arg_count() {
+fn last_answer(rt: &HostRuntime, bytes: &[u8], text: bool) -> u8 {
+    if program_io::has_argument(rt, 2) {
         return repeated_names(bytes);
     }
     repeated(bytes, text)
 }
 
-fn told(bytes: &[u8], n: usize, text: bool) {
+fn told(rt: &HostRuntime, bytes: &[u8], n: usize, text: bool) -> io::Result<()> {
     if n <= bytes.len() {
-        let number = last_answer(&bytes[..n], text);
-        io::print_decimal(1, n as u64);
-        io::write_all(1, b" bytes, 30 times, answer ");
-        io::print_decimal(1, number as u64);
-        io::write_all(1, b"\n");
+        let number = last_answer(rt, &bytes[..n], text);
+        println!(rt; "{n} bytes, 30 times, answer {number}")?;
     }
+    Ok(())
 }
 
-fn with_room(bytes: &[u8; ROOM], n: usize) {
-    told(bytes, n, 1 < os::arg_count());
+fn with_room(rt: &HostRuntime, bytes: &[u8; ROOM], n: usize) -> io::Result<()> {
+    told(rt, bytes, n, program_io::has_argument(rt, 1))
 }
 
-fn taken_in(buffer: &mut [u8; ROOM]) -> usize {
-    io::read_full(0, buffer)
+fn taken_in(rt: &HostRuntime, buffer: &mut [u8; ROOM]) -> usize {
+    program_io::read_full(&mut rt.stdin(), buffer)
 }
 
-fn main() {
+fn main(rt: HostRuntime) -> io::Result<()> {
     let mut buffer = room();
-    let n = taken_in(&mut buffer);
-    with_room(&buffer, n);
+    let n = taken_in(&rt, &mut buffer);
+    with_room(&rt, &buffer, n)
 }

@@ -1,5 +1,5 @@
 -- An accepted orchestra's program, as the loader keeps it, stands for its tree.
-use Prim.Native.Nat.{ℕ, zero, suc, ◌+◌, ◌≤◌, min}
+use Prim.Native.Nat.{ℕ, zero, suc, ◌≤◌, min}
 use native.Mathlib.Omega.{arith}
 use mathlib.Core.Path.{◌≡◌, refl, sym, ap, ap₂, ◌∙◌, subst, subst⁻¹, subst₂}
 use mathlib.Core.Bool.{true}
@@ -12,7 +12,7 @@ use Rattle.orchestra_tokens.specs.Measures.{measured}
 use Rattle.orchestra_syntax.specs.Tree.{Instrument}
 use Rattle.orchestra_syntax.specs.Names.{most_instruments, name_rules}
 use Rattle.orchestra_syntax.specs.inside.Placed.{placed}
-use Rattle.orchestra_syntax.specs.inside.Program.{zero_f, program}
+use Rattle.orchestra_syntax.specs.inside.Program.{zero_f}
 use Rattle.orchestra_syntax.specs.Grammar.{Orchestra}
 use Rattle.orchestra_rules.specs.Formed.{op_of, arg_of, ops_of, args_of, vals_of}
 use Rattle.code_operations.specs.Words.{code_size, program_size}

@@ -14,7 +14,7 @@ use Rattle.orchestra_rules.specs.Formed.{FormedKinds, ops_of, args_of}
 use Rattle.code_operations.specs.Words.{note_places}
 use Rattle.code_translation.specs.Translation.{after, past, lowered}
 use Rattle.code_translation.specs.Statements.{Playable}
-use Rattle.code_lowering.specs.Fold.{Low, low, rest, lower_one, lower_all}
+use Rattle.code_lowering.specs.Fold.{Low, rest, lower_one, lower_all}
 use Rattle.code_lowering.specs.Orchestra.{Code, code, noted, walk_from}
 use Rattle.code_emitter.proofs.Lists.{emit-room}
 use Rattle.code_emitter.proofs.Trims.{Ended, none, ended-append, lowered-ended}

@@ -1,4 +1,6 @@
 // What the player keeps of an orchestra: a table of its instruments, their code and its numbers; and what is looked up in it.
+#![tactic(auto)]
+
 ghost use Rattle.std.specs.Prelude.{◌≡◌};
 ghost use Rattle.code_program.specs.InstrumentTable.{instruments_of, lookup_in, field_count_in};
 
@@ -9,7 +11,7 @@ pub const MOST_INSTRUMENTS: usize = 8;
 
 // An instrument of the program: its name, how many fields it has, its instructions for the i, k and a passes, from one number
 // up to another, and at each place the name of the imports ksig there, or a number above 65,535.
-#[derive(Drop)]
+#[derive(Clone, Copy)]
 pub struct Instrument {
     pub name: u16,
     pub fields: usize,
@@ -23,7 +25,7 @@ pub struct Instrument {
 }
 
 // The instruments from the first on, their code for the i, k and a passes, and the numbers in it.
-#[derive(Drop)]
+#[derive(Clone, Copy)]
 pub struct Program {
     pub table: [Instrument; MOST_INSTRUMENTS],
     pub count: usize,
@@ -32,21 +34,21 @@ pub struct Program {
 }
 
 // A table of instruments, of which the first so many are there.
-#[derive(Drop)]
+#[derive(Clone, Copy)]
 pub struct Instruments {
     pub table: [Instrument; MOST_INSTRUMENTS],
     pub count: usize,
 }
 
 // An instrument, and whether it was found.
-#[derive(Drop)]
+#[derive(Clone, Copy)]
 pub struct Lookup {
     pub there: bool,
     pub instrument: Instrument,
 }
 
 // How many fields an instrument has, where there is one of that name.
-#[derive(Drop)]
+#[derive(Clone, Copy)]
 pub enum FieldCount {
     Count(usize),
     NoSuch,

@@ -1,4 +1,6 @@
 // The sounding notes rendered: run into one mix, which is limited into a block (document 01, steps 5 and 6).
+#![tactic(auto)]
+
 ghost use Rattle.std.specs.Prelude.{◌≡◌};
 ghost use Rattle.engine_limiter.specs.Block.{limited};
 ghost use Rattle.player_model.specs.Lists.{each, over};

@@ -1,9 +1,9 @@
 -- The a code of every accepted orchestra in the engine's rooms.
-use Prim.Native.Nat.{ℕ, suc, ◌+◌, ◌≤◌}
+use Prim.Native.Nat.{ℕ, ◌+◌, ◌≤◌}
 use native.Mathlib.Omega.{arith}
 use mathlib.Core.Path.{◌≡◌, refl}
 use mathlib.Core.List.{List, [], ◌∷◌, ◌++◌, map}
-use lib.ListN.{length, length-append}
+use lib.ListN.{length}
 use lib.Dec.{leb}
 use lib.Ieee.{Float}
 use borrow.Author.Tests.{leb-true}
@@ -15,14 +15,13 @@ use Rattle.orchestra_syntax.specs.Names.{Named, most_instruments, names_of}
 use Rattle.orchestra_syntax.specs.Grammar.{Orchestra, last, next}
 use Rattle.orchestra_syntax.specs.inside.Program.{instrument, program}
 use Rattle.orchestra_syntax.specs.inside.Placed.{put_in, put, placed}
-use Rattle.orchestra_reader.specs.Verdict.{Accepted}
 use Rattle.code_translation.specs.Translation.{lowered}
 use Rattle.code_bounds.specs.Sizes.{numbers, body_at, AllPlayable, all_lowered}
 use Rattle.code_bounds.proofs.WholeOrchestra.{orchestra-playable}
 use Rattle.code_bounds.proofs.Lengths.{lowered-fits}
 use Rattle.code_decoder.specs.Decoded.{count_of}
 use Rattle.engine_rows.specs.Instruction.{outs_of}
-use Rattle.engine_capacity.specs.Capacity.{numbers_in, numbers_of, outputs_of, all_numbers, all_outputs, Held, EngineHolds}
+use Rattle.engine_capacity.specs.Capacity.{numbers_in, numbers_of, outputs_of, all_numbers, all_outputs, EngineHolds}
 use Rattle.engine_capacity.proofs.Tokens.{numbers-by-tokens, outputs-by-tokens}
 use Rattle.engine_capacity.proofs.Counts.{count-append, outs-append, count-lowered, outs-lowered}
 

@@ -2,12 +2,11 @@
 use Prim.Native.Nat.{ℕ, ◌+◌}
 use native.Mathlib.Omega.{arith}
 use mathlib.Core.Path.{◌≡◌, refl, sym, ap, ◌∙◌}
-use mathlib.Core.Bool.{Bool, true, false, cond, true≢false}
+use mathlib.Core.Bool.{Bool, true, false, true≢false}
 use mathlib.Core.List.{List, [], ◌∷◌, ◌++◌, map}
 use lib.ListN.{length, take, length-map, length-append}
 use lib.Dec.{eqb}
 use Rattle.code_program.specs.declared.Instrument.{Instrument}
-use Rattle.code_program.specs.declared.Lookup.{Lookup}
 use Rattle.code_program.specs.InstrumentTable.{lookup_in}
 use Rattle.code_interpreter.specs.Passes.{stretch}
 use Rattle.code_loader.specs.Loading.{load_of}

@@ -5,7 +5,7 @@ use mathlib.Core.List.{List}
 use lib.ListN.{length, length-append}
 use Rattle.orchestra_tokens.specs.declared.Token.{Token}
 use Rattle.orchestra_syntax.specs.Tree.{Expr, Statements, Instrument}
-use Rattle.orchestra_syntax.specs.Grammar.{Derives, real, whole, named, prefixed, bracketed, called, called2, sides, chosen, Stmts, none, set, out, when, either, Instr, is as an·instr, Orchestra, last, next}
+use Rattle.orchestra_syntax.specs.Grammar.{Derives, real, whole, named, prefixed, bracketed, called, called2, sides, chosen, Stmts, none, set, out, when, either, Instr, is as an·instr, last, next}
 use Rattle.code_bounds.specs.Ifs.{instr_tokens}
 use Rattle.code_bounds.proofs.Exprs.{depth-tokens}
 use Rattle.code_translation.proofs.Exprs.{depth_pos}

@@ -1,4 +1,6 @@
 // The k passes of a cycle's notes.
+#![tactic(auto)]
+
 ghost use Rattle.std.specs.Prelude.{◌≡◌, false, ◌≤◌, take, drop};
 ghost use Rattle.player_model.specs.Lists.{each};
 ghost use Rattle.code_program.specs.InstrumentTable.{instruments_of};

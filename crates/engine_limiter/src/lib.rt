@@ -1,4 +1,6 @@
 // Step 6 of a cycle (document 01) for a whole block.
+#![tactic(auto)]
+
 ghost use Rattle.std.specs.Prelude.{◌≡◌};
 ghost use Rattle.engine_limiter.specs.Block.{limited};
 

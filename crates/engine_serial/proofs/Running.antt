@@ -10,6 +10,7 @@ use lib.Seq.{take-suc, take-suc-set, drop-set-lt}
 use Rattle.player_model.specs.Lists.{each, over}
 use Rattle.player_model.specs.Cycle.{Rendered, with_state, run_from}
 use Rattle.player_model.specs.Cycle as cycle
+use Rattle.code_interpreter.specs.Run.{run}
 use Rattle.code_interpreter.specs.Passes.{sums, played}
 use Rattle.note_state.specs.declared.Note.{Note}
 use Rattle.code_program.specs.InstrumentTable.{instrument_in, lookup_in}
@@ -72,7 +73,7 @@ module _ (table : List Instrument) (code : List ℕ) (vals : List Float) where
   length-sums : (ws : List ℕ) (f mix : List Float) → length (sums vals ws f mix).mix ≡ length mix
   unfolding sums
   length-sums ws f [] = refl
-  length-sums ws f (x ∷ xs) = ap suc (length-sums ws _ xs)
+  length-sums ws f (x ∷ xs) = ap suc (length-sums ws (run vals ws f).frame xs)
 
   length-ran : (x : Instrument) (n : Note) (mix : List Float) → length (ran_mix code vals x n mix) ≡ length mix
   unfolding ran_mix k_note played

@@ -1,4 +1,6 @@
 // Step 5 of a cycle with one note after the other, as document 01 has it. `engine_run` falls back on it where lanes find no room.
+#![tactic(auto)]
+
 ghost use Rattle.std.specs.Prelude.{◌≡◌};
 ghost use Rattle.player_model.specs.Lists.{each, over};
 ghost use Rattle.player_model.specs.Cycle.{run_from};

@@ -1,5 +1,7 @@
 // What was read at an entrance goes into the waiting lines, all its lines or none (document 01, "Order at an entrance"): whichever entrance it was, a whole reading goes through
 // `submit`, a line of it through `admit_line`, and there is no other way to the waiting lines.
+#![tactic(auto)]
+
 ghost use Rattle.std.specs.Prelude.{◌≡◌, not, ◌&&◌, take};
 ghost use Rattle.player_model.specs.Calls.{has_time};
 ghost use Rattle.code_program.specs.InstrumentTable.{instruments_of};
@@ -13,7 +15,7 @@ use player_queue::{Admitted, Queue};
 use score_line::Line;
 
 // What the lines make of the waiting ones; `line` is the number of the line that a refusal is about.
-#[derive(Drop)]
+#[derive(Clone, Copy)]
 pub struct AdmissionResult {
     pub queue: Queue,
     pub answer: Answer,

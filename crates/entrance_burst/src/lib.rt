@@ -1,4 +1,6 @@
 // A burst into the waiting lines: its units one after the other, each as a unit comes in that comes alone (document 02, M-103).
+#![tactic(auto)]
+
 ghost use Rattle.std.specs.Prelude.{◌≡◌, true, ◌≤◌, length};
 ghost use Rattle.base_answer.specs.Numbers.{is_taken};
 ghost use Rattle.score_bursts.specs.inside.Reading.{burst_of, scan_of};
@@ -16,7 +18,7 @@ use entrance_admission::AdmissionResult;
 use player_queue::Queue;
 
 // What a burst makes of the waiting lines; `units` is how many of its units were answered.
-#[derive(Drop)]
+#[derive(Clone, Copy)]
 pub struct BurstAdmission {
     pub queue: Queue,
     pub answer: Answer,

@@ -1,5 +1,7 @@
 // The entrances: what is handed in at one is read whole (document 01, "Order at an entrance"). Stick, unit, keypad and text differ in how they are read and in nothing
 // else.
+#![tactic(auto)]
+
 ghost use Rattle.std.specs.Prelude.{◌≡◌, true, false, length};
 ghost use Rattle.base_answer.specs.Numbers.{is_taken};
 ghost use Rattle.base_bitstream.specs.Bits.{bits_of};
@@ -17,7 +19,7 @@ use score_reader::ScoreRead;
 pub const MOST_LINES: usize = 65;
 
 // What was handed in at an entrance, read: the first fault and its line's number, or the lines. `timed` says that each needs a time.
-#[derive(Drop)]
+#[derive(Clone, Copy)]
 pub struct EntranceRead {
     pub lines: [Line; MOST_LINES],
     pub count: usize,

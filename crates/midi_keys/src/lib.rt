@@ -1,4 +1,6 @@
 // The two numbers that a keyboard note is given: its key's frequency and its velocity divided by 128 (document 02, M-104).
+#![tactic(auto)]
+
 ghost use Rattle.std.specs.Prelude.{◌≡◌, T};
 ghost use Rattle.std.specs.Float.{binary32};
 ghost use Rattle.std.specs.Float.Ieee.{fits};

@@ -1,4 +1,6 @@
 // The note messages of MIDI 1.0 channel messages, read from the bytes of one keyboard call (document 02, M-104).
+#![tactic(auto)]
+
 ghost use Rattle.std.specs.Prelude.{◌≡◌, []};
 ghost use Rattle.base_answer.specs.declared.Answer.TheVariants.{Taken};
 ghost use Rattle.midi_messages.specs.Message.{data_bytes, note_off, note_on, classified};
@@ -8,7 +10,7 @@ ghost use Rattle.midi_messages.specs.inside.Passes.{added, answered as answered_
 use base_answer::Answer;
 
 // A note-on, or a note-off, which has velocity 0.
-#[derive(Drop)]
+#[derive(Clone, Copy)]
 pub struct NoteMessage {
     pub on: bool,
     pub channel: u8,
@@ -17,14 +19,14 @@ pub struct NoteMessage {
 }
 
 // What a whole channel message is to the panel.
-#[derive(Drop)]
+#[derive(Clone, Copy)]
 enum Classified {
     Note(NoteMessage),
     Other,
 }
 
 // A place between two bytes: the running status, how many data bytes the message that has begun still wants, and the first that it had.
-#[derive(Drop)]
+#[derive(Clone, Copy)]
 struct ParserState {
     status: u8,
     wants: u8,
@@ -32,7 +34,7 @@ struct ParserState {
 }
 
 // What a byte does.
-#[derive(Drop)]
+#[derive(Clone, Copy)]
 enum Step {
     Stops(Answer),
     Goes(ParserState, Classified),
@@ -42,7 +44,7 @@ enum Step {
 pub const MOST_MESSAGES: usize = 64;
 
 // The answer to a call, and its note messages from the first on: one more than can wait tells that there is no room.
-#[derive(Drop)]
+#[derive(Clone, Copy)]
 pub struct CallMessages {
     pub list: [NoteMessage; MOST_READ],
     pub count: usize,

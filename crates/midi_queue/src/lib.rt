@@ -1,4 +1,6 @@
 // The fourth entrance: the note messages that wait, and what the bytes of a keyboard call bring in, all of it or none (document 02, M-104).
+#![tactic(auto)]
+
 ghost use Rattle.std.specs.Prelude.{◌≡◌, ◌++◌, ◌+◌, ◌≤◌, take};
 ghost use Rattle.player_model.specs.Lists.{over};
 ghost use Rattle.midi_messages.specs.inside.Reading.{call_of};
@@ -8,14 +10,14 @@ use base_answer::Answer;
 use midi_messages::{MOST_MESSAGES, MOST_READ, NoteMessage};
 
 // The note messages that wait, from the first on.
-#[derive(Drop)]
+#[derive(Clone, Copy)]
 pub struct MessageQueue {
     pub list: [NoteMessage; MOST_MESSAGES],
     pub count: usize,
 }
 
 // What a keyboard call leaves of them, and its answer.
-#[derive(Drop)]
+#[derive(Clone, Copy)]
 pub struct QueueResult {
     pub messages: MessageQueue,
     pub answer: Answer,

@@ -1,4 +1,6 @@
 // What lines and note messages do with the sounding notes (document 01, "One cycle, in order", steps 3 and 4).
+#![tactic(auto)]
+
 ghost use Rattle.std.specs.Prelude.{◌≡◌, ◌<◌, ◌≤◌, take};
 ghost use Rattle.player_model.specs.Lists.{each, over};
 ghost use Rattle.player_model.specs.Cycle.{position_limit, started_by, started, after_message, after_messages};

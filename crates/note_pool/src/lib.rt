@@ -1,5 +1,7 @@
 // The sounding notes in an array of 16: a note more, a note missed, cut off or released, those that go on, and notes laid over others
 // (document 01, "One cycle, in order", steps 3 and 7, and what a note-off does).
+#![tactic(auto)]
+
 ghost use Rattle.std.specs.Prelude.{◌≡◌, ◌<◌, ◌≤◌, ◌+◌, length, take, set};
 ghost use Rattle.player_model.specs.Lists.{filter, over};
 ghost use Rattle.player_model.specs.Cycle.{release_oldest};
@@ -10,7 +12,7 @@ ghost use Rattle.note_pool.specs.Started.{StartedBy};
 use note_state::Note;
 
 // The notes that sound, from the first on, and how many were missed.
-#[derive(Drop)]
+#[derive(Clone, Copy)]
 pub struct Started {
     pub notes: [Note; MOST_NOTES],
     pub count: usize,
@@ -18,7 +20,7 @@ pub struct Started {
 }
 
 // Some of 16 notes, from the first on.
-#[derive(Drop)]
+#[derive(Clone, Copy)]
 pub struct Notes {
     pub notes: [Note; MOST_NOTES],
     pub count: usize,

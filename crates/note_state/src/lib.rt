@@ -1,4 +1,6 @@
 // A note that sounds, of its parts.
+#![tactic(auto)]
+
 ghost use Rattle.std.specs.Prelude.{◌≡◌};
 ghost use Rattle.note_state.specs.Notes.{new_note, with_values, release};
 
@@ -6,21 +8,21 @@ ghost use Rattle.note_state.specs.Notes.{new_note, with_values, release};
 const VALUES: usize = 16;
 
 // A note's label: whether it was given one, and which symbol it is.
-#[derive(Drop)]
+#[derive(Clone, Copy)]
 pub struct NoteLabel {
     pub given: bool,
     pub symbol: u16,
 }
 
 // Where a note ends: never, or at a position.
-#[derive(Drop)]
+#[derive(Clone, Copy)]
 pub struct NoteEnd {
     pub never: bool,
     pub at: u64,
 }
 
 // Where a note is from: the keyboard or a line; of which channel and key, and whether that key was released.
-#[derive(Drop)]
+#[derive(Clone, Copy)]
 pub struct NoteOrigin {
     pub keyed: bool,
     pub channel: u8,
@@ -29,7 +31,7 @@ pub struct NoteOrigin {
 }
 
 // A note that sounds: what it holds, its label, its instrument, its end, whether its line had priority, and where it is from.
-#[derive(Drop)]
+#[derive(Clone, Copy)]
 pub struct Note {
     pub values: [f32; VALUES],
     pub label: NoteLabel,

@@ -1,4 +1,6 @@
 // The expression reader: from a place among the tokens to postfix code, by precedence climbing.
+#![tactic(auto)]
+
 ghost use Rattle.std.specs.Prelude.{◌≡◌};
 ghost use Rattle.orchestra_tokens.specs.inside.Token.{toks};
 ghost use Rattle.orchestra_expressions.specs.Reader.{reader, lastly};

@@ -1,4 +1,6 @@
 // What a token does in an expression, a sign that must be there, and one instruction more: what the reading code is made of.
+#![tactic(auto)]
+
 ghost use Rattle.std.specs.Prelude.{◌≡◌, drop};
 ghost use Rattle.orchestra_tokens.specs.inside.Token.{toks};
 ghost use Rattle.orchestra_expressions.specs.Roles.{prefix_of, infix_of, is_sign, prefix_l, infix_l, sign_l};
@@ -24,7 +26,7 @@ pub const PRODUCT: u8 = 6;
 pub const TIGHTEST: u8 = 7;
 
 // What a token may start: a number or a name is pushed.
-#[derive(Drop)]
+#[derive(Clone, Copy)]
 pub enum PrefixToken {
     Push(u8, u16, f32),
     Unary(u8),
@@ -35,7 +37,7 @@ pub enum PrefixToken {
 }
 
 // What a token after an operand does: an operator and its level.
-#[derive(Drop)]
+#[derive(Clone, Copy)]
 pub enum InfixToken {
     Binary(u8, u8),
     Question,
@@ -43,7 +45,7 @@ pub enum InfixToken {
 }
 
 // How far a reading has come: the next token and the next place in the code.
-#[derive(Drop)]
+#[derive(Clone, Copy)]
 pub enum ParseState {
     Next(usize, usize),
     Refused,

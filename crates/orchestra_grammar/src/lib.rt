@@ -1,4 +1,6 @@
 // What tokens start above expressions; the grammar, the reader's definition and their theorems stand in specs/ and proofs/.
+#![tactic(auto)]
+
 ghost use Rattle.std.specs.Prelude.{◌≡◌, drop};
 ghost use Rattle.orchestra_tokens.specs.inside.Token.{toks};
 ghost use Rattle.orchestra_grammar.specs.Starts.{statement_start_of, declaration_start_of, name_token_of, statement_start_l, declaration_start_l, name_token_l};
@@ -6,7 +8,7 @@ ghost use Rattle.orchestra_grammar.specs.Starts.{statement_start_of, declaration
 use orchestra_tokens::Token;
 
 // What a token starts among statements.
-#[derive(Drop)]
+#[derive(Clone, Copy)]
 pub enum StatementStart {
     Name(u16),
     Output,
@@ -15,7 +17,7 @@ pub enum StatementStart {
 }
 
 // What a token starts among declarations: names of a kind, or imports.
-#[derive(Drop)]
+#[derive(Clone, Copy)]
 pub enum DeclarationStart {
     Kind(u8),
     Imports,
@@ -23,7 +25,7 @@ pub enum DeclarationStart {
 }
 
 // Whether a token is a name.
-#[derive(Drop)]
+#[derive(Clone, Copy)]
 pub enum NameToken {
     Is(u16),
     Not,

@@ -1,4 +1,6 @@
 // The reading of an orchestra's bytes: a first pass finds the tokens and measures them, a second stores them.
+#![tactic(auto)]
+
 ghost use Rattle.std.specs.Prelude.{◌≡◌, true, [], ◌<◌, ◌≤◌, ◌+◌, drop, length};
 ghost use Rattle.base_answer.specs.declared.Answer.TheVariants.{Taken};
 ghost use Rattle.base_timebase.specs.Time.{finite_bits};

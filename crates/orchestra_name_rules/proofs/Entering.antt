@@ -9,36 +9,27 @@ use lib.ListN.{length, take, set}
 use lib.Seq.{length-take-le, take-suc-set}
 use lib.Dec.{ltb}
 use borrow.Author.Tests.{lt-ltb, le-ltb}
-use denote.Enum.Declared.{tag_of}
-use types.Run.{OneOf, miss}
 use Rattle.orchestra_syntax.specs.Names.{Named, symbols, has}
 use Rattle.orchestra_syntax.specs.inside.Placed.{place}
 use Rattle.orchestra_syntax.specs.declared.OpClass.{OpClass}
 use Rattle.orchestra_syntax.specs.declared.OpClass.TheVariants.{Value, Name, Store, Output, If, Else, End, Declare, Instr}
-use Rattle.orchestra_syntax.specs.contracts.OpClass.{the_type}
 use Rattle.orchestra_name_rules.specs.Entries.{valid, names_after, titles_after, placed_name}
 use Rattle.orchestra_name_rules.specs.Table.{own_of, own}
 use Rattle.orchestra_name_rules.proofs.Seeking.{symbols-own, length-own}
 
--- the act is none of those that a match names: its number, from Value 0 to Instr 8, is one of those left
-abbrev Left : List ℕ → OpClass → Type 0
-Left ks a = OneOf ks (tag_of the_type a)
-
 -- ---- valid
 
-abbrev plain : List ℕ
-plain = 0 ∷ 3 ∷ 4 ∷ 5 ∷ 6 ∷ []
-
-plain-valid : (a : OpClass) (n : ℕ) (ts : List ℕ) (ms : List Named) → Left plain a → true ≡ valid a n ts ms
-plain-valid Value n ts ms h = refl
-plain-valid Name n ts ms h = absurd (miss plain 1 tt h)
-plain-valid Store n ts ms h = absurd (miss plain 2 tt h)
-plain-valid Output n ts ms h = refl
-plain-valid If n ts ms h = refl
-plain-valid Else n ts ms h = refl
-plain-valid End n ts ms h = refl
-plain-valid Declare n ts ms h = absurd (miss plain 7 tt h)
-plain-valid Instr n ts ms h = absurd (miss plain 8 tt h)
+plain-valid : (a : OpClass) (n : ℕ) (ts : List ℕ) (ms : List Named) → (a ≡ Name → ⊥) → (a ≡ Store → ⊥) → (a ≡ Declare → ⊥) → (a ≡ Instr → ⊥)
+    → true ≡ valid a n ts ms
+plain-valid Value n ts ms p q r s = refl
+plain-valid Name n ts ms p q r s = absurd (p refl)
+plain-valid Store n ts ms p q r s = absurd (q refl)
+plain-valid Output n ts ms p q r s = refl
+plain-valid If n ts ms p q r s = refl
+plain-valid Else n ts ms p q r s = refl
+plain-valid End n ts ms p q r s = refl
+plain-valid Declare n ts ms p q r s = absurd (r refl)
+plain-valid Instr n ts ms p q r s = absurd (s refl)
 
 module _ (a : OpClass) (n heads count : ℕ) (ts ms : List ℕ) where
   abbrev Valid : Bool → Type 0
@@ -59,24 +50,21 @@ module _ (a : OpClass) (n heads count : ℕ) (ts ms : List ℕ) where
   pub l-instr : {b : Bool} → a ≡ Instr → heads ≤ length ts → b ≡ (ltb heads 8 && not (has n (take heads ts))) → Valid b
   l-instr f le e ks = rw (f, length-take-le heads ts le) e
 
-  pub l-other : Left plain a → Valid true
-  l-other h ks = plain-valid a n (take heads ts) (own ms ks count) h
+  pub l-other : (a ≡ Name → ⊥) → (a ≡ Store → ⊥) → (a ≡ Declare → ⊥) → (a ≡ Instr → ⊥) → Valid true
+  l-other p q r s ks = plain-valid a n (take heads ts) (own ms ks count) p q r s
 
 -- ---- places
 
-abbrev unused : List ℕ
-unused = 0 ∷ 3 ∷ 4 ∷ 5 ∷ 6 ∷ 7 ∷ 8 ∷ []
-
-unused-placed : (a : OpClass) (n : ℕ) (ms : List Named) → Left unused a → n ≡ placed_name a n ms
-unused-placed Value n ms h = refl
-unused-placed Name n ms h = absurd (miss unused 1 tt h)
-unused-placed Store n ms h = absurd (miss unused 2 tt h)
-unused-placed Output n ms h = refl
-unused-placed If n ms h = refl
-unused-placed Else n ms h = refl
-unused-placed End n ms h = refl
-unused-placed Declare n ms h = refl
-unused-placed Instr n ms h = refl
+unused-placed : (a : OpClass) (n : ℕ) (ms : List Named) → (a ≡ Name → ⊥) → (a ≡ Store → ⊥) → n ≡ placed_name a n ms
+unused-placed Value n ms p q = refl
+unused-placed Name n ms p q = absurd (p refl)
+unused-placed Store n ms p q = absurd (q refl)
+unused-placed Output n ms p q = refl
+unused-placed If n ms p q = refl
+unused-placed Else n ms p q = refl
+unused-placed End n ms p q = refl
+unused-placed Declare n ms p q = refl
+unused-placed Instr n ms p q = refl
 
 module _ (a : OpClass) (n : ℕ) (ms : List Named) where
   pub p-name : {p : ℕ} → a ≡ Name → p ≡ place ms n → p ≡ placed_name a n ms
@@ -85,24 +73,10 @@ module _ (a : OpClass) (n : ℕ) (ms : List Named) where
   pub p-store : {p : ℕ} → a ≡ Store → p ≡ place ms n → p ≡ placed_name a n ms
   p-store f e = rw f e
 
-  pub p-other : Left unused a → n ≡ placed_name a n ms
-  p-other h = unused-placed a n ms h
+  pub p-other : (a ≡ Name → ⊥) → (a ≡ Store → ⊥) → n ≡ placed_name a n ms
+  p-other p q = unused-placed a n ms p q
 
 -- ---- the instruments after it
-
-abbrev untitled : List ℕ
-untitled = 0 ∷ 1 ∷ 2 ∷ 3 ∷ 4 ∷ 5 ∷ 6 ∷ 7 ∷ []
-
-untitled-stay : (a : OpClass) (n : ℕ) (ts : List ℕ) → Left untitled a → ts ≡ titles_after a n ts
-untitled-stay Value n ts h = refl
-untitled-stay Name n ts h = refl
-untitled-stay Store n ts h = refl
-untitled-stay Output n ts h = refl
-untitled-stay If n ts h = refl
-untitled-stay Else n ts h = refl
-untitled-stay End n ts h = refl
-untitled-stay Declare n ts h = refl
-untitled-stay Instr n ts h = absurd (miss untitled 8 tt h)
 
 module _ (a : OpClass) (n heads : ℕ) (ts : List ℕ) (room : heads ≤ 8) (long : length ts ≡ 8) where
   abbrev Titles : ℕ → List ℕ → Type 0
@@ -117,24 +91,7 @@ module _ (a : OpClass) (n heads : ℕ) (ts : List ℕ) (room : heads ≤ 8) (lon
   pub t-full : a ≡ Instr → 8 ≤ heads → Titles heads ts
   t-full f le = rw (f, len-titles, le-ltb heads 8 le)
 
-  pub t-other : Left untitled a → Titles heads ts
-  t-other h = untitled-stay a n (take heads ts) h
-
 -- ---- the names after it
-
-abbrev unnamed : List ℕ
-unnamed = 0 ∷ 1 ∷ 2 ∷ 3 ∷ 4 ∷ 5 ∷ 6 ∷ []
-
-unnamed-stay : (a : OpClass) (o n : ℕ) (ms : List Named) → Left unnamed a → ms ≡ names_after a o n ms
-unnamed-stay Value o n ms h = refl
-unnamed-stay Name o n ms h = refl
-unnamed-stay Store o n ms h = refl
-unnamed-stay Output o n ms h = refl
-unnamed-stay If o n ms h = refl
-unnamed-stay Else o n ms h = refl
-unnamed-stay End o n ms h = refl
-unnamed-stay Declare o n ms h = absurd (miss unnamed 7 tt h)
-unnamed-stay Instr o n ms h = absurd (miss unnamed 8 tt h)
 
 own-more : (n s k : ℕ) (ms ks : List ℕ) → n < length ms → n < length ks
     → own (set ms n s) (set ks n k) (suc n) ≡ own ms ks n ++ record { name = s; kind = k } ∷ []
@@ -160,6 +117,3 @@ module _ (a : OpClass) (o n count : ℕ) (ms ks : List ℕ) (room : count ≤ 16
   pub n-instr : a ≡ Instr → Names 0 ms ks
   unfolding own_of
   n-instr f = rw f
-
-  pub n-other : Left unnamed a → Names count ms ks
-  n-other h = unnamed-stay a o n (own ms ks count) h

@@ -1,4 +1,6 @@
 // The name rules of one instruction, the tables of names after it, and its name put by its place.
+#![tactic(auto)]
+
 ghost use Rattle.std.specs.Prelude.{◌≡◌, not, ◌&&◌, ℕ, ◌≤◌, List, length, take, ltb};
 ghost use Rattle.orchestra_syntax.specs.Names.{has};
 ghost use Rattle.orchestra_syntax.specs.inside.Placed.{place as place_of, speed_of_kind};

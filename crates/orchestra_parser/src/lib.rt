@@ -1,4 +1,6 @@
 // The reader of the whole orchestra: from tokens to the program of its tree.
+#![tactic(auto)]
+
 ghost use Rattle.std.specs.Prelude.{length};
 ghost use Rattle.orchestra_tokens.specs.inside.Token.{toks};
 ghost use Rattle.orchestra_expressions.specs.Areas.{areas, Holds, Ready, Runs};

@@ -1,4 +1,6 @@
 // The rate rules of one instruction whose name is put by its place, and the rates after it.
+#![tactic(auto)]
+
 ghost use Rattle.std.specs.Prelude.{◌≡◌, ◌&&◌, ◌-◌, ◌<◌, max, leb};
 ghost use Rattle.orchestra_syntax.specs.inside.Program.{op_class_of};
 ghost use Rattle.orchestra_rate_rules.specs.Change.{rates, guard as guard_of, entered as entered_of, left as left_of, rates_valid, rates_after};
@@ -7,7 +9,7 @@ use orchestra_syntax::{A_RATE, I_RATE, K_RATE, OpClass};
 
 // The fastest part of the expression so far; how many ifs are open from the first on whose guard, or one around it, has rate k, and
 // rate a.
-#[derive(Drop)]
+#[derive(Clone, Copy)]
 pub struct Rates {
     pub fastest: u16,
     pub kdeep: usize,

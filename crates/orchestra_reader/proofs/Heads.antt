@@ -97,7 +97,7 @@ heads-are (i ∷ is) f n =
 pub length-heads : (n : ℕ) (is : List Instrument) → length (heads_from n is) ≡ length is
 unfolding heads_from
 length-heads n [] = refl
-length-heads n (i ∷ is) = ap suc (length-heads _ is)
+length-heads n (i ∷ is) = ap suc (length-heads (n + length (instrument (placed i))) is)
 
 pub all-heads : (is : List Instrument) → length is ≤ 8 → take 8 (heads_from 0 is) ≡ heads_from 0 is
 all-heads is le = take_all 8 (heads_from 0 is) (rw (length-heads 0 is) le)

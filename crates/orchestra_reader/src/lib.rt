@@ -1,4 +1,6 @@
 // The orchestra: from bytes to the program that the panel keeps.
+#![tactic(auto)]
+
 ghost use Rattle.std.specs.Prelude.{◌≡◌, ◌≤◌, length, take};
 ghost use Rattle.orchestra_tokens.specs.inside.Token.{toks};
 ghost use Rattle.orchestra_grammar.specs.Reader.{orchestra};
@@ -12,7 +14,7 @@ use orchestra_expressions::ParseState;
 const MOST_INSTRUMENTS: usize = 8;
 
 // The program of an accepted orchestra: where each instrument starts, and an operation, a name or place and a number for each instruction.
-#[derive(Drop)]
+#[derive(Clone, Copy)]
 pub struct PostfixProgram {
     pub count: usize,
     pub heads: [u16; 8],
@@ -23,7 +25,7 @@ pub struct PostfixProgram {
 }
 
 // What reading an orchestra gives: the answer, and its program. On refusal a blank program.
-#[derive(Drop)]
+#[derive(Clone, Copy)]
 pub struct OrchestraRead {
     pub answer: Answer,
     pub program: PostfixProgram,
@@ -46,7 +48,7 @@ fn refused(a: Answer) -> OrchestraRead
 }
 
 // Where the first 8 instruments start.
-#[derive(Drop)]
+#[derive(Clone, Copy)]
 struct Starts {
     count: usize,
     places: [u16; 8],

@@ -1,5 +1,7 @@
 // The name rules and the rate rules as passes over a program, and its names put by their places. A program is given as two slices: an
 // operation for each instruction, and the name (or the place) that it has.
+#![tactic(auto)]
+
 ghost use Rattle.std.specs.Prelude.{◌≡◌};
 ghost use Rattle.orchestra_rules.specs.Naming.{names_pass, places_pass};
 ghost use Rattle.orchestra_rules.specs.Rating.{rates_pass};

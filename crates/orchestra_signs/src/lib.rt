@@ -1,4 +1,6 @@
 // The signs of an orchestra's tokens, by name.
+#![tactic(auto)]
+
 ghost use Rattle.std.specs.Prelude.{◌≡◌, map};
 ghost use Rattle.orchestra_signs.specs.Signs.{signs, number};
 

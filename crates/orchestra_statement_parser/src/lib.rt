@@ -1,4 +1,6 @@
 // The reader of statements: from a place among the tokens to the program of the statements there.
+#![tactic(auto)]
+
 ghost use Rattle.orchestra_tokens.specs.inside.Token.{toks};
 ghost use Rattle.orchestra_expressions.specs.Areas.{areas, Ready, Runs};
 ghost use Rattle.orchestra_grammar.specs.Reader.{set_to, bracketed, close, statements, branches, otherwise};

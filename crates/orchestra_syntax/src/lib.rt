@@ -1,10 +1,12 @@
 // The kinds of instruction in an orchestra's program, and its names by their places; the trees and rules themselves stand in specs/.
+#![tactic(auto)]
+
 ghost use Rattle.std.specs.Prelude.{◌≡◌, ◌≤◌};
 ghost use Rattle.orchestra_syntax.specs.inside.Program.{op_class_of};
 ghost use Rattle.orchestra_syntax.specs.inside.Placed.{placed_as, rate_of, place_of};
 
 // What an operation is to the passes over a program.
-#[derive(Drop)]
+#[derive(Clone, Copy)]
 pub enum OpClass {
     Value,
     Name,

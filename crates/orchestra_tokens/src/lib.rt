@@ -1,4 +1,6 @@
 // Tokens of the orchestra, kept as three parallel slices: the kind, a word and a float for each token; and the token measures.
+#![tactic(auto)]
+
 ghost use Rattle.std.specs.Prelude.{◌≡◌, ◌&&◌, ◌+◌, ◌≤◌, leb, get_or};
 ghost use Rattle.base_answer.specs.declared.Answer.TheVariants.{BadToken};
 ghost use Rattle.orchestra_tokens.specs.inside.Token.{token_at, zero_f};
@@ -20,7 +22,7 @@ const MOST_BRACKETS: usize = 24;
 
 const LONGEST_STRETCH: usize = 128;
 
-#[derive(Drop)]
+#[derive(Clone, Copy)]
 pub enum Token {
     Number(f32),
     Symbol(u16),
@@ -29,7 +31,7 @@ pub enum Token {
 }
 
 // The tokens of an orchestra's bytes; none where they are refused.
-#[derive(Drop)]
+#[derive(Clone, Copy)]
 pub struct Tokens {
     pub answer: Answer,
     pub count: usize,
@@ -78,7 +80,7 @@ pub fn token_at(kinds: &[u8], words: &[u32], reals: &[f32], at: usize) -> Token
 
 // What is counted of the tokens so far: how many, how many brackets are open, how many since the last of ; { } or the
 // start; and whether the last two kept their limits. There is at most a token to a byte, so that none of these passes the most bytes.
-#[derive(Drop)]
+#[derive(Clone, Copy)]
 pub struct Measure {
     pub count: usize,
     pub depth: usize,
@@ -155,7 +157,7 @@ pub fn next(m: Measure, k: u8) -> Measure
 }
 
 // What the first pass finds: the answer, and how many tokens there are if it is 0.
-#[derive(Drop)]
+#[derive(Clone, Copy)]
 pub struct ScanResult {
     pub answer: Answer,
     pub count: usize,

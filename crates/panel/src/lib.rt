@@ -1,4 +1,6 @@
 // The panel: its state by value, the fresh start, the entrances and the cycle (documents 01 and 02).
+#![tactic(auto)]
+
 ghost use Rattle.std.specs.Prelude.{◌≡◌, length};
 ghost use Rattle.player_model.specs.Calls.{stick, unit, keypad, text};
 ghost use Rattle.entrance_readers.specs.Entrances.{score_in};
@@ -14,7 +16,7 @@ use player_state::{Settings, State};
 use settings_records::{InUse, Setting};
 
 // What the calls change, the settings in use among it, beside what a fresh start fixes. The code of its instruments is lent to each cycle.
-#[derive(Drop)]
+#[derive(Clone, Copy)]
 pub struct Core {
     state: State,
     settings: InUse,
@@ -24,7 +26,7 @@ pub struct Core {
 }
 
 // A core with its code and the numbers in it, which it lends to each cycle.
-#[derive(Drop)]
+#[derive(Clone, Copy)]
 pub struct Panel {
     core: Core,
     code: [u64; CODE],
@@ -32,7 +34,7 @@ pub struct Panel {
 }
 
 // A panel in two, for a host that keeps the code and lends it.
-#[derive(Drop)]
+#[derive(Clone, Copy)]
 pub struct SplitPanel {
     pub core: Core,
     pub code: [u64; CODE],
@@ -40,7 +42,7 @@ pub struct SplitPanel {
 }
 
 // What a call at any entrance leaves; `line` is the number of the line that a refusal is about.
-#[derive(Drop)]
+#[derive(Clone, Copy)]
 pub struct CoreEntranceResult {
     pub core: Core,
     pub answer: Answer,
@@ -48,7 +50,7 @@ pub struct CoreEntranceResult {
 }
 
 // What a burst leaves; `units` is how many of its units were answered.
-#[derive(Drop)]
+#[derive(Clone, Copy)]
 pub struct CoreBurstResult {
     pub core: Core,
     pub answer: Answer,
@@ -56,34 +58,34 @@ pub struct CoreBurstResult {
 }
 
 // What a call at the keyboard, a change, an undo or a cycle leaves.
-#[derive(Drop)]
+#[derive(Clone, Copy)]
 pub struct CoreResult {
     pub core: Core,
     pub answer: Answer,
 }
 
 // The same of a panel.
-#[derive(Drop)]
+#[derive(Clone, Copy)]
 pub struct EntranceResult {
     pub panel: Panel,
     pub answer: Answer,
     pub line: usize,
 }
 
-#[derive(Drop)]
+#[derive(Clone, Copy)]
 pub struct BurstResult {
     pub panel: Panel,
     pub answer: Answer,
     pub units: usize,
 }
 
-#[derive(Drop)]
+#[derive(Clone, Copy)]
 pub struct PanelResult {
     pub panel: Panel,
     pub answer: Answer,
 }
 
-#[derive(Drop)]
+#[derive(Clone, Copy)]
 pub struct Fresh {
     pub panel: Panel,
     pub answer: Answer,

@@ -73,7 +73,7 @@ taken-whole = verdict-by-place u tree given [] (submit stick score) (one 0 0) ve
 -- no line comes by a cycle call
 pub no_line : (given : List Answer) → taken_of ([] ∷ []) given ≡ []
 no_line [] = refl
-no_line (a ∷ given) = go (eqb a.number 0)
+no_line (a ∷ told) = go (eqb a.number 0)
   where
     go : (b : Bool) → cond {A = List Line} b [] [] ++ [] ≡ []
     go true = refl

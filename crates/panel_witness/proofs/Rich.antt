@@ -151,8 +151,8 @@ rich =
       unit = all_read.1;
       keypad = all_read.2;
       in_time = in-time (written_voices tree);
-      first = gives 0 _ by_place.first;
-      second = gives 1 _ by_place.second;
-      missed = sym (as_written 1).missed ∙ by_place.missed;
-      over = sym (as_written 2).answers ∙ by_place.over;
+      first = gives 0 _ by-place.first;
+      second = gives 1 _ by-place.second;
+      missed = sym (as_written 1).missed ∙ by-place.missed;
+      over = sym (as_written 2).answers ∙ by-place.over;
     }

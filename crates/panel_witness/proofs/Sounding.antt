@@ -67,7 +67,7 @@ pub growing-sounds : Sounds (written_voices tree)
 growing-sounds =
     record {
       accepted = accepted;
-      first = (sym (as_written ceiling 0).answers ∙ by_place.first.0, sym (as_written ceiling 0).blocks ∙ by_place.first.1);
-      second = (sym (as_written ceiling 1).answers ∙ by_place.second.0, sym (as_written ceiling 1).blocks ∙ by_place.second.1);
-      held = sym (as_written low 1).blocks ∙ by_place.held;
+      first = (sym (as_written ceiling 0).answers ∙ by-place.first.0, sym (as_written ceiling 0).blocks ∙ by-place.first.1);
+      second = (sym (as_written ceiling 1).answers ∙ by-place.second.0, sym (as_written ceiling 1).blocks ∙ by-place.second.1);
+      held = sym (as_written low 1).blocks ∙ by-place.held;
     }

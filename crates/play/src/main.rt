@@ -1,4 +1,6 @@
 // Plays a score of any length through an orchestra into a WAV. It tells numbers; the words for people are the front's (bin/play).
+#![tactic(auto)]
+
 mod files;
 mod piece;
 mod report;
@@ -18,6 +20,11 @@ const WORDS: usize = LINES * SLOT;
 
 const BYTES: usize = 1_048_576;
 
+// Bytes of an orchestra, and of the longest name that the system takes.
+const ORCHESTRA: usize = 65_536;
+
+const NAME: usize = 4096;
+
 // Refusal 8.
 const NO_ROOM: u8 = 8;
 
@@ -30,38 +37,39 @@ fn decoded(path: &[u8], bytes: &[u8], area: &mut [u32]) -> Decoded {
 }
 
 // More lines than the area has slots are refused 8.
-fn not_taken(path: &[u8], line: usize, a: Answer) {
+fn not_taken(rt: &HostRuntime, path: &[u8], line: usize, a: Answer) {
     if base_answer::number(a) == NO_ROOM {
-        report::room(path, BYTES, LINES);
+        report::room(rt, path, BYTES, LINES);
         return;
     }
-    report::refused_score(path, line, a);
+    report::refused_score(rt, path, line, a);
 }
 
 // A file that fills its buffer; one that could not be read was told before.
-fn not_read(path: &[u8], length: usize) {
+fn not_read(rt: &HostRuntime, path: &[u8], length: usize) {
     if length < usize::MAX {
-        report::room(path, BYTES, LINES);
+        report::room(rt, path, BYTES, LINES);
     }
 }
 
 // The lines of a file's first n bytes into the area, and how many; a number past any, and a message, where they are not taken.
-fn lines_in(path: &[u8], buffer: &[u8], n: usize, area: &mut [u32]) -> usize {
+fn lines_in(rt: &HostRuntime, path: &[u8], buffer: &[u8], n: usize, area: &mut [u32]) -> usize {
     if n < buffer.len() {
         let d = decoded(path, &buffer[..n], area);
         let a = d.answer;
         if base_answer::is_taken(a) {
             return d.count;
         }
-        not_taken(path, d.line, a);
+        not_taken(rt, path, d.line, a);
         return usize::MAX;
     }
-    not_read(path, n);
+    not_read(rt, path, n);
     usize::MAX
 }
 
 // The piece, the first n ranks its order.
 fn in_order<'a>(
+    rt: &HostRuntime,
     core: Core,
     code: &'a [u64],
     vals: &'a [f32],
@@ -72,7 +80,7 @@ fn in_order<'a>(
     out: &[u8],
 ) {
     if n <= order.len() {
-        wav::recorded(core, code, vals, area, &order[..n], path, out);
+        wav::recorded(rt, core, code, vals, area, &order[..n], path, out);
     }
 }
 
@@ -88,13 +96,19 @@ fn ranks() -> [u64; LINES] {
     [0; LINES]
 }
 
-fn lines_of(path: &[u8], buffer: &mut [u8; BYTES], area: &mut [u32; WORDS]) -> usize {
-    let n = files::read(path, buffer);
-    lines_in(path, buffer, n, area)
+fn lines_of(
+    rt: &HostRuntime,
+    path: &[u8],
+    buffer: &mut [u8; BYTES],
+    area: &mut [u32; WORDS],
+) -> usize {
+    let n = files::read(rt, path, buffer);
+    lines_in(rt, path, buffer, n, area)
 }
 
 // The lines put in order, and then the piece.
 fn ordered<'a>(
+    rt: &HostRuntime,
     core: Core,
     code: &'a [u64],
     vals: &'a [f32],
@@ -108,23 +122,37 @@ fn ordered<'a>(
     let r = panel_feeder::prepare(core, area, n, &mut order, &mut room);
     let a = r.answer;
     if base_answer::is_taken(a) {
-        in_order(core, code, vals, area, &order, n, path, out);
+        in_order(rt, core, code, vals, area, &order, n, path, out);
         return;
     }
-    report::refused_score(path, r.line, a);
+    report::refused_score(rt, path, r.line, a);
 }
 
-fn with_score<'a>(core: Core, code: &'a [u64], vals: &'a [f32], path: &[u8], out: &[u8]) {
+fn with_score<'a>(
+    rt: &HostRuntime,
+    core: Core,
+    code: &'a [u64],
+    vals: &'a [f32],
+    path: &[u8],
+    out: &[u8],
+) {
     let mut buffer = bytes();
     let mut area = words();
-    let n = lines_of(path, &mut buffer, &mut area);
+    let n = lines_of(rt, path, &mut buffer, &mut area);
     if n <= LINES {
-        ordered(core, code, vals, path, &area, n, out);
+        ordered(rt, core, code, vals, path, &area, n, out);
     }
 }
 
 // The settings are one record of version 1: this ceiling, and 16 notes. No keyboard plays here: the first instrument is chosen.
-fn with_orchestra(bytes: &[u8], ceiling: u32, path: &[u8], score: &[u8], out: &[u8]) {
+fn with_orchestra(
+    rt: &HostRuntime,
+    bytes: &[u8],
+    ceiling: u32,
+    path: &[u8],
+    score: &[u8],
+    out: &[u8],
+) {
     let mut area = [0u8; settings_records::AREA];
     let first = program_io::settings_record(ceiling);
     let f = Panel::fresh(
@@ -138,54 +166,53 @@ fn with_orchestra(bytes: &[u8], ceiling: u32, path: &[u8], score: &[u8], out: &[
         let panel = f.panel;
         let parted = Panel::split(panel);
         let core = parted.core;
-        with_score(core, &parted.code, &parted.vals, score, out);
+        with_score(rt, core, &parted.code, &parted.vals, score, out);
         return;
     }
-    report::refused_start(path, a);
+    report::refused_start(rt, path, a);
 }
 
 // An orchestra that fills the buffer is far longer than the panel takes, and is refused for its length.
-fn played(ceiling: u32, orchestra: &[u8], score: &[u8], out: &[u8]) {
-    let mut buffer = io::large_buffer();
-    let n = files::read(orchestra, &mut buffer);
-    if n <= 65536 {
-        with_orchestra(&buffer[..n], ceiling, orchestra, score, out);
+fn played(rt: &HostRuntime, ceiling: u32, orchestra: &[u8], score: &[u8], out: &[u8]) {
+    let mut buffer = [0u8; ORCHESTRA];
+    let n = files::read(rt, orchestra, &mut buffer);
+    if n <= ORCHESTRA {
+        with_orchestra(rt, &buffer[..n], ceiling, orchestra, score, out);
     }
 }
 
 // The ceiling that is named behind OUT; 0, which is refused, where it is no number.
-fn ceiling() -> u32 {
-    if os::arg_count() < 5 {
+fn ceiling(rt: &HostRuntime) -> u32 {
+    if !program_io::has_argument(rt, 4) {
         return DEFAULT_CEILING;
     }
     let mut text = [0u8; 16];
-    let n = os::arg(4, &mut text);
+    let n = program_io::argument(rt, 4, &mut text);
     program_io::number(&text[..n])
 }
 
-fn with_out(orchestra: &[u8], score: &[u8]) {
-    let mut path = io::buffer();
-    let n = os::arg(3, &mut path);
-    played(ceiling(), orchestra, score, &path[..n]);
+fn with_out(rt: &HostRuntime, orchestra: &[u8], score: &[u8]) {
+    let mut path = [0u8; NAME];
+    let n = program_io::argument(rt, 3, &mut path);
+    played(rt, ceiling(rt), orchestra, score, &path[..n]);
 }
 
-fn with_paths(orchestra: &[u8]) {
-    let mut path = io::buffer();
-    let n = os::arg(2, &mut path);
-    with_out(orchestra, &path[..n]);
+fn with_paths(rt: &HostRuntime, orchestra: &[u8]) {
+    let mut path = [0u8; NAME];
+    let n = program_io::argument(rt, 2, &mut path);
+    with_out(rt, orchestra, &path[..n]);
 }
 
-fn main() {
-    let given = os::arg_count();
-    if given < 4 {
-        report::usage();
+fn main(rt: HostRuntime) {
+    if !program_io::has_argument(&rt, 3) {
+        report::usage(&rt);
         return;
     }
-    if 6 < given {
-        report::usage();
+    if program_io::has_argument(&rt, 6) {
+        report::usage(&rt);
         return;
     }
-    let mut path = io::buffer();
-    let n = os::arg(1, &mut path);
-    with_paths(&path[..n]);
+    let mut path = [0u8; NAME];
+    let n = program_io::argument(&rt, 1, &mut path);
+    with_paths(&rt, &path[..n]);
 }

@@ -4,7 +4,7 @@ use panel::Core;
 
 // `at` is how many lines of the order are fed, `first` the cycle of the first missed note; `answer` and `line` are those of feeding;
 // `lost`: the sound could not be written.
-#[derive(Drop)]
+#[derive(Clone, Copy)]
 pub struct Piece {
     pub core: Core,
     pub at: usize,

@@ -1,6 +1,9 @@
 // A piece into a WAV file or to standard output.
 use crate::piece::Piece;
+use crate::{files, report};
 use panel::Core;
+use std::fs::File;
+use std::io::{Seek, SeekFrom, Write};
 
 // The size in the header of a WAV whose length is not known yet.
 const UNKNOWN: u32 = 0xffff_ffff;
@@ -12,16 +15,18 @@ const MOST_CYCLES: u32 = 6_710_886;
 const CYCLES: u32 = 100;
 
 // Writes, and tells a fault.
-fn written(fd: i32, bytes: &[u8]) -> bool {
-    if io::write_all(fd, bytes) {
-        return true;
+fn written(rt: &HostRuntime, to: &mut impl Write, bytes: &[u8]) -> bool {
+    match Write::write_all(to, bytes) {
+        Ok(()) => true,
+        Err(e) => {
+            report::unwritten(rt, &e);
+            false
+        }
     }
-    crate::report::unwritten();
-    false
 }
 
 // The 44 bytes in front of the samples: `whole` counts those behind it, `size` those of the samples.
-fn write_header(fd: i32, whole: u32, size: u32) -> bool {
+fn write_header(rt: &HostRuntime, to: &mut impl Write, whole: u32, size: u32) -> bool {
     let mut h = [0u8; 44];
     let riff = program_io::put_bytes(&mut h, 0, b"RIFF");
     let form = program_io::put_little_word(&mut h, riff, whole);
@@ -35,24 +40,31 @@ fn write_header(fd: i32, whole: u32, size: u32) -> bool {
     let bits = program_io::put_little_half(&mut h, frame, 16);
     let data = program_io::put_bytes(&mut h, bits, b"data");
     program_io::put_little_word(&mut h, data, size);
-    written(fd, &h)
+    written(rt, to, &h)
 }
 
-fn write_block(fd: i32, block: &[i16]) -> bool {
+fn write_block(rt: &HostRuntime, to: &mut impl Write, block: &[i16]) -> bool {
     let mut bytes = [0u8; 640];
     program_io::put_little_samples(&mut bytes, 0, block);
-    written(fd, &bytes)
+    written(rt, to, &bytes)
 }
 
 // A fed piece's next cycle; it ends where it is over, or where the sound cannot be written.
-fn one_cycle<'a>(p: Piece, code: &'a [u64], vals: &'a [f32], order: &[u64], fd: i32) -> Piece {
+fn one_cycle<'a>(
+    rt: &HostRuntime,
+    p: Piece,
+    code: &'a [u64],
+    vals: &'a [f32],
+    order: &[u64],
+    to: &mut impl Write,
+) -> Piece {
     let mut block = [0i16; 320];
     let mut q = crate::piece::sounded(p, code, vals, &mut block);
     if q.ended {
         return q;
     }
-    crate::report::progress(q.cycles);
-    if write_block(fd, &block) {
+    report::progress(rt, q.cycles);
+    if write_block(rt, to, &block) {
         let core = q.core;
         q.ended = crate::piece::is_over(core, q.at, order);
         return q;
@@ -63,12 +75,13 @@ fn one_cycle<'a>(p: Piece, code: &'a [u64], vals: &'a [f32], order: &[u64], fd: 
 }
 
 fn all_cycles<'a>(
+    rt: &HostRuntime,
     start: Piece,
     code: &'a [u64],
     vals: &'a [f32],
     area: &[u32],
     order: &[u64],
-    fd: i32,
+    to: &mut impl Write,
     most: u32,
 ) -> Piece {
     let mut p = start;
@@ -82,19 +95,19 @@ fn all_cycles<'a>(
         if !base_answer::is_taken(a) {
             return p;
         }
-        p = one_cycle(p, code, vals, order, fd);
+        p = one_cycle(rt, p, code, vals, order, to);
         left -= 1;
     }
     p
 }
 
 // The cycles that are asked for behind the ceiling.
-fn most_cycles() -> u32 {
-    if os::arg_count() < 6 {
+fn most_cycles(rt: &HostRuntime) -> u32 {
+    if !program_io::has_argument(rt, 5) {
         return MOST_CYCLES;
     }
     let mut text = [0u8; 16];
-    let n = os::arg(5, &mut text);
+    let n = program_io::argument(rt, 5, &mut text);
     let seconds = program_io::number(&text[..n]);
     if seconds < MOST_CYCLES / CYCLES {
         return seconds * CYCLES;
@@ -104,64 +117,65 @@ fn most_cycles() -> u32 {
 
 // The samples behind a header of unknown length.
 fn filled<'a>(
+    rt: &HostRuntime,
     core: Core,
     code: &'a [u64],
     vals: &'a [f32],
     area: &[u32],
     order: &[u64],
-    fd: i32,
+    to: &mut impl Write,
 ) -> Piece {
     let mut p = crate::piece::begun(core);
     p.ended = crate::piece::is_over(core, 0, order);
-    p.lost = !write_header(fd, UNKNOWN, UNKNOWN);
+    p.lost = !write_header(rt, to, UNKNOWN, UNKNOWN);
     if !p.lost {
-        p = all_cycles(p, code, vals, area, order, fd, most_cycles());
+        p = all_cycles(rt, p, code, vals, area, order, to, most_cycles(rt));
     }
-    crate::report::progress_over();
+    report::progress_over(rt);
     p
 }
 
 // Whether the piece is as it should be, with a message where a line was refused on its way.
-fn is_sound(p: Piece, path: &[u8]) -> bool {
+fn is_sound(rt: &HostRuntime, p: Piece, path: &[u8]) -> bool {
     let a = p.answer;
     if base_answer::is_taken(a) {
         return !p.lost;
     }
-    crate::report::refused_score(path, p.line, a);
+    report::refused_score(rt, path, p.line, a);
     false
 }
 
-// What was played, on `fd`.
-fn summary(fd: i32, p: Piece, out: &[u8]) {
+// What was played. Where it cannot be told the piece is written all the same.
+fn summary(rt: &HostRuntime, to: &impl Print, p: Piece, out: &[u8]) {
     if !p.ended {
-        crate::report::stopped();
+        report::stopped(rt);
     }
     let core = p.core;
-    crate::report::played(fd, out, p.cycles, Core::missed_notes(core), p.first, p.sum);
+    let _ = report::played(to, out, p.cycles, Core::missed_notes(core), p.first, p.sum);
 }
 
 // The header again, with the number of bytes.
-fn is_sized(fd: i32, cycles: u32) -> bool {
+fn is_sized(rt: &HostRuntime, mut file: File, cycles: u32) -> bool {
     let size = cycles % (MOST_CYCLES + 1) * 640;
-    if libc::lseek(fd, 0, libc::SEEK_SET) != 0 {
+    if file.seek(SeekFrom::Start(0)).is_err() {
         return false;
     }
-    write_header(fd, size % (UNKNOWN - 36) + 36, size)
+    write_header(rt, &mut file, size % (UNKNOWN - 36) + 36, size)
 }
 
 // What is not whole is removed.
-fn kept_or_removed(p: Piece, path: &[u8], out: &[u8], fd: i32) {
-    let sound = is_sound(p, path);
-    let sized = is_sized(fd, p.cycles);
-    libc::close(fd);
+fn kept_or_removed(rt: &HostRuntime, p: Piece, path: &[u8], out: &[u8], file: File) {
+    let sound = is_sound(rt, p, path);
+    let sized = is_sized(rt, file, p.cycles);
     if sound && sized {
-        summary(1, p, out);
+        summary(rt, rt, p, out);
         return;
     }
-    os::unlink(out);
+    let _ = files::removed(rt, out);
 }
 
 fn to_file<'a>(
+    rt: &HostRuntime,
     core: Core,
     code: &'a [u64],
     vals: &'a [f32],
@@ -170,15 +184,17 @@ fn to_file<'a>(
     path: &[u8],
     out: &[u8],
 ) {
-    let fd = os::create(out);
-    if fd < 0 {
-        crate::report::fault(out);
-        return;
+    match files::created(rt, out) {
+        Ok(mut file) => {
+            let p = filled(rt, core, code, vals, area, order, &mut file);
+            kept_or_removed(rt, p, path, out, file);
+        }
+        Err(e) => report::fault(rt, out, &e),
     }
-    kept_or_removed(filled(core, code, vals, area, order, fd), path, out, fd);
 }
 
 fn to_output<'a>(
+    rt: &HostRuntime,
     core: Core,
     code: &'a [u64],
     vals: &'a [f32],
@@ -186,13 +202,14 @@ fn to_output<'a>(
     order: &[u64],
     path: &[u8],
 ) {
-    let p = filled(core, code, vals, area, order, 1);
-    if is_sound(p, path) {
-        summary(2, p, b"-");
+    let p = filled(rt, core, code, vals, area, order, &mut rt.stdout());
+    if is_sound(rt, p, path) {
+        summary(rt, &rt.stderr(), p, b"-");
     }
 }
 
 pub fn recorded<'a>(
+    rt: &HostRuntime,
     core: Core,
     code: &'a [u64],
     vals: &'a [f32],
@@ -203,9 +220,9 @@ pub fn recorded<'a>(
 ) {
     if out.len() == 1 {
         if program_io::byte_at(out, 0) == b'-' {
-            to_output(core, code, vals, area, order, path);
+            to_output(rt, core, code, vals, area, order, path);
             return;
         }
     }
-    to_file(core, code, vals, area, order, path, out);
+    to_file(rt, core, code, vals, area, order, path, out);
 }

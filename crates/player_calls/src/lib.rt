@@ -1,4 +1,6 @@
 // The work of every call but the cycle, on the state that it changes (documents 01 and 02).
+#![tactic(auto)]
+
 ghost use Rattle.std.specs.Prelude.{◌≡◌, length};
 ghost use Rattle.score_bursts.specs.inside.Reading.{burst_of};
 ghost use Rattle.code_program.specs.InstrumentTable.{instruments_of};
@@ -15,7 +17,7 @@ use player_queue::Queue;
 use player_state::{Playing, State};
 
 // What a call at any entrance leaves; `line` is the number of the line that a refusal is about.
-#[derive(Drop)]
+#[derive(Clone, Copy)]
 pub struct EntranceResult {
     pub state: State,
     pub answer: Answer,
@@ -23,7 +25,7 @@ pub struct EntranceResult {
 }
 
 // What a burst leaves; `units` is how many of its units were answered.
-#[derive(Drop)]
+#[derive(Clone, Copy)]
 pub struct BurstResult {
     pub state: State,
     pub answer: Answer,
@@ -31,7 +33,7 @@ pub struct BurstResult {
 }
 
 // What a call at the keyboard, or a cycle, leaves.
-#[derive(Drop)]
+#[derive(Clone, Copy)]
 pub struct CallResult {
     pub state: State,
     pub answer: Answer,

@@ -17,14 +17,14 @@ use Rattle.voices_compiled.specs.Voices.{VoiceState, voices, ran_mix_of}
 use Rattle.code_program.specs.declared.Instrument.{Instrument}
 
 module _ (table : List Instrument) (code : List ℕ) (vals : List Float) where
-  length-sums : (ws : List ℕ) (f mix : List Float) → length (sums vals ws f mix).mix ≡ length mix
+  length-sums : (ws : List ℕ) (mix f : List Float) → length (sums vals ws f mix).mix ≡ length mix
   unfolding sums
-  length-sums ws f [] = refl
-  length-sums ws f (x ∷ xs) = ap suc (length-sums ws _ xs)
+  length-sums ws [] f = refl
+  length-sums ws (x ∷ xs) f = ap suc (length-sums ws xs _)
 
   length-one : (s : VoiceState) (mix : List Float) → length ((voices table code vals).run s mix).mix ≡ length mix
   unfolding voices ran_mix_of played
-  length-one s mix = length-sums _ _ mix
+  length-one s mix = length-sums _ mix _
 
   length_run : (ns : List (cycle.Note VoiceState)) (mix : List Float) → length (run_from (voices table code vals) ns mix).mix ≡ length mix
   unfolding run_from

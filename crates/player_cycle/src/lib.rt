@@ -1,4 +1,6 @@
 // One cycle, steps 1 to 8, on the state that it changes (document 01, "One cycle, in order"), and the call that asks for it.
+#![tactic(auto)]
+
 ghost use Rattle.std.specs.Prelude.{◌≡◌, cond, length};
 ghost use Rattle.base_answer.specs.declared.Answer.TheVariants.{Taken, Ended};
 ghost use Rattle.code_program.specs.InstrumentTable.{instruments_of};

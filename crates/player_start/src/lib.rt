@@ -1,4 +1,6 @@
 // A fresh start: what a panel starts with, and its answer (documents 01 and 02).
+#![tactic(auto)]
+
 ghost use Rattle.std.specs.Prelude.{◌≡◌, [], pos};
 ghost use Rattle.std.specs.Float.{binary32};
 ghost use Rattle.std.specs.Float.Ieee.{of_int};
@@ -11,7 +13,7 @@ use player_state::State;
 use settings_records::InUse;
 
 // What the calls change, beside what a fresh start fixes, and the answer.
-#[derive(Drop)]
+#[derive(Clone, Copy)]
 pub struct Start {
     pub state: State,
     pub settings: InUse,

@@ -1,5 +1,7 @@
 // The state that the calls change, and what a cycle does with it beside its steps: whether it ends the piece, what waits afterwards, and an
 // idle cycle (document 01, "One cycle, in order").
+#![tactic(auto)]
+
 ghost use Rattle.std.specs.Prelude.{◌≡◌, ◌||◌, ◌≤◌, ◌+◌, min, ltb, take};
 ghost use Rattle.engine_limiter.specs.Block.{limited};
 ghost use Rattle.player_model.specs.Cycle.{position_limit, any_end};
@@ -11,7 +13,7 @@ use note_pool::Notes;
 use player_queue::{Lines, Queue};
 
 // What plays: the sounding notes, position, tempo, missed notes and the mark of the end.
-#[derive(Drop)]
+#[derive(Clone, Copy)]
 pub struct Playing {
     pub notes: Notes,
     pub position: u64,
@@ -21,7 +23,7 @@ pub struct Playing {
 }
 
 // What a cycle goes by: the ceiling, the highest number of notes, and the instrument of the keyboard's notes by its name.
-#[derive(Drop)]
+#[derive(Clone, Copy)]
 pub struct Settings {
     pub ceiling: u16,
     pub notes: u8,
@@ -29,7 +31,7 @@ pub struct Settings {
 }
 
 // What the calls change: the waiting lines and note messages, and what plays.
-#[derive(Drop)]
+#[derive(Clone, Copy)]
 pub struct State {
     pub queue: Queue,
     pub messages: MessageQueue,

@@ -1,4 +1,6 @@
 // Steps 2 to 8 of a cycle, on what plays (document 01, "One cycle, in order").
+#![tactic(auto)]
+
 ghost use Rattle.std.specs.Prelude.{◌≡◌, ◌≤◌};
 ghost use Rattle.engine_limiter.specs.Block.{limited};
 ghost use Rattle.player_model.specs.Cycle.{position_limit};
@@ -15,14 +17,14 @@ use player_queue::Lines;
 use player_state::{Playing, Settings};
 
 // What acts in a cycle: the due lines, in order, and the note messages that wait.
-#[derive(Drop)]
+#[derive(Clone, Copy)]
 pub struct Due {
     pub lines: Lines,
     pub messages: MessageQueue,
 }
 
 // The notes that sound afterwards, and how many were missed so far.
-#[derive(Drop)]
+#[derive(Clone, Copy)]
 struct Performed {
     notes: Notes,
     missed: u64,

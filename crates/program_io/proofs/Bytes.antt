@@ -1,5 +1,5 @@
 -- Numbers as bytes: a number in two halves, and whether two bytes hold it.
-use Rattle.std.proofs.Common.{◌≡◌, ℕ, ◌+◌, ◌*◌, ◌/◌, ◌%◌, ◌<◌, ◌≤◌, cond, List, [], ◌∷◌, ◌++◌, sym, refl, ap, ◌∙◌, arith, le-ltb, lt-ltb}
+use Rattle.std.proofs.Common.{◌≡◌, ℕ, ◌/◌, ◌%◌, ◌<◌, ◌≤◌, cond, [], ◌∷◌, ◌++◌, sym, ap, arith, le-ltb, lt-ltb}
 use Rattle.settings_records.specs.Form.{encoded, version_one}
 use Rattle.program_io.specs.Bytes.{big_endian, little_endian, in_two_bytes}
 

@@ -1,5 +1,5 @@
 -- Bytes put into a buffer: one run behind the other, element by element, and past the end.
-use Rattle.std.proofs.Common.{◌≡◌, ℕ, zero, suc, ◌+◌, ◌-◌, ◌*◌, ◌<◌, ◌≤◌, min, List, [], ◌∷◌, ◌++◌, length, get_or, take, set, sym, refl, ap, ◌∙◌, subst, append_assoc, append-nil, suc-le-suc, zero-le, add-one, arith, length-append, take_all, take-suc}
+use Rattle.std.proofs.Common.{◌≡◌, ℕ, zero, suc, ◌+◌, ◌-◌, ◌<◌, ◌≤◌, min, List, [], ◌∷◌, ◌++◌, length, get_or, take, set, sym, refl, ap, ◌∙◌, subst, append_assoc, append-nil, suc-le-suc, zero-le, add-one, arith, length-append, take_all, take-suc}
 use native.Mathlib.Nat.{min-eq_left, min-eq_right}
 use lib.Seq.{sets, length-sets, set_out}
 use Rattle.program_io.specs.Bytes.{joined, Put}

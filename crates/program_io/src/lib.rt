@@ -1,9 +1,14 @@
 // Numbers in lent memory, a number from a text, and standard input and output in large pieces.
 // All functions are total: past the end of a buffer nothing is stored, and zeros are read.
-ghost use Rattle.std.specs.Prelude.{◌≡◌, ◌+◌, ◌*◌, ◌<◌, [], ◌∷◌, length, slice_index};
+#![tactic(auto)]
+
+ghost use Rattle.std.specs.Prelude.{◌≡◌, ◌+◌, ◌*◌, ◌<◌, ◌≤◌, [], ◌∷◌, length, slice_index};
 ghost use Rattle.program_io.specs.Bytes.{big_endian, little_endian, sample_bits as bits_of, joined, Put, symbol_at, word_at, words_of, checksum, in_two_bytes};
 ghost use Rattle.settings_records.specs.Form.{encoded, version_one};
 ghost use Rattle.program_io.specs.Decimal.{digits_after, decimal};
+
+use std::env::{Env, FillError};
+use std::io::Read;
 
 // ---- numbers in lent memory
 
@@ -234,12 +239,48 @@ pub fn number(text: &[u8]) -> u32
     n
 }
 
+// ---- arguments and whole inputs
+
+// Whether the program has this argument; its own name is argument 0.
+pub fn has_argument(rt: &impl Env, i: usize) -> bool {
+    let mut one = [0u8; 1];
+    match rt.arg(i, &mut one) {
+        Err(FillError::NotPresent) => false,
+        _ => true,
+    }
+}
+
+// An argument at the start of a buffer, and its length; 0 where there is none, or it is longer than the buffer.
+pub fn argument(rt: &impl Env, i: usize, to: &mut [u8]) -> usize
+    ensures { result ≤ length to.new }
+{
+    match rt.arg(i, to) {
+        Ok(n) => n,
+        Err(_) => 0,
+    }
+}
+
+// Reads until the buffer is full, the input ends or a read fails, and answers how many bytes came.
+pub fn read_full(from: &mut impl Read, to: &mut [u8]) -> usize
+    ensures { result ≤ length to.new }
+{
+    let mut done: usize = 0;
+    while done < to.len() {
+        match from.read(&mut to[done..]) {
+            Ok(0) => return done,
+            Ok(n) => done += n,
+            Err(_) => return done,
+        }
+    }
+    done
+}
+
 // ---- standard input and output
 
 // Where reading and writing stand: the bytes of the input buffer that are still to be taken, how many bytes were taken
 // in all, how many of the output buffer are to be written, whether the input has ended, whether it could not be read,
 // and whether a write failed.
-#[derive(Drop)]
+#[derive(Clone, Copy)]
 pub struct Port {
     pub at: usize,
     pub end: usize,
@@ -262,17 +303,17 @@ pub fn opened() -> Port {
     }
 }
 
-// Writes the first bytes of a buffer, and answers whether all were taken.
-pub fn sent(fd: i32, out: &[u8], used: usize) -> bool {
+// Writes the first bytes of a buffer to the output, and answers whether all were taken.
+pub fn sent(rt: &impl Print, out: &[u8], used: usize) -> bool {
     if used <= out.len() {
-        return io::write_all(fd, &out[..used]);
+        return rt.write_all(&out[..used]).is_ok();
     }
     false
 }
 
 // Writes what the output buffer holds.
-pub fn flushed(mut p: Port, out: &[u8]) -> Port {
-    if !sent(1, out, p.used) {
+pub fn flushed(rt: &impl Print, mut p: Port, out: &[u8]) -> Port {
+    if !sent(rt, out, p.used) {
         p.lost = true;
     }
     p.used = 0;
@@ -280,38 +321,53 @@ pub fn flushed(mut p: Port, out: &[u8]) -> Port {
 }
 
 // Output goes out before a read that may wait, so that a host that sends one call after the other's answer gets it.
-fn refilled(p: Port, input: &mut [u8], out: &[u8]) -> Port {
-    let mut q = flushed(p, out);
-    let got = libc::read(0, input);
-    let n = io::count(got, input);
+fn refilled(rt: &(impl Input + Print), p: Port, input: &mut [u8], out: &[u8]) -> Port {
+    let mut q = flushed(rt, p, out);
+    let mut reader = rt.reader();
     q.at = 0;
-    q.end = n;
-    q.dry = n == 0;
-    q.failed = got < 0;
+    match reader.read(input) {
+        Ok(n) => {
+            q.end = n;
+            q.dry = n == 0;
+            q.failed = false;
+        }
+        Err(_) => {
+            q.end = 0;
+            q.dry = true;
+            q.failed = true;
+        }
+    }
     q
 }
 
-fn ready(p: Port, input: &mut [u8], out: &[u8]) -> Port {
+fn ready(rt: &(impl Input + Print), p: Port, input: &mut [u8], out: &[u8]) -> Port {
     if p.at < p.end {
         return p;
     }
-    refilled(p, input, out)
+    refilled(rt, p, input, out)
 }
 
 fn advanced(mut p: Port) -> Port {
-    p.at = std::num::wrapping_add_usize(p.at, 1);
-    p.taken = std::num::wrapping_add_u64(p.taken, 1);
+    p.at = p.at.wrapping_add(1);
+    p.taken = p.taken.wrapping_add(1);
     p
 }
 
 // The next n bytes of the input, into the start of `to`. Where the input ends before, `dry`; where it cannot be read,
 // `failed` too. The bytes that came until then stand in `to`.
-pub fn receive(p: Port, input: &mut [u8], out: &[u8], to: &mut [u8], n: usize) -> Port {
+pub fn receive(
+    rt: &(impl Input + Print),
+    p: Port,
+    input: &mut [u8],
+    out: &[u8],
+    to: &mut [u8],
+    n: usize,
+) -> Port {
     let mut q = p;
     let mut next: usize = 0;
     let mut left = n;
     while left > 0 {
-        q = ready(q, input, out);
+        q = ready(rt, q, input, out);
         if q.dry {
             return q;
         }

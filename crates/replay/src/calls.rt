@@ -7,14 +7,14 @@ use score_decoder::Decoded;
 use score_writer::WriteResult;
 
 // The panel without its code, if there is one.
-#[derive(Drop)]
+#[derive(Clone, Copy)]
 pub struct Session {
     pub core: Core,
     pub present: bool,
 }
 
 // What a call leaves: the session, and how much of the output is used.
-#[derive(Drop)]
+#[derive(Clone, Copy)]
 pub struct Done {
     pub session: Session,
     pub used: usize,

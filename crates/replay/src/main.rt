@@ -1,5 +1,7 @@
 // The panel as a filter: a list of calls on standard input, every answer on standard output.
 // A record is a code and its fields; each kind has a function, and the fields of all kinds are read in one way.
+#![tactic(auto)]
+
 mod burst;
 mod calls;
 mod naming;
@@ -17,57 +19,69 @@ const OUT: usize = 131072;
 
 const USED: usize = 32768;
 
+// How much of the input is taken in at once.
+const INPUT: usize = 65536;
+
 // The items of the longest record: two lists of names.
 const DATA: usize = 2097152;
 
-fn relieved(p: Port, out: &[u8]) -> Port {
+fn relieved(rt: &HostRuntime, p: Port, out: &[u8]) -> Port {
     if p.used < USED {
         return p;
     }
-    program_io::flushed(p, out)
+    program_io::flushed(rt, p, out)
 }
 
-fn told(words: &[u8], at: u64) {
-    io::write_all(2, b"replay: ");
-    io::write_all(2, words);
-    io::write_all(2, b", in the record at byte ");
-    io::print_decimal(2, at);
-    io::write_all(2, b"\n");
+// Where standard error takes nothing there is no other place to tell it.
+fn told(rt: &HostRuntime, words: &str, at: u64) {
+    let _ = eprintln!(rt; "replay: {words}, in the record at byte {at}");
 }
 
-fn explained(fault: Fault, at: u64) {
+fn explained(rt: &HostRuntime, fault: Fault, at: u64) {
     match fault {
         Fault::Whole => {}
-        Fault::Unknown => told(b"unknown code", at),
-        Fault::Outside => told(b"a field outside its range", at),
-        Fault::Cut => told(b"the input is cut", at),
-        Fault::Unread => told(b"the input cannot be read", at),
+        Fault::Unknown => told(rt, "unknown code", at),
+        Fault::Outside => told(rt, "a field outside its range", at),
+        Fault::Cut => told(rt, "the input is cut", at),
+        Fault::Unread => told(rt, "the input cannot be read", at),
     }
 }
 
 // The next record. A fault is told, and then the input counts as ended.
-fn following(p: Port, input: &mut [u8], out: &[u8], data: &mut [u8; DATA]) -> Record {
+fn following(
+    rt: &HostRuntime,
+    p: Port,
+    input: &mut [u8],
+    out: &[u8],
+    data: &mut [u8; DATA],
+) -> Record {
     let start = p.taken;
-    let mut r = record::read(p, input, out, data);
+    let mut r = record::read(rt, p, input, out, data);
     let fault = r.fault;
     if !record::is_whole(fault) {
-        explained(fault, start);
+        explained(rt, fault, start);
         r.ended = true;
     }
     r
 }
 
 // The same behind what was written; nothing follows output that is lost.
-fn behind(p: Port, input: &mut [u8], out: &[u8], data: &mut [u8; DATA]) -> Record {
-    let q = relieved(p, out);
+fn behind(
+    rt: &HostRuntime,
+    p: Port,
+    input: &mut [u8],
+    out: &[u8],
+    data: &mut [u8; DATA],
+) -> Record {
+    let q = relieved(rt, p, out);
     if q.lost {
         return record::none(q);
     }
-    following(q, input, out, data)
+    following(rt, q, input, out, data)
 }
 
 // Where a piece is: its panel, the record that follows, and how long the settings area is.
-#[derive(Drop)]
+#[derive(Clone, Copy)]
 struct Progress {
     session: Session,
     record: Record,
@@ -81,6 +95,7 @@ fn is_over(r: Record) -> bool {
 
 // One record on, lent the first bytes of `area`.
 fn carried_on<'a>(
+    rt: &HostRuntime,
     at: Progress,
     code: &'a [u64],
     vals: &'a [f32],
@@ -95,7 +110,7 @@ fn carried_on<'a>(
     let done = calls::carry_out(s, code, vals, r, data, area, at.length, out, p.used);
     let after = done.session;
     p.used = done.used;
-    let following = behind(p, input, out, data);
+    let following = behind(rt, p, input, out, data);
     Progress {
         session: after,
         record: following,
@@ -105,6 +120,7 @@ fn carried_on<'a>(
 
 // The records up to the next fresh start, on one panel. A proved loop has to end: it counts down from a number that no run uses up.
 fn piece<'a>(
+    rt: &HostRuntime,
     first: Progress,
     code: &'a [u64],
     vals: &'a [f32],
@@ -120,7 +136,7 @@ fn piece<'a>(
         if is_over(r) {
             return at;
         }
-        at = carried_on(at, code, vals, area, input, out, data);
+        at = carried_on(rt, at, code, vals, area, input, out, data);
         left -= 1;
     }
     at
@@ -128,6 +144,7 @@ fn piece<'a>(
 
 // A panel's code beside the records on it.
 fn with_panel(
+    rt: &HostRuntime,
     f: Fresh,
     port: Port,
     length: usize,
@@ -140,7 +157,7 @@ fn with_panel(
     let panel = f.panel;
     let parted = Panel::split(panel);
     let core = parted.core;
-    let following = behind(port, input, out, data);
+    let following = behind(rt, port, input, out, data);
     let first = Progress {
         session: Session {
             core: core,
@@ -149,7 +166,16 @@ fn with_panel(
         record: following,
         length: length,
     };
-    piece(first, &parted.code, &parted.vals, area, input, out, data)
+    piece(
+        rt,
+        first,
+        &parted.code,
+        &parted.vals,
+        area,
+        input,
+        out,
+        data,
+    )
 }
 
 // Behind its settings record stands its orchestra, so many bytes.
@@ -171,7 +197,7 @@ fn fresh(r: Record, data: &[u8], area: &mut [u8]) -> Fresh {
 }
 
 // A fresh start, and how much of the output is used behind its answer and the settings area.
-#[derive(Drop)]
+#[derive(Clone, Copy)]
 struct Begun {
     fresh: Fresh,
     used: usize,
@@ -204,6 +230,7 @@ fn lent(
 
 // The records on its panel.
 fn started(
+    rt: &HostRuntime,
     r: Record,
     length: usize,
     area: &mut [u8; LONGEST],
@@ -215,13 +242,20 @@ fn started(
     let b = lent(r, data, area, length, out, p.used);
     let f = b.fresh;
     p.used = b.used;
-    with_panel(f, p, length, area, input, out, data)
+    with_panel(rt, f, p, length, area, input, out, data)
 }
 
 // Before the first fresh start a refused one's panel stands in, and no call reaches it.
-fn run(area: &mut [u8; LONGEST], input: &mut [u8], out: &mut [u8], data: &mut [u8; DATA]) -> Port {
+fn run(
+    rt: &HostRuntime,
+    area: &mut [u8; LONGEST],
+    input: &mut [u8],
+    out: &mut [u8],
+    data: &mut [u8; DATA],
+) -> Port {
     let none = Panel::fresh(b"", area, b"", 0);
     let mut n = with_panel(
+        rt,
         none,
         program_io::opened(),
         settings_records::AREA,
@@ -236,7 +270,7 @@ fn run(area: &mut [u8; LONGEST], input: &mut [u8], out: &mut [u8], data: &mut [u
         if r.ended {
             return r.port;
         }
-        n = started(r, n.length, area, input, out, data);
+        n = started(rt, r, n.length, area, input, out, data);
         left -= 1;
     }
     let r = n.record;
@@ -251,14 +285,14 @@ fn out_buffer() -> [u8; OUT] {
     [0; OUT]
 }
 
-fn main() {
+fn main(rt: HostRuntime) {
     let mut area = [settings::MARK; LONGEST];
-    let mut input = io::large_buffer();
+    let mut input = [0u8; INPUT];
     let mut out = out_buffer();
     let mut data = items_buffer();
-    let p = run(&mut area, &mut input, &mut out, &mut data);
-    let q = program_io::flushed(p, &out);
+    let p = run(&rt, &mut area, &mut input, &mut out, &mut data);
+    let q = program_io::flushed(&rt, p, &out);
     if q.lost {
-        io::write_all(2, b"replay: the output cannot be written\n");
+        let _ = eprintln!(rt; "replay: the output cannot be written");
     }
 }

@@ -6,9 +6,9 @@ use program_io::Port;
 const BUFFER: usize = 65536;
 
 // The panel's own list of names is read behind the piece's.
-fn own_read(r: Record, input: &mut [u8], out: &[u8], rest: &mut [u8]) -> Record {
+fn own_read(rt: &HostRuntime, r: Record, input: &mut [u8], out: &[u8], rest: &mut [u8]) -> Record {
     let p = r.port;
-    let q = program_io::receive(p, input, out, rest, r.room as usize);
+    let q = program_io::receive(rt, p, input, out, rest, r.room as usize);
     if q.dry {
         return crate::record::stopped(q, crate::record::dry(q), false);
     }
@@ -17,25 +17,32 @@ fn own_read(r: Record, input: &mut [u8], out: &[u8], rest: &mut [u8]) -> Record 
     whole
 }
 
-fn own_behind(r: Record, input: &mut [u8], out: &[u8], data: &mut [u8]) -> Record {
+fn own_behind(
+    rt: &HostRuntime,
+    r: Record,
+    input: &mut [u8],
+    out: &[u8],
+    data: &mut [u8],
+) -> Record {
     let from = r.count as usize;
     if from <= data.len() {
-        return own_read(r, input, out, &mut data[from..]);
+        return own_read(rt, r, input, out, &mut data[from..]);
     }
     r
 }
 
 // A record as it is, but where a name is asked for with the second list.
-fn with_own(r: Record, input: &mut [u8], out: &[u8], data: &mut [u8]) -> Record {
+fn with_own(rt: &HostRuntime, r: Record, input: &mut [u8], out: &[u8], data: &mut [u8]) -> Record {
     let fault = r.fault;
     if r.code == b'n' && crate::record::is_whole(fault) {
-        return own_behind(r, input, out, data);
+        return own_behind(rt, r, input, out, data);
     }
     r
 }
 
 // The items of a record, with all lists.
 pub fn items(
+    rt: &HostRuntime,
     p: Port,
     code: u8,
     first: u32,
@@ -45,8 +52,8 @@ pub fn items(
     out: &[u8],
     data: &mut [u8],
 ) -> Record {
-    let r = crate::record::items(p, code, first, symbol, count, input, out, data);
-    with_own(r, input, out, data)
+    let r = crate::record::items(rt, p, code, first, symbol, count, input, out, data);
+    with_own(rt, r, input, out, data)
 }
 
 fn unpack_into(bytes: &[u8], buffer: &mut [u8], out: &mut [u8], used: usize) -> usize {

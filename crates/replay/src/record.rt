@@ -7,7 +7,7 @@ const MOST_SYMBOL: u32 = 65535;
 // The most bytes that are handed in as a settings record or put into the settings area.
 const MOST_SETTINGS: u32 = 8192;
 
-#[derive(Drop)]
+#[derive(Clone, Copy)]
 pub enum Fault {
     Whole,
     Unknown,
@@ -16,7 +16,7 @@ pub enum Fault {
     Unread,
 }
 
-#[derive(Drop)]
+#[derive(Clone, Copy)]
 pub struct Record {
     pub port: Port,
     pub code: u8,
@@ -120,7 +120,7 @@ pub fn size_of(code: u8, count: u32) -> usize {
     }
 }
 
-#[derive(Drop)]
+#[derive(Clone, Copy)]
 struct Field {
     port: Port,
     value: u32,
@@ -128,7 +128,15 @@ struct Field {
 }
 
 // A number that is at most `most`; where the kind has none, the one that stands for it.
-fn number(p: Port, wanted: bool, most: u32, otherwise: u32, input: &mut [u8], out: &[u8]) -> Field {
+fn number(
+    rt: &HostRuntime,
+    p: Port,
+    wanted: bool,
+    most: u32,
+    otherwise: u32,
+    input: &mut [u8],
+    out: &[u8],
+) -> Field {
     if !wanted {
         return Field {
             port: p,
@@ -137,7 +145,7 @@ fn number(p: Port, wanted: bool, most: u32, otherwise: u32, input: &mut [u8], ou
         };
     }
     let mut four = [0u8; 4];
-    let q = program_io::receive(p, input, out, &mut four, 4);
+    let q = program_io::receive(rt, p, input, out, &mut four, 4);
     let v = program_io::word_at(&four, 0);
     if q.dry {
         return Field {
@@ -160,7 +168,7 @@ fn number(p: Port, wanted: bool, most: u32, otherwise: u32, input: &mut [u8], ou
     }
 }
 
-#[derive(Drop)]
+#[derive(Clone, Copy)]
 struct Choice {
     port: Port,
     value: u16,
@@ -168,7 +176,7 @@ struct Choice {
 }
 
 // A fresh start has the symbol of the chosen instrument; the other kinds have none.
-fn two_bytes(p: Port, wanted: bool, input: &mut [u8], out: &[u8]) -> Choice {
+fn two_bytes(rt: &HostRuntime, p: Port, wanted: bool, input: &mut [u8], out: &[u8]) -> Choice {
     if !wanted {
         return Choice {
             port: p,
@@ -177,7 +185,7 @@ fn two_bytes(p: Port, wanted: bool, input: &mut [u8], out: &[u8]) -> Choice {
         };
     }
     let mut two = [0u8; 2];
-    let q = program_io::receive(p, input, out, &mut two, 2);
+    let q = program_io::receive(rt, p, input, out, &mut two, 2);
     if q.dry {
         return Choice {
             port: q,
@@ -207,6 +215,7 @@ pub fn stopped(p: Port, fault: Fault, ended: bool) -> Record {
 
 // The items of a record, into `data`, and its room.
 pub fn items(
+    rt: &HostRuntime,
     p: Port,
     code: u8,
     first: u32,
@@ -216,11 +225,11 @@ pub fn items(
     out: &[u8],
     data: &mut [u8],
 ) -> Record {
-    let q = program_io::receive(p, input, out, data, size_of(code, count));
+    let q = program_io::receive(rt, p, input, out, data, size_of(code, count));
     if q.dry {
         return stopped(q, dry(q), false);
     }
-    let room = number(q, has_room(code), most_room(code), 0, input, out);
+    let room = number(rt, q, has_room(code), most_room(code), 0, input, out);
     let fault = room.fault;
     let port = room.port;
     Record {
@@ -237,6 +246,7 @@ pub fn items(
 
 // What follows the symbol.
 fn counted(
+    rt: &HostRuntime,
     p: Port,
     code: u8,
     first: u32,
@@ -245,51 +255,81 @@ fn counted(
     out: &[u8],
     data: &mut [u8],
 ) -> Record {
-    let count = number(p, has_count(code), most_count(code), 1, input, out);
+    let count = number(rt, p, has_count(code), most_count(code), 1, input, out);
     let fault = count.fault;
     let port = count.port;
     if is_whole(fault) {
-        return crate::naming::items(port, code, first, symbol, count.value, input, out, data);
+        return crate::naming::items(rt, port, code, first, symbol, count.value, input, out, data);
     }
     stopped(port, fault, false)
 }
 
 // What follows the settings record.
-fn named(p: Port, code: u8, first: u32, input: &mut [u8], out: &[u8], data: &mut [u8]) -> Record {
-    let s = two_bytes(p, code == b'F', input, out);
+fn named(
+    rt: &HostRuntime,
+    p: Port,
+    code: u8,
+    first: u32,
+    input: &mut [u8],
+    out: &[u8],
+    data: &mut [u8],
+) -> Record {
+    let s = two_bytes(rt, p, code == b'F', input, out);
     let fault = s.fault;
     let port = s.port;
     if is_whole(fault) {
-        return counted(port, code, first, s.value, input, out, data);
+        return counted(rt, port, code, first, s.value, input, out, data);
     }
     stopped(port, fault, false)
 }
 
 // A settings record's bytes follow the first number, which is their length, and go before the items.
-fn handed(p: Port, first: u32, input: &mut [u8], out: &[u8], data: &mut [u8]) -> Record {
+fn handed(
+    rt: &HostRuntime,
+    p: Port,
+    first: u32,
+    input: &mut [u8],
+    out: &[u8],
+    data: &mut [u8],
+) -> Record {
     let n = first as usize;
-    let q = program_io::receive(p, input, out, data, n);
+    let q = program_io::receive(rt, p, input, out, data, n);
     if !q.dry && n <= data.len() {
-        return named(q, b'F', first, input, out, &mut data[n..]);
+        return named(rt, q, b'F', first, input, out, &mut data[n..]);
     }
     stopped(q, dry(q), false)
 }
 
 // What follows the first number.
-fn placed(p: Port, code: u8, first: u32, input: &mut [u8], out: &[u8], data: &mut [u8]) -> Record {
+fn placed(
+    rt: &HostRuntime,
+    p: Port,
+    code: u8,
+    first: u32,
+    input: &mut [u8],
+    out: &[u8],
+    data: &mut [u8],
+) -> Record {
     if code == b'F' {
-        return handed(p, first, input, out, data);
+        return handed(rt, p, first, input, out, data);
     }
-    named(p, code, first, input, out, data)
+    named(rt, p, code, first, input, out, data)
 }
 
 // What follows a known code.
-fn body(p: Port, code: u8, input: &mut [u8], out: &[u8], data: &mut [u8]) -> Record {
-    let first = number(p, has_first(code), most_first(code), 0, input, out);
+fn body(
+    rt: &HostRuntime,
+    p: Port,
+    code: u8,
+    input: &mut [u8],
+    out: &[u8],
+    data: &mut [u8],
+) -> Record {
+    let first = number(rt, p, has_first(code), most_first(code), 0, input, out);
     let fault = first.fault;
     let port = first.port;
     if is_whole(fault) {
-        return placed(port, code, first.value, input, out, data);
+        return placed(rt, port, code, first.value, input, out, data);
     }
     stopped(port, fault, false)
 }
@@ -308,15 +348,15 @@ fn at_end(p: Port) -> Record {
 }
 
 // The next record; `ended` where the input ends before one.
-pub fn read(p: Port, input: &mut [u8], out: &[u8], data: &mut [u8]) -> Record {
+pub fn read(rt: &HostRuntime, p: Port, input: &mut [u8], out: &[u8], data: &mut [u8]) -> Record {
     let mut one = [0u8; 1];
-    let q = program_io::receive(p, input, out, &mut one, 1);
+    let q = program_io::receive(rt, p, input, out, &mut one, 1);
     if q.dry {
         return at_end(q);
     }
     let code = program_io::byte_at(&one, 0);
     if is_known(code) {
-        return body(q, code, input, out, data);
+        return body(rt, q, code, input, out, data);
     }
     stopped(q, Fault::Unknown, false)
 }

@@ -1,4 +1,6 @@
 // A burst's bytes: up to 32 access units, each behind its 16-bit length (document 02, M-103).
+#![tactic(auto)]
+
 ghost use Rattle.std.specs.Prelude.{◌≡◌, drop};
 ghost use Rattle.score_bursts.specs.Bursts.{sixteen_bits};
 ghost use Rattle.score_bursts.specs.inside.Reading.{burst_of, scan_of, length_at};
@@ -6,7 +8,7 @@ ghost use Rattle.score_bursts.specs.inside.Reading.{burst_of, scan_of, length_at
 use base_answer::Answer;
 
 // Whether bytes are a burst, and of how many units.
-#[derive(Drop)]
+#[derive(Clone, Copy)]
 pub struct BurstScan {
     pub answer: Answer,
     pub units: usize,

@@ -1,4 +1,6 @@
 // Scores and access units decoded into a lent area of words, a slot to a line (document 01: "decoded on its own").
+#![tactic(auto)]
+
 ghost use Rattle.std.specs.Prelude.{◌≡◌, ◌+◌, ◌*◌, ◌≤◌, length};
 ghost use Rattle.base_bitstream.specs.Bits.{bits_of};
 ghost use Rattle.score_line.specs.LineFormat.{slot_words};
@@ -12,7 +14,7 @@ use score_line::SLOT;
 use score_reader::Cursor;
 
 // What decoding gives: the answer, the number of the line that it is about, and how many lines stand in the area.
-#[derive(Drop)]
+#[derive(Clone, Copy)]
 pub struct Decoded {
     pub answer: Answer,
     pub line: usize,

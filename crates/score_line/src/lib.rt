@@ -1,4 +1,6 @@
 // A score line, and its parts read from bits or from keypad numbers (document 01, "Score lines, bit by bit").
+#![tactic(auto)]
+
 ghost use Rattle.std.specs.Prelude.{◌≡◌};
 ghost use Rattle.base_timebase.specs.inside.Range.{checked};
 ghost use Rattle.base_formats.specs.inside.Source.{source_of};
@@ -28,21 +30,21 @@ pub const MOST_VALUES: usize = 8;
 pub const SLOT: usize = 10 + MOST_VALUES;
 
 // When a line is used: at its time, or late where use-if-late is set; untimed, in the next cycle (document 01, "has-time").
-#[derive(Drop)]
+#[derive(Clone, Copy)]
 pub enum When {
     Timed { use_if_late: bool, time: f32 },
     Untimed,
 }
 
 // The label of an instr line, by which control lines find its note; it may have none (document 01, "has-label").
-#[derive(Drop)]
+#[derive(Clone, Copy)]
 pub enum Label {
     Unlabelled,
     Labelled(u16),
 }
 
 // What a line asks for, by its type: instr, control, end or tempo (document 01, types 0, 1, 4 and 5).
-#[derive(Drop)]
+#[derive(Clone, Copy)]
 pub enum Event {
     Instr {
         label: Label,
@@ -59,7 +61,7 @@ pub enum Event {
 }
 
 // A line: its time, if any, beside one of the four events, and the values of an instr line.
-#[derive(Drop)]
+#[derive(Clone, Copy)]
 pub struct Line {
     pub when: When,
     pub priority: bool,
@@ -69,7 +71,7 @@ pub struct Line {
 }
 
 // What reading a line gives: the answer, the line, and the position past it. On refusal a blank line and 0.
-#[derive(Drop)]
+#[derive(Clone, Copy)]
 pub struct LineRead {
     pub answer: Answer,
     pub line: Line,
@@ -77,7 +79,7 @@ pub struct LineRead {
 }
 
 // The ranges of a line's floats.
-#[derive(Drop)]
+#[derive(Clone, Copy)]
 pub enum Range {
     Time,
     Duration,
@@ -86,31 +88,31 @@ pub enum Range {
 }
 
 // What reading a part of a line gives: the part and the position past it, or the first fault.
-#[derive(Drop)]
+#[derive(Clone, Copy)]
 pub enum IntegerRead {
     Of(u32, usize),
     Refused(Fault),
 }
 
-#[derive(Drop)]
+#[derive(Clone, Copy)]
 pub enum FloatRead {
     Of(f32, usize),
     Refused(Fault),
 }
 
-#[derive(Drop)]
+#[derive(Clone, Copy)]
 pub enum WhenRead {
     Of(When, usize),
     Refused(Fault),
 }
 
-#[derive(Drop)]
+#[derive(Clone, Copy)]
 pub enum LabelRead {
     Of(Label, usize),
     Refused(Fault),
 }
 
-#[derive(Drop)]
+#[derive(Clone, Copy)]
 pub enum EventRead {
     Of(Event, usize),
     Refused(Fault),

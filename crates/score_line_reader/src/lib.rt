@@ -1,4 +1,6 @@
 // Score lines read whole, from bits or from keypad numbers.
+#![tactic(auto)]
+
 ghost use Rattle.std.specs.Prelude.{◌≡◌, ◌≤◌, []};
 ghost use Rattle.base_bitstream.specs.Bits.{bits_of};
 ghost use Rattle.base_formats.specs.inside.Source.{source_of};

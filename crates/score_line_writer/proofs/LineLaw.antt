@@ -1,9 +1,9 @@
 -- What the line's format asks for the laws of all formats, and what they say of it. Assumes nothing.
-use Prim.Native.Nat.{ℕ, zero, suc, ◌+◌, ◌-◌, ◌*◌, ◌≤◌, min as lesser}
+use Prim.Native.Nat.{ℕ, zero, suc, ◌+◌, ◌-◌, ◌*◌, ◌^◌, ◌<◌, ◌≤◌, min as lesser}
 use mathlib.Core.Path.{◌≡◌, refl, sym, ap, ◌∙◌, subst}
 use mathlib.Core.Bool.{Bool, true, ◌&&◌}
 use mathlib.Core.List.{List, [], ◌∷◌, ◌++◌}
-use mathlib.Core.Option.{none, some}
+use mathlib.Core.Option.{Option, none, some}
 use native.Mathlib.Nat.{suc-mul}
 use native.Mathlib.Omega.{arith}
 use borrow.Author.Tests.{leb-true}
@@ -23,7 +23,7 @@ use Rattle.base_formats.specs.declared.Fault.{Fault}
 use Rattle.base_formats.specs.declared.Fault.TheVariants as fault
 use Rattle.base_formats.proofs.RoundTrips.{Law}
 use Rattle.base_formats.proofs.Descriptions.{Views, Proper, Raises, Every, Held, law}
-use Rattle.score_line.specs.LineFormat.{symbol, in_range, float, number, when_of, when_parts, timed, when, label_of, label_parts, label, Kind, instr, control, end, tempo, kind, Body, labelled, body, counted, Values, values, Parts, after_time, parts, event_of, event_parts, count_of, list_of, values_of, zero_float, padded, line_with, kind_of, parts_of, is_zero, used, filled, line}
+use Rattle.score_line.specs.LineFormat.{symbol, in_range, float, number, when_of, when_parts, timed, when, label_of, label_parts, label, Kind, instr, control, end, tempo, type_of, kinds, kind, Body, labelled, body, counted, Values, values, Parts, after_time, parts, event_of, event_parts, count_of, list_of, values_of, zero_float, padded, line_with, kind_of, parts_of, is_zero, used, filled, line}
 use Rattle.score_line.specs.declared.When.{When}
 use Rattle.score_line.specs.declared.When.TheVariants.{Timed, Untimed}
 use Rattle.score_line.specs.declared.Label.{Label}
@@ -77,17 +77,44 @@ number-proper =
 same_view : {A B : Type 0} (into : A → B) (out : B → A) (f : Format A) → ((b : B) → into (out b) ≡ b) → ((a : A) → out (into a) ≡ a) → Views into out (λ b. true) f
 same_view into out f again back = record { again = λ b h k. again b; back = λ a h. back a; admits = λ a h. tt }
 
+when-again : (w : When) → when_of (when_parts w) ≡ w
+when-again Untimed = refl
+when-again (Timed late t) = refl
+
+when-back : (x : Option (Bool × Float)) → when_parts (when_of x) ≡ x
+when-back none = refl
+when-back (some y) = refl
+
 when-proper : Proper when
 unfolding when timed
 when-proper = (
   (tt, λ b. float-proper range.Time),
-  same_view when_of when_parts _ (λ w. elim w [ Untimed ↦ refl | Timed late t ↦ refl ])
-      (λ x. elim x [ none ↦ refl | some y ↦ refl ]),
+  same_view when_of when_parts _ when-again when-back,
 )
+
+label-again : (l : Label) → label_of (label_parts l) ≡ l
+label-again Unlabelled = refl
+label-again (Labelled n) = refl
+
+label-back : (x : Option ℕ) → label_parts (label_of x) ≡ x
+label-back none = refl
+label-back (some n) = refl
 
 label-proper : Proper label
 unfolding label
-label-proper = (symbol-proper, same_view label_of label_parts _ (λ l. elim l [ Unlabelled ↦ refl | Labelled n ↦ refl ]) (λ x. elim x [ none ↦ refl | some n ↦ refl ]))
+label-proper = (symbol-proper, same_view label_of label_parts _ label-again label-back)
+
+kind-below : (k : Kind) → type_of k < 2 ^ 3
+kind-below instr = omega arith
+kind-below control = omega arith
+kind-below end = omega arith
+kind-below tempo = omega arith
+
+kind-listed : (k : Kind) → F.named type_of kinds (type_of k) ≡ some k
+kind-listed instr = refl
+kind-listed control = refl
+kind-listed end = refl
+kind-listed tempo = refl
 
 kind-proper : Proper kind
 unfolding kind
@@ -95,8 +122,8 @@ kind-proper =
     record {
       some_bits = omega arith;
       most-bits = omega arith;
-      below = λ k. elim k [ instr ↦ omega arith | control ↦ omega arith | end ↦ omega arith | tempo ↦ omega arith ];
-      listed = λ k. elim k [ instr ↦ refl | control ↦ refl | end ↦ refl | tempo ↦ refl ];
+      below = kind-below;
+      listed = kind-listed;
     }
 
 kind-parts-proper : (k : Kind) → Proper (body k) × Proper (values k)

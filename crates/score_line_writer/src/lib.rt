@@ -1,4 +1,6 @@
 // A score line written as bits and as keypad numbers, from one list of its fields.
+#![tactic(auto)]
+
 ghost use Rattle.std.specs.Prelude.{◌≡◌, [], ◌∷◌, map, ◌*◌, ◌≤◌, min as lesser, length, take};
 ghost use Rattle.std.specs.Float.{binary32};
 ghost use Rattle.std.specs.Float.Ieee.{to_bits};
@@ -16,7 +18,7 @@ use score_line::{Event, Label, Line, MOST_VALUES, SLOT, When};
 const FARTHEST: usize = 0x4000_0000_0000_0000;
 
 // The fields of a line in order, their widths and their numbers: how many they are, and their bits in all.
-#[derive(Drop)]
+#[derive(Clone, Copy)]
 pub struct Fields {
     pub count: usize,
     pub bits: usize,

@@ -1,4 +1,6 @@
 // Whole scores and access units, read without storing their lines (document 01, "Score lines, bit by bit").
+#![tactic(auto)]
+
 ghost use Rattle.std.specs.Prelude.{◌≡◌, []};
 ghost use Rattle.base_bitstream.specs.Bits.{bits_of};
 ghost use Rattle.score_reader.specs.Score.{score_of, ended, lines_from, all, unit_of, whole_line};
@@ -9,21 +11,21 @@ use base_bitstream::FieldRead;
 use score_line::{Line, LineRead};
 
 // What reading a whole score gives: the answer, and the number of the line that it is about.
-#[derive(Drop)]
+#[derive(Clone, Copy)]
 pub struct ScoreRead {
     pub answer: Answer,
     pub line: usize,
 }
 
 // A place in a score: the position of the next line, and how many lines are left.
-#[derive(Drop)]
+#[derive(Clone, Copy)]
 pub struct Cursor {
     pub at: usize,
     pub left: usize,
 }
 
 // What a step past a line gives: what reading it gave, and the cursor past it.
-#[derive(Drop)]
+#[derive(Clone, Copy)]
 pub struct Step {
     pub answer: Answer,
     pub line: Line,

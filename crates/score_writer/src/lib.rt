@@ -1,4 +1,6 @@
 // Scores and access units written as bytes: from an area of words, a slot to a line, and a unit from a line.
+#![tactic(auto)]
+
 ghost use Rattle.std.specs.Prelude.{◌≡◌, ◌*◌, ◌≤◌, false, length, drop, replicate};
 ghost use Rattle.base_bitstream.specs.Bits.{bits_of};
 ghost use Rattle.base_bitstream.specs.Fields.{over};
@@ -17,7 +19,7 @@ use score_reader::ScoreRead;
 pub const MOST_LINES: usize = 1_048_575;
 
 // What writing gives: the answer, the number of the line that it is about, and how many bytes were written.
-#[derive(Drop)]
+#[derive(Clone, Copy)]
 pub struct WriteResult {
     pub answer: Answer,
     pub line: usize,

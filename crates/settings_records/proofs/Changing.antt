@@ -13,7 +13,7 @@ use Rattle.base_answer.specs.declared.Answer.{Answer}
 use Rattle.base_answer.specs.declared.Answer.TheVariants.{Taken, NoRoom, LeftOver, NothingToUndo}
 use Rattle.settings_records.specs.declared.Found.{Found}
 use Rattle.settings_records.specs.declared.InUse.{InUse}
-use Rattle.settings_records.specs.Form.{setting, found, refused_as}
+use Rattle.settings_records.specs.Form.{found, refused_as}
 use Rattle.settings_records.specs.inside.Reading.{found_in, records_in}
 use Rattle.settings_records.specs.Changes.{area_bytes, laid_at, joining, changing, in_use, changed, change_of, area_changed, undo_of}
 use Rattle.settings_records.proofs.Walk.{found-fits, records-end}

@@ -9,7 +9,7 @@ use Rattle.base_answer.specs.Numbers.{is_taken}
 use Rattle.settings_records.specs.declared.Found.{Found}
 use Rattle.settings_records.specs.declared.InUse.{InUse}
 use Rattle.settings_records.specs.declared.Changed.{Changed}
-use Rattle.settings_records.specs.Form.{Valid, setting, Parses, cut_length, cut_record, length_zero, other_version, wrong_length, bad_number, valid, next, ParsesRecords, all_valid, first_fault}
+use Rattle.settings_records.specs.Form.{Valid, Parses, cut_length, cut_record, length_zero, other_version, wrong_length, bad_number, valid, next, ParsesRecords, all_valid, first_fault}
 use Rattle.settings_records.specs.inside.Reading.{found_in, records_in}
 use Rattle.settings_records.specs.Changes.{in_use, change_of, undo_of}
 use Rattle.settings_records.proofs.Changing.{change-joins}

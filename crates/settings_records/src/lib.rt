@@ -1,4 +1,6 @@
 // Settings records in a lent area (document 02, M-107): read, changed and undone.
+#![tactic(auto)]
+
 ghost use Rattle.std.specs.Prelude.{◌≡◌, length, ◌+◌, ◌≤◌};
 ghost use Rattle.settings_records.specs.Form.{sixteen_bits, refused_as};
 ghost use Rattle.settings_records.specs.inside.Reading.{within_of, judged_of, found_in, records_in};
@@ -7,7 +9,7 @@ ghost use Rattle.settings_records.specs.Changes.{none_in_use, changing, change_o
 use base_answer::Answer;
 
 // What a record sets.
-#[derive(Drop)]
+#[derive(Clone, Copy)]
 pub struct Setting {
     pub ceiling: u16,
     pub notes: u8,
@@ -15,7 +17,7 @@ pub struct Setting {
 }
 
 // A record that was read: what it sets and its bytes, or the number of its first fault.
-#[derive(Drop)]
+#[derive(Clone, Copy)]
 pub struct Found {
     pub answer: Answer,
     pub setting: Setting,
@@ -23,14 +25,14 @@ pub struct Found {
 }
 
 // The settings in use: how many records are, and what the last of them sets.
-#[derive(Drop)]
+#[derive(Clone, Copy)]
 pub struct InUse {
     pub count: usize,
     pub last: Setting,
 }
 
 // What a change or an undo leaves.
-#[derive(Drop)]
+#[derive(Clone, Copy)]
 pub struct Changed {
     pub settings: InUse,
     pub answer: Answer,

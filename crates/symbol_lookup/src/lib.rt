@@ -1,11 +1,13 @@
 // A symbol's name, as a part of the list that has it.
+#![tactic(auto)]
+
 ghost use Rattle.std.specs.Prelude.{◌≡◌, cond, eqb};
 ghost use Rattle.symbol_names.specs.inside.Asking.{name_in};
 ghost use Rattle.symbol_names.specs.Asking.{name_found};
 ghost use Rattle.symbol_lookup.specs.Places.{Stands};
 
 // A stretch of a list, from one place to another.
-#[derive(Drop)]
+#[derive(Clone, Copy)]
 struct Span {
     from: usize,
     to: usize,

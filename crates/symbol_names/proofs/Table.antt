@@ -18,7 +18,7 @@ use Rattle.base_bitstream.proofs.BitValues.{length-field, value_of-field, field-
 use Rattle.base_bitstream.proofs.Filling.{zeros-value, value-zeros, filled-up, bytes_from-bits, length-bytes_from}
 use Rattle.symbol_names.specs.Form.{Names, count_bits, length_bits, name_bits, names_bits, table_bits, Bytes, ValidName, ValidNames, ValidTable, holds, refused}
 use Rattle.symbol_names.specs.inside.Reading.{Read, got, cut, and_then, number_from, stretch_from, name_from, names_from, table_from, is_filling, judged, table_of}
-use Rattle.symbol_names.specs.Claims.{LeftOver, Verdict, encodes, is_cut, left_over, EveryTable, TableRead, TableCut, TableLeftOver, OneTable}
+use Rattle.symbol_names.specs.Claims.{Verdict, encodes, is_cut, left_over, EveryTable, TableRead, TableCut, TableLeftOver, OneTable}
 
 -- what reading bits met: something valid that stands there, or the beginning of it
 pub data Met {A : Type 0} (encode : A → List Bool) (Valid : A → Type 0) (l : List Bool) : Read A → Type 0 where

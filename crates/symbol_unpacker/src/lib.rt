@@ -1,4 +1,6 @@
 // The names of a symbol table, unpacked into a lent buffer: judged whole first, then laid.
+#![tactic(auto)]
+
 ghost use Rattle.std.specs.Prelude.{◌≡◌, ◌*◌, ◌^◌, ◌<◌, length, drop, ltb};
 ghost use Rattle.base_bitstream.specs.Bits.{bits_of};
 ghost use Rattle.base_bitstream.specs.inside.Fields.{Room};
@@ -18,21 +20,21 @@ const LENGTH: usize = 4;
 const BYTE: usize = 8;
 
 // The answer, and the whole length of the unpacked names; 0 where the table is refused.
-#[derive(Drop)]
+#[derive(Clone, Copy)]
 pub struct Unpacked {
     pub answer: Answer,
     pub length: usize,
 }
 
 // Where a table's names end, and how long their list is.
-#[derive(Drop)]
+#[derive(Clone, Copy)]
 enum Extent {
     Whole(usize, usize),
     Cut,
 }
 
 // How many names a table has, and how long their list is.
-#[derive(Drop)]
+#[derive(Clone, Copy)]
 enum Judged {
     Names(usize, usize),
     Refused(Answer),

@@ -1,4 +1,6 @@
 // What a line of text says, judged by the stick's rules: its keypad numbers, read by the one reader of lines.
+#![tactic(auto)]
+
 ghost use Rattle.std.specs.Prelude.{◌≡◌, min as lesser, take};
 ghost use Rattle.std.proofs.Math.Option.{none, some};
 ghost use Rattle.score_line.specs.LineFormat.{label_parts};
@@ -10,7 +12,7 @@ ghost use Rattle.text_content.specs.Judged.{judged_at, with_value, instr_numbers
 use score_line::{CONTROL, END, INSTR, Label, LineRead, MOST_VALUES, TEMPO};
 
 // The first 8 of some values, by their bits, and how many values there are; 9 stands for every number above 8.
-#[derive(Drop)]
+#[derive(Clone, Copy)]
 pub struct ValueBits {
     pub count: usize,
     pub bits: [u32; 8],

@@ -1,4 +1,6 @@
 // Texts decoded into a lent area of words, as scores are.
+#![tactic(auto)]
+
 ghost use Rattle.std.specs.Prelude.{◌≡◌, ◌*◌, ◌≤◌, length};
 ghost use Rattle.score_line.specs.LineFormat.{slot_words};
 ghost use Rattle.score_decoder.specs.Area.{area_words, laid, DecodesTo};

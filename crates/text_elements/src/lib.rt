@@ -1,4 +1,6 @@
 // The elements of a line of text, read at any position among bytes: spaces, the colon, words, names and numbers behind a gap.
+#![tactic(auto)]
+
 ghost use Rattle.std.specs.Prelude.{◌≡◌, ◌+◌, length, drop};
 ghost use Rattle.text_format.specs.inside.Reading.{gap_from, colon_from, word_from, next_name, next_number};
 ghost use Rattle.text_number_reader.specs.Results.{NumberAt, NameAt};
@@ -11,7 +13,7 @@ const SPACE: u8 = 32;
 const COLON: u8 = 58;
 
 // The position past what had to stand there.
-#[derive(Drop)]
+#[derive(Clone, Copy)]
 pub enum Passed {
     At(usize),
     Refused,

@@ -1,4 +1,6 @@
 // What stands behind the time of a line of text, to the end of the line: its event, and then what the stick's rules make of the line.
+#![tactic(auto)]
+
 ghost use Rattle.std.specs.Prelude.{◌≡◌, length, drop};
 ghost use Rattle.score_line.specs.LineFormat.{label_parts};
 ghost use Rattle.text_format.specs.inside.Reading.{values_from, instr_from, control_from, tempo_from, end_from, named_from, event_from};
@@ -20,7 +22,7 @@ pub const NAME_LETTER: u8 = 115;
 const TEMPO_LETTER: u8 = 116;
 
 // The values to the end of a line, if they stand there, and the position past it.
-#[derive(Drop)]
+#[derive(Clone, Copy)]
 struct Values {
     stand: bool,
     kept: ValueBits,
@@ -28,7 +30,7 @@ struct Values {
 }
 
 // What reading a line of text gives: whether a line stands there, what the stick's rules make of it, and the position past it.
-#[derive(Drop)]
+#[derive(Clone, Copy)]
 pub struct TextLineRead {
     pub stands: bool,
     pub read: LineRead,

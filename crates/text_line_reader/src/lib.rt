@@ -1,4 +1,6 @@
 // A line of text, read at any position among bytes, and then judged by the stick's rules.
+#![tactic(auto)]
+
 ghost use Rattle.std.specs.Prelude.{◌≡◌, drop};
 ghost use Rattle.text_format.specs.inside.Reading.{timed_from, body_from, line_from};
 ghost use Rattle.text_event_reader.specs.Results.{line_told};

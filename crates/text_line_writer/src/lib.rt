@@ -1,4 +1,6 @@
 // The text of a score line, put together piece by piece.
+#![tactic(auto)]
+
 ghost use Rattle.std.specs.Prelude.{◌≡◌, [], ◌∷◌, take};
 ghost use Rattle.std.proofs.Math.Option.{some, map};
 ghost use Rattle.text_numerals.specs.Numeral.{name_bytes};
@@ -22,7 +24,7 @@ const COLON: u8 = 58;
 const NEWLINE: u8 = 10;
 
 // A line's text as far as it is written, and whether each of its numbers has one.
-#[derive(Drop)]
+#[derive(Clone, Copy)]
 pub struct Draft {
     pub there: bool,
     pub text: LineText,

@@ -1,4 +1,6 @@
 // Numbers and names in text, read at any position among bytes. A result is what was read and the position past it.
+#![tactic(auto)]
+
 ghost use Rattle.std.specs.Prelude.{◌≡◌, ◌^◌, ◌<◌, ◌≤◌, drop};
 ghost use Rattle.text_numerals.specs.Numeral.{most_number, most_decimals, float_of};
 ghost use Rattle.text_numerals.specs.inside.Reading.{digits_from, decimals_from, unsigned_from, number_from, symbol_from, name_from};
@@ -23,20 +25,20 @@ const MOST_DECIMALS: usize = 3;
 // Symbols are below this.
 const SYMBOLS: u32 = 65536;
 
-#[derive(Drop)]
+#[derive(Clone, Copy)]
 pub enum NumberRead {
     Of(f32, usize),
     Refused,
 }
 
-#[derive(Drop)]
+#[derive(Clone, Copy)]
 pub enum NameRead {
     Of(u16, usize),
     Refused,
 }
 
 // The number that digits make, and how many they are.
-#[derive(Drop)]
+#[derive(Clone, Copy)]
 pub enum DigitsRead {
     Of(u32, usize, usize),
     Refused,

@@ -1,4 +1,6 @@
 // Numbers and names written as text: a float's shortest text, and bytes put behind each other in a line of text.
+#![tactic(auto)]
+
 ghost use Rattle.std.specs.Prelude.{◌≡◌, ◌<◌, ◌≤◌, ◌^◌, ◌+◌, ◌/◌, ◌%◌, min as lesser};
 ghost use Rattle.std.specs.Float.Ieee as Ieee;
 ghost use Rattle.text_numerals.specs.Numeral.{float_of, digit_bytes, lowest, width_of, decimal, sign_bytes, decimal_bytes, numeral_of, encoded, name_bytes};
@@ -7,21 +9,21 @@ ghost use Rattle.text_number_writer.specs.Push.{empty_text, pushed, push_all};
 ghost use Rattle.text_number_writer.specs.Answers.{TextIs, Around, LeastIs};
 
 // A number's text: all its digits as one number, and how many of them are decimals; or none.
-#[derive(Drop)]
+#[derive(Clone, Copy)]
 pub enum NumberText {
     Text(u32, u8),
     None,
 }
 
 // A line of text as it grows.
-#[derive(Drop)]
+#[derive(Clone, Copy)]
 pub struct LineText {
     pub bytes: [u8; 128],
     pub len: usize,
 }
 
 // The smallest number that reads as a float with so many decimals, or none.
-#[derive(Drop)]
+#[derive(Clone, Copy)]
 enum Found {
     Number(u32),
     None,

@@ -2,7 +2,7 @@
 -- for n below 2 ^ 24 and c at most 1,000. Assumes nothing.
 use Prim.Native.Nat.{ℕ, zero, suc, ◌+◌, ◌-◌, ◌*◌, ◌/◌, ◌%◌, ◌^◌, ◌≤◌, ◌<◌}
 use mathlib.Core.Path.{◌≡◌, refl, sym, ap, ◌∙◌, subst}
-use mathlib.Core.Bool.{Bool, true, ◌&&◌}
+use mathlib.Core.Bool.{Bool, true, false, ◌&&◌}
 use native.Mathlib.Nat.{le_trans, le_of_eq, le_of_suc-le-suc, lt_of_le_of_lt, lt_of_lt_of_le, lt_of_not-le, not-le_of_lt, zero-mul, mul-one, mul_assoc, mul-le-mul_left, mul-le-mul_right, mul-lt-mul_of_pos_right, lt_of_mul-lt-mul_right, le-div_iff_mul-le, suc-mul, mul-pos}
 use native.Mathlib.Omega.{arith}
 use lib.Dec.{T, lit≤, eqb, ltb, leb, ltb→lt, leb→le}
@@ -80,6 +80,10 @@ pub record Units (m : ℕ) (e : ℤ) : Type 0 where
   pub is : m * up e * 2 ^ 149 ≡ digits * 2 ^ shift * down e
 
 parts : (a b c d : Bool) → T (a && b && c && d) → T b × T c
+parts false b c d t = elim t [ ]
+parts true false c d t = elim t [ ]
+parts true true false d t = elim t [ ]
+parts true true true false t = elim t [ ]
 parts true true true true t = (tt, tt)
 
 meet : (k : ℕ) → suc k ≤ 149 → 149 - suc k + suc k ≡ 149

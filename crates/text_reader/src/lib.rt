@@ -1,4 +1,6 @@
 // Whole texts: 18 for the first line that is none, or else the first fault of a line, in one pass that stores no line.
+#![tactic(auto)]
+
 ghost use Rattle.std.specs.Prelude.{◌≡◌};
 ghost use Rattle.text_format.specs.inside.Reading.{text_of};
 ghost use Rattle.text_reader.specs.Texts.{text_told, bad_at, first_of, counted_to};
@@ -10,7 +12,7 @@ use score_reader::ScoreRead;
 const MOST_LINES: usize = 1048575;
 
 // What reading a whole text gives: the answer, the number of the line that it is about, and how many lines were taken.
-#[derive(Drop)]
+#[derive(Clone, Copy)]
 pub struct TextRead {
     pub answer: Answer,
     pub line: usize,

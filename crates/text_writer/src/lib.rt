@@ -1,4 +1,6 @@
 // Scores written as text, from an area of words, a slot to a line.
+#![tactic(auto)]
+
 ghost use Rattle.std.specs.Prelude.{◌≡◌, length};
 ghost use Rattle.score_writer.specs.Slots.{area_lines};
 ghost use Rattle.text_writer.specs.Writing.{text_from, left_text, TextDone};
@@ -9,7 +11,7 @@ use score_writer::{MOST_LINES, WriteResult};
 use text_number_writer::LineText;
 
 // How many bytes lines are written in, or the first that has no text.
-#[derive(Drop)]
+#[derive(Clone, Copy)]
 struct Measure {
     there: bool,
     line: usize,

@@ -1,6 +1,7 @@
 // Scores and units decoded on their own and written, and a line by value.
 use base_answer::Answer;
 use score_line::{Event, Label, Line, When};
+use std::io;
 
 const NO_ROOM: u64 = 255;
 
@@ -105,27 +106,31 @@ fn written(line: Line, out: &mut [u8]) -> u64 {
 }
 
 // Lines that no reading gives are written from values only.
-pub fn write_line_cases() {
+pub fn write_line_cases(rt: &HostRuntime) -> io::Result<()> {
     let mut whole = [0u8; 64];
     crate::told(
+        rt,
         b"write a line as a unit, end at beat 1",
         0,
         written(end_at(1.0), &mut whole),
-    );
+    )?;
     crate::told(
+        rt,
         b"write a line as a unit, -0 as a time",
         3,
         written(end_at(-0.0), &mut whole),
-    );
+    )?;
     crate::told(
+        rt,
         b"write a line as a unit, 9 values",
         5,
         written(nine_values(), &mut whole),
-    );
+    )?;
     let mut four = [0u8; 4];
     crate::told(
+        rt,
         b"write a line as a unit, 4 bytes",
         8,
         written(end_at(1.0), &mut four),
-    );
+    )
 }

@@ -2,7 +2,7 @@
 use crate::text;
 use crate::text::Head;
 
-#[derive(Drop)]
+#[derive(Clone, Copy)]
 pub enum Call {
     Piece,
     Fresh,

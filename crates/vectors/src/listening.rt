@@ -1,7 +1,7 @@
 // How many of the next 300 cycles are silent before the first that sounds, and how many sound.
 use panel::Panel;
 
-#[derive(Drop)]
+#[derive(Clone, Copy)]
 pub struct Heard {
     panel: Panel,
     pub silent: u64,

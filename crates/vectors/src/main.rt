@@ -1,5 +1,7 @@
 // The checked values that a program runs, and every refusal, through the public calls. Each line of the input is a case, and each
 // with a title is told with what was expected and what came.
+#![tactic(auto)]
+
 mod areas;
 mod calls;
 mod listening;
@@ -9,57 +11,67 @@ mod settings;
 mod text;
 
 use session::Session;
+use std::io;
 use text::Tail;
 
-fn told(title: &[u8], expected: u64, got: u64) {
-    io::write_all(1, title);
-    io::write_all(1, b": expected ");
-    io::print_decimal(1, expected);
-    io::write_all(1, b", got ");
-    io::print_decimal(1, got);
-    io::write_all(1, b"\n");
+const ROOM: usize = 65536;
+
+fn told(rt: &HostRuntime, title: &[u8], expected: u64, got: u64) -> io::Result<()> {
+    rt.write_all(title)?;
+    println!(rt; ": expected {expected}, got {got}")
 }
 
-fn told_from(text: &[u8], from: usize, end: usize, expected: u64, got: u64) {
+fn told_from(
+    rt: &HostRuntime,
+    text: &[u8],
+    from: usize,
+    end: usize,
+    expected: u64,
+    got: u64,
+) -> io::Result<()> {
     if from <= end && end <= text.len() {
-        told(&text[from..end], expected, got);
+        told(rt, &text[from..end], expected, got)?;
     }
+    Ok(())
 }
 
 // By its title; a line that has none only prepares, and is told, whole, where something else came.
-fn reported(text: &[u8], at: usize, t: Tail, got: u64) {
+fn reported(rt: &HostRuntime, text: &[u8], at: usize, t: Tail, got: u64) -> io::Result<()> {
     if t.title < t.end {
-        told_from(text, t.title, t.end, t.expected, got);
-    } else if got != t.expected {
-        told_from(text, at, t.end, t.expected, got);
+        return told_from(rt, text, t.title, t.end, t.expected, got);
     }
+    if got != t.expected {
+        return told_from(rt, text, at, t.end, t.expected, got);
+    }
+    Ok(())
 }
 
-fn case_at(text: &[u8], at: usize, d: Session) -> Session {
+fn case_at(rt: &HostRuntime, text: &[u8], at: usize, d: Session) -> io::Result<Session> {
     let mut numbers = [0u32; 512];
     let h = text::head_at(text, at);
     let t = text::tail_at(text, h, &mut numbers);
     let after = session::carried_out(d, text, h, &numbers, t.count);
-    reported(text, at, t, after.got);
-    after
+    reported(rt, text, at, t, after.got)?;
+    Ok(after)
 }
 
-fn run(text: &[u8]) {
+fn run(rt: &HostRuntime, text: &[u8]) -> io::Result<()> {
     let mut d = session::bare();
     let mut at: usize = 0;
     let mut left = text.len();
     while left > 0 {
         if !text::is_remark(text, at) {
-            d = case_at(text, at, d);
+            d = case_at(rt, text, at, d)?;
         }
         at = text::next_line(text, at);
         left -= 1;
     }
+    Ok(())
 }
 
-fn main() {
-    let mut text = io::large_buffer();
-    io::read_full(0, &mut text);
-    run(&text);
-    areas::write_line_cases();
+fn main(rt: HostRuntime) -> io::Result<()> {
+    let mut text = [0u8; ROOM];
+    program_io::read_full(&mut rt.stdin(), &mut text);
+    run(&rt, &text)?;
+    areas::write_line_cases(&rt)
 }

@@ -10,7 +10,7 @@ use base_timebase::Checked;
 use panel::Panel;
 
 // A fresh panel of the piece and the settings area that its start left, both as the last call left them, and the number that came of it.
-#[derive(Drop)]
+#[derive(Clone, Copy)]
 pub struct Session {
     fresh: Panel,
     begun: Area,
@@ -189,7 +189,7 @@ fn unit(d: Session, bytes: &[u8]) -> Session {
 }
 
 // A burst, with an answer area of so many places: its own answer, and the places as they are left.
-#[derive(Drop)]
+#[derive(Clone, Copy)]
 struct Outcome {
     panel: Panel,
     answer: u64,

@@ -9,14 +9,14 @@ pub const LONGEST: usize = 8192;
 const MARK: u8 = 90;
 
 // Its bytes, and how many of them are lent.
-#[derive(Drop)]
+#[derive(Clone, Copy)]
 pub struct Area {
     bytes: [u8; LONGEST],
     lent: usize,
 }
 
 // What a call leaves that is lent the area.
-#[derive(Drop)]
+#[derive(Clone, Copy)]
 pub struct Called {
     pub panel: Panel,
     pub area: Area,

@@ -10,7 +10,7 @@ fn byte_at(text: &[u8], at: usize) -> u8 {
 }
 
 fn after(at: usize) -> usize {
-    std::num::wrapping_add_usize(at, 1)
+    at.wrapping_add(1)
 }
 
 fn ends_line(b: u8) -> bool {
@@ -104,7 +104,7 @@ fn word_of(n: u64) -> u32 {
 }
 
 // A decimal number and the place behind it.
-#[derive(Drop)]
+#[derive(Clone, Copy)]
 struct Number {
     value: u64,
     next: usize,
@@ -132,7 +132,7 @@ fn behind(text: &[u8], at: usize, sign: u8, otherwise: u64) -> Number {
 // ---- a line
 
 // The numbers of a line so far: how many, and the place behind the last.
-#[derive(Drop)]
+#[derive(Clone, Copy)]
 struct Filled {
     count: usize,
     next: usize,
@@ -250,7 +250,7 @@ fn numbers_at(text: &[u8], at: usize, numbers: &mut [u32; 512]) -> Filled {
 }
 
 // How a line begins: whether it goes on with the panel that the line before left, how often the call is made, where its name stands.
-#[derive(Drop)]
+#[derive(Clone, Copy)]
 pub struct Head {
     pub goes_on: bool,
     pub times: u32,
@@ -298,7 +298,7 @@ pub fn head_at(text: &[u8], at: usize) -> Head {
 }
 
 // How a line ends: its numbers' count, what is expected, and where its title stands.
-#[derive(Drop)]
+#[derive(Clone, Copy)]
 pub struct Tail {
     pub count: usize,
     pub expected: u64,
@@ -328,7 +328,7 @@ pub fn is_name(text: &[u8], h: Head, name: &[u8]) -> bool {
     let from = h.from;
     let mut i: usize = 0;
     while i < n {
-        if byte_at(text, std::num::wrapping_add_usize(from, i)) != name[i] {
+        if byte_at(text, from.wrapping_add(i)) != name[i] {
             return false;
         }
         i += 1;

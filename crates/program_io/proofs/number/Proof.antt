@@ -3,8 +3,8 @@ use Rattle.program_io.proofs.Reading.{Digits, digits-start, digits-end, low-stop
 use Rattle.program_io.proofs.number.Statement.{statement}
 use Rattle.program_io.proofs.number.Tie as tie
 
-pub number-spec : {M : Type 1} → statement M
-number-spec =
+pub number_spec : {M : Type 1} → statement M
+number_spec =
     tie.close (tie.spec
     (λ text n₀ i₀ n i. Digits text n i) (λ text n₀ i₀ n i. length text - i)
     (λ c. search digits-start)

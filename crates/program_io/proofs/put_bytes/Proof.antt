@@ -3,8 +3,8 @@ use Rattle.program_io.proofs.Putting.{Putting, itself, starts, again, same_size,
 use Rattle.program_io.proofs.put_bytes.Statement.{statement}
 use Rattle.program_io.proofs.put_bytes.Tie as tie
 
-pub put-bytes-spec : {M : Type 1} → statement M
-put-bytes-spec =
+pub put_bytes_spec : {M : Type 1} → statement M
+put_bytes_spec =
     tie.close (tie.spec
     (λ out₀ at s next₀ i₀ out next i. Putting itself s out₀ at out next i) (λ out₀ at s next₀ i₀ out next i. length s - i)
     (λ c. search starts)

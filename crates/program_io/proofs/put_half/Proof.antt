@@ -4,8 +4,8 @@ use Rattle.program_io.proofs.Putting.{put-put}
 use Rattle.program_io.proofs.put_half.Statement.{statement}
 use Rattle.program_io.proofs.put_half.Tie as tie
 
-pub put-half-spec : {M : Type 1} → statement M
-put-half-spec =
+pub put_half_spec : {M : Type 1} → statement M
+put_half_spec =
     tie.close (tie.spec
     (λ c. search rules) (λ c κs. search rules) (λ c. search rules) (λ c κs. search rules) (λ c. search rules)
     (λ c. search (put-put, big-half, rules)))

@@ -1,0 +1,27 @@
+use Rattle.std.proofs.Common.{◌∙◌}
+use lib.Ieee.{of_bits}
+use Rattle.base_timebase.proofs.Ranges.{no_nan, tempo-outside, tempo-is, tempo-slow, in-range, out_of_range}
+use Rattle.base_timebase.proofs.tempo_of.Goals as goal
+
+pub returns-then-b-gt2139095040 : goal.returns-then-b-gt2139095040
+returns-then-b-gt2139095040 c =
+    out_of_range _ _ (tempo-outside _ c.if-b-gt2139095040.true)
+
+pub float_from_bits-x : goal.float_from_bits-x
+float_from_bits-x c =
+    no_nan _ c.if-b-gt2139095040.false
+
+pub returns-then-x-2 : goal.returns-then-x-2
+unfolding of_bits
+returns-then-x-2 c =
+    in-range _ _ (tempo-is _ c.if-x.true ∙ c.if-x-2.true)
+
+pub returns-else-x-2 : goal.returns-else-x-2
+unfolding of_bits
+returns-else-x-2 c =
+    out_of_range _ _ (tempo-is _ c.if-x.true ∙ c.if-x-2.false)
+
+pub returns-else-x : goal.returns-else-x
+unfolding of_bits
+returns-else-x c =
+    out_of_range _ _ (tempo-slow _ c.if-x.false)

@@ -1,9 +1,0 @@
-use Rattle.orchestra_lexer.proofs.Standing.{four_is}
-use borrow.Author.Rules.{rules}
-use Rattle.orchestra_lexer.proofs.four_at.Statement.{statement}
-use Rattle.orchestra_lexer.proofs.four_at.Tie as tie
-
-pub four-at-spec : {M : Type 1} → statement M
-four-at-spec =
-    tie.close (tie.spec
-    (λ c κs. search rules) (λ c. search rules) (λ c κs. search rules) (λ c. search rules) (λ c. search rules) (λ c. search four_is))

@@ -1,0 +1,7 @@
+use borrow.Author.Rules.{rules}
+use Rattle.panel.proofs.Entering.{changes}
+use Rattle.panel.proofs.Core.change.Goals as goal
+
+pub returns : goal.returns
+returns c =
+    let e = c.change_unless_ended-r.ensures in record { panel = changes _ _ _ _ e.settings; area = e.area }

@@ -1,0 +1,7 @@
+use borrow.Author.Rules.{rules}
+use Rattle.player_calls.proofs.Calling.{brings}
+use Rattle.player_calls.proofs.submit.Goals as goal
+
+pub returns : goal.returns
+returns c =
+    brings _ _ _ _ _ c.submit-r.ensures

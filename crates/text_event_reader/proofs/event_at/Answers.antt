@@ -1,0 +1,23 @@
+use borrow.Author.Rules.{rules}
+use Rattle.text_event_reader.proofs.EventReaders.{event-name, event-named, event-control, event-tempo, event-end}
+use Rattle.text_event_reader.proofs.event_at.Goals as goal
+
+pub returns-in_default : goal.returns-in_default
+returns-in_default c =
+    search event-name
+
+pub returns-then-starts_with : goal.returns-then-starts_with
+returns-then-starts_with c =
+    search event-named
+
+pub returns-then-starts_with-2 : goal.returns-then-starts_with-2
+returns-then-starts_with-2 c =
+    search event-control
+
+pub returns-then-starts_with-3 : goal.returns-then-starts_with-3
+returns-then-starts_with-3 c =
+    search event-tempo
+
+pub returns : goal.returns
+returns c =
+    search event-end

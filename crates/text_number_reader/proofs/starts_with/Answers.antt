@@ -1,0 +1,11 @@
+use borrow.Author.Rules.{rules}
+use Rattle.text_number_reader.proofs.Bytes.{starts-here, starts-past}
+use Rattle.text_number_reader.proofs.starts_with.Goals as goal
+
+pub returns-then-at-s : goal.returns-then-at-s
+returns-then-at-s c =
+    search starts-here
+
+pub returns : goal.returns
+returns c =
+    search starts-past

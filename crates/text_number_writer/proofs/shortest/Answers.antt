@@ -1,0 +1,21 @@
+use borrow.Author.Rules.{rules}
+use Prim.Native.Nat.{◌-◌}
+use native.Mathlib.Omega.{arith}
+use Rattle.text_number_writer.proofs.ShortestText.{Looked, start, on, done, never}
+use Rattle.text_number_writer.proofs.shortest.Goals as goal
+
+pub loop-d-init : goal.loop-d-init
+loop-d-init c =
+    search start
+
+pub returns-in-Number : goal.returns-in-Number
+returns-in-Number c =
+    search done
+
+pub loop-d-preserved : goal.loop-d-preserved
+loop-d-preserved c =
+    search on
+
+pub returns : goal.returns
+returns c =
+    search never

@@ -1,0 +1,25 @@
+use borrow.Author.Rules.{rules}
+use Prim.Native.Nat.{◌-◌}
+use Rattle.text_format.specs.Content.{most_lines}
+use Rattle.text_reader.proofs.LineLoop.{Reading, starts, too_many, stops, again, ends}
+use Rattle.text_reader.proofs.read_text.Goals as goal
+
+pub loop-at-init : goal.loop-at-init
+loop-at-init c =
+    search starts
+
+pub returns-then-i-ge-MOST_LINES : goal.returns-then-i-ge-MOST_LINES
+returns-then-i-ge-MOST_LINES c =
+    search too_many
+
+pub returns-else-l : goal.returns-else-l
+returns-else-l c =
+    search stops
+
+pub loop-at-preserved : goal.loop-at-preserved
+loop-at-preserved c =
+    search again
+
+pub returns : goal.returns
+returns c =
+    search ends

@@ -1,8 +1,0 @@
-use Rattle.std.proofs.Common.{arith, length-take, rules}
-use Rattle.vectors.proofs.naming.unpack.Statement.{statement}
-use Rattle.vectors.proofs.naming.unpack.Tie as tie
-
-pub unpack-spec : {M : Type 1} → statement M
-unpack-spec =
-    tie.close (tie.spec
-    (λ c. search rules) (λ c. simp length-take (omega arith)) (λ c κs. search rules) (λ c κs. search rules) (λ c κs. search rules) (λ c. search rules) (λ c. search rules))

@@ -1,8 +1,0 @@
-use Rattle.std.proofs.Common.{arith, length-take, rules}
-use Rattle.vectors.proofs.settings.undo_in.Statement.{statement}
-use Rattle.vectors.proofs.settings.undo_in.Tie as tie
-
-pub undo-in-spec : {M : Type 1} → statement M
-undo-in-spec =
-    tie.close (tie.spec
-    (λ c. simp length-take (omega arith)) (λ c κs. search rules) (λ c. search rules) (λ c κs. search rules) (λ c. search rules))
