@@ -4,7 +4,7 @@
     .ci/check_documents.py        a line for each thing that is not so; ends with status 1 where there is one
 
 - An edit's `old:` text stands exactly once in its file, after the pairs before it.
-- Every edit, of the gate or of must-fail/more/, is named in docs/PROMISES.md behind *edit* or *edits*, every edit named there exists, and of those in a row the gate tries one
+- Every edit is named in docs/PROMISES.md behind *edit* or *edits*, every edit named there exists, and of those in a row the gate tries one
   at least. A crate in brackets holds for all names since the last bracket; a name that several crates have, without a bracket, is of the crate that was named last.
 - Every `crate: name` of PROMISES.md is declared in that crate's specs/ or proofs/, every `crate::name` in its src/, and every other name in backticks in some crate.
 - The table in docs/DECISIONS.md has exactly the public functions that have a `requires`.

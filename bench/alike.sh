@@ -1,7 +1,7 @@
 #!/bin/sh
 # The demo by the panel and by an independent decoder, Debian's sfront (SAOL to C): how far the samples lie apart, in
 # steps of 16 bits. Needs python3, sfront and gcc.
-#   bench/alike.sh        after 'rt check play'
+#   bench/alike.sh        after bin/build
 set -eu
 here=$(cd "$(dirname "$0")" && pwd)
 work=$(mktemp -d)

@@ -1,9 +1,9 @@
 #!/bin/sh
 # Machine instructions per note and sample by callgrind, and how many times faster than real time by the processor's time
 # (the best of three), which a loaded machine changes little.
-#   bench/run.sh             after 'rt check bench play': the panel's bench (16 notes, 1,000 cycles), a tone of 10 operators by
+#   bench/run.sh             after `rt run` in crates/bench and crates/play: the panel's bench (16 notes, 1,000 cycles), a tone of 10 operators by
 #                            the play program, and the same tone as bench's through Debian's sfront (SAOL to C, gcc -O2)
-#   bench/run.sh scores      after 'rt check bench_scores': the same score read as bits and as text, in bytes a second, and the longest symbol
+#   bench/run.sh scores      after `rt run` in crates/bench_scores: the same score read as bits and as text, in bytes a second, and the longest symbol
 #                            table unpacked and asked for its last name, in milliseconds
 #   bench/run.sh pieces [PLAY]   each piece of pieces.py by the play program (or by another, to compare) and by sfront; what a
 #                            panel, or sfront's program, does without notes is taken off the instructions, not off the times
@@ -12,7 +12,7 @@ set -eu
 here=$(cd "$(dirname "$0")" && pwd)
 work=$(mktemp -d)
 trap 'rm -rf "$work"' EXIT
-play=${2:-$here/../target/bin/play}
+play=${2:-$here/../crates/play/out/play}
 
 # instructions PROGRAM ARGS..: all of them.
 instructions() {
@@ -81,10 +81,10 @@ scores() {
     python3 "$here/scores.py" "$work"
     for kind in bits text; do
         case $kind in text) word=text ;; *) word= ;; esac
-        awk -v n="$kind" -v bytes="$(wc -c <"$work/score.$kind")" -v us="$(best sh -c "'$here/../target/bin/bench_scores' $word <'$work/score.$kind'")" 'BEGIN {
+        awk -v n="$kind" -v bytes="$(wc -c <"$work/score.$kind")" -v us="$(best sh -c "'$here/../crates/bench_scores/out/bench_scores' $word <'$work/score.$kind'")" 'BEGIN {
             printf "%-8s %9d bytes, %7.1f MB a second\n", n, bytes, 30 * bytes / us }'
     done
-    awk -v bytes="$(wc -c <"$work/score.names")" -v us="$(best sh -c "'$here/../target/bin/bench_scores' a name <'$work/score.names'")" 'BEGIN {
+    awk -v bytes="$(wc -c <"$work/score.names")" -v us="$(best sh -c "'$here/../crates/bench_scores/out/bench_scores' a name <'$work/score.names'")" 'BEGIN {
         printf "%-8s %9d bytes, %7.2f ms to unpack 65,535 names and ask for the last\n", "names", bytes, us / 30000 }'
 }
 
@@ -98,7 +98,7 @@ if [ "${1:-}" = scores ]; then
     exit
 fi
 
-counted panel "$here/../target/bin/bench"
+counted panel "$here/../crates/bench/out/bench"
 
 cp "$here/saw.orc" "$here/saw.sco" "$work"
 cd "$work"

@@ -80,7 +80,7 @@ def meaning(number: int) -> str:
 
 def program() -> str:
     """Where `replay` stands: in the build, unless the environment names another."""
-    return os.environ.get("REPLAY") or os.path.join(ROOT, "target", "bin", "replay")
+    return os.environ.get("REPLAY") or os.path.join(ROOT, "crates", "replay", "out", "replay")
 
 
 class Panel:

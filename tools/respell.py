@@ -6,7 +6,7 @@
 - A word that begins small and has a capital inside, as `keypadLine`, becomes `keypad_line`; of a lemma's name each part, as in `length-bits_of`.
 - Where that meets a lemma that port.py gave an underscore, the lemma keeps its dash (KEEP_DASH).
 - `panel_claims/specs/Contracts` becomes ByContract: rt makes a module `specs.contracts`.
-Functions, strings and characters of src/ stay. In .edit files and in documents the words in code turn too.
+Functions, strings and characters of src/ stay; edits and documents were turned beside it.
 """
 import glob
 import os
