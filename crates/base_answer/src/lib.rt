@@ -62,5 +62,64 @@ pub fn number(a: Answer) -> u8
 pub fn is_taken(a: Answer) -> bool
     ensures { result ≡ is_taken a }
 {
-    number(a) == 0
+    matches!(a, Answer::Taken)
+}
+
+// What a call leaves, and its answer.
+#[derive(Clone, Copy)]
+pub struct Answered<S> {
+    pub left: S,
+    pub answer: Answer,
+}
+
+// What a call at an entrance leaves; `line` is the number of the line that a refusal is about.
+#[derive(Clone, Copy)]
+pub struct AnsweredLine<S> {
+    pub left: S,
+    pub answer: Answer,
+    pub line: usize,
+}
+
+// What a burst leaves; `units` is how many of its units were answered.
+#[derive(Clone, Copy)]
+pub struct AnsweredUnits<S> {
+    pub left: S,
+    pub answer: Answer,
+    pub units: usize,
+}
+
+impl<S> Answered<S> {
+    // The same answer of a call that leaves something else.
+    pub fn leaving<T>(&self, left: T) -> Answered<T>
+        ensures { result ≡ record { left = left; answer = self.now.answer } }
+    {
+        let answer = self.answer;
+        Answered { left, answer }
+    }
+}
+
+impl<S> AnsweredLine<S> {
+    // The same answer of a call that leaves something else.
+    pub fn leaving<T>(&self, left: T) -> AnsweredLine<T>
+        ensures { result ≡ record { left = left; answer = self.now.answer; line = self.now.line } }
+    {
+        AnsweredLine {
+            left,
+            answer: self.answer,
+            line: self.line,
+        }
+    }
+}
+
+impl<S> AnsweredUnits<S> {
+    // The same answer of a call that leaves something else.
+    pub fn leaving<T>(&self, left: T) -> AnsweredUnits<T>
+        ensures { result ≡ record { left = left; answer = self.now.answer; units = self.now.units } }
+    {
+        AnsweredUnits {
+            left,
+            answer: self.answer,
+            units: self.units,
+        }
+    }
 }

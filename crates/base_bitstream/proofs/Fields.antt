@@ -14,7 +14,8 @@ use Rattle.base_laws.proofs.Choice.{both_true}
 use Rattle.base_bitstream.specs.Bits.{field, bits_of, value_of}
 use Rattle.base_bitstream.specs.Fields.{farthest, put, over, pick, room_for, read_at, number_of, EveryNumber}
 use Rattle.base_bitstream.specs.inside.Fields.{Room, written}
-use Rattle.base_bitstream.specs.declared.FieldRead.TheVariants.{Value, Short}
+use Rattle.std.specs.Prelude.{Some, None}
+use Rattle.std.proofs.lemmas.Option.{same_Some, none-some}
 use Rattle.base_bitstream.proofs.BitValues.{length-field, value_of-field, field-value_of, value_of-lt, length-bits_of}
 
 -- ---- room
@@ -52,7 +53,7 @@ room_back bits at n e =
 
 -- where a field stands, it is read, and what follows it follows
 pub read_here : (l : List Bool) (at n v : ℕ) (rest : List Bool) → length l ≤ farthest → 0 < n → n ≤ 32 → v < 2 ^ n → drop at l ≡ put n v rest
-    → (read_at l at n ≡ Value v (at + n)) × (drop (at + n) l ≡ rest)
+    → (read_at l at n ≡ Some (v, at + n)) × (drop (at + n) l ≡ rest)
 unfolding read_at
 read_here l at n v rest hl hn hw hv e =
     let k = length-field n v in
@@ -68,19 +69,19 @@ pub record Read (l : List Bool) (at n v p : ℕ) : Type 0 where
   pub value : v ≡ value_of (take n (drop at l))
   pub here : drop at l ≡ put n v (drop p l)
 
-pub read_back : (l : List Bool) (at n v p : ℕ) → read_at l at n ≡ Value v p → Read l at n v p
+pub read_back : (l : List Bool) (at n v p : ℕ) → read_at l at n ≡ Some (v, p) → Read l at n v p
 unfolding read_at
 read_back l at n v p e =
     cases (room_for (length l) at n)
     (λ f.
     let h = (room_back (length l) at n f).within in
     let t = take n (drop at l) in
-    let r : Value (value_of t) (at + n) ≡ Value v p = sym (rw f) ∙ e in
-    let vv : value_of t ≡ v = cc in
-    let pp : p ≡ at + n = cc in
+    let r : (value_of t, at + n) ≡ (v, p) = same_Some _ _ (sym (rw f) ∙ e) in
+    let vv : value_of t ≡ v = ap (λ (x : ℕ × ℕ). x.0) r in
+    let pp : p ≡ at + n = sym (ap (λ (x : ℕ × ℕ). x.1) r) in
     let k : length t ≡ n = length-take-le n (drop at l) (rw length-drop (omega arith)) in
     record { next = pp; room = h; value = sym vv; small = rw (k, vv) at (value_of-lt t); here = cc (take-append-drop n (drop at l), field-value_of t, drop-drop n at l) })
-    (λ f. let r : Short ≡ Value v p = sym (rw f) ∙ e in let z : ◌≡◌ {A = ℕ} 0 1 = cc in absurd (omega arith))
+    (λ f. absurd (none-some (v, p) (sym (rw f) ∙ e)))
 
 -- ---- writing
 
@@ -160,12 +161,12 @@ bits_of-drop (suc k) (b ∷ s) =
 pub room-found : {b : Bool} (s : List ℕ) (at n : ℕ) → b ≡ room_for (8 * length s) at n → b ≡ true → Room (8 * length s) at n
 room-found s at n e f = room_back (8 * length s) at n (sym e ∙ f)
 
-pub read_none : {b : Bool} (s : List ℕ) (at n : ℕ) → b ≡ room_for (8 * length s) at n → b ≡ false → Short ≡ read_at (bits_of s) at n
+pub read_none : {b : Bool} (s : List ℕ) (at n : ℕ) → b ≡ room_for (8 * length s) at n → b ≡ false → None ≡ read_at (bits_of s) at n
 unfolding read_at
 read_none s at n e f = sym (rw (length-bits_of s, sym e ∙ f))
 
 pub read_some : {b : Bool} (s : List ℕ) (at n v : ℕ) → b ≡ room_for (8 * length s) at n → b ≡ true → v ≡ value_of (take n (drop at (bits_of s)))
-    → Value v (at + n) ≡ read_at (bits_of s) at n
+    → Some (v, at + n) ≡ read_at (bits_of s) at n
 unfolding read_at
 read_some s at n v e f g = sym (rw (length-bits_of s, sym e ∙ f, g))
 
@@ -182,6 +183,6 @@ pub every-number : EveryNumber
 unfolding read_at
 every-number l at n = go (room_for (length l) at n)
   where
-    go : (b : Bool) → number_of (pick b (Value (value_of (take n (drop at l))) (at + n)) Short) ≡ pick b 0 1
+    go : (b : Bool) → number_of (pick b (Some (value_of (take n (drop at l)), at + n)) None) ≡ pick b 0 1
     go true = refl
     go false = refl

@@ -1,8 +1,6 @@
 -- Fields at a position of a list of bits. Definitions and a statement only.
-use Rattle.std.specs.Prelude.{ℕ, ◌+◌, ◌^◌, ◌≡◌, Bool, true, false, ◌&&◌, List, ◌++◌, length, take, drop, leb}
+use Rattle.std.specs.Prelude.{ℕ, ◌+◌, ◌^◌, ◌≡◌, Bool, true, false, ◌&&◌, List, ◌++◌, length, take, drop, leb, Option, Some, None}
 use Rattle.base_bitstream.specs.Bits.{field, value_of}
-use Rattle.base_bitstream.specs.declared.FieldRead.{FieldRead}
-use Rattle.base_bitstream.specs.declared.FieldRead.TheVariants.{Value, Short}
 
 -- the last position at which a field may begin: one past it still has a number of 64 bits
 abbrev pub farthest : ℕ
@@ -24,14 +22,14 @@ abbrev pub pick : {A : Type 0} → Bool → A → A → A
 pick true a b = a
 pick false a b = b
 
--- n bits from a position on: their number and the position past them, or `Short` where the list has no such field
-unfoldable pub read_at : List Bool → ℕ → ℕ → FieldRead
-read_at l at n = pick (room_for (length l) at n) (Value (value_of (take n (drop at l))) (at + n)) Short
+-- n bits from a position on: their number and the position past them, or none where the list has no such field
+unfoldable pub read_at : List Bool → ℕ → ℕ → Option (ℕ × ℕ)
+read_at l at n = pick (room_for (length l) at n) (Some (value_of (take n (drop at l)), at + n)) None
 
 -- document 01's number of each case: 0, or 1 where the bits end before the field is whole
-abbrev pub number_of : FieldRead → ℕ
-number_of (Value v p) = 0
-number_of Short = 1
+abbrev pub number_of : Option (ℕ × ℕ) → ℕ
+number_of (Some r) = 0
+number_of None = 1
 
 abbrev pub EveryNumber : Type 0
 EveryNumber = (l : List Bool) (at n : ℕ) → number_of (read_at l at n) ≡ pick (room_for (length l) at n) 0 1

@@ -10,13 +10,6 @@ ghost use Rattle.base_bitstream.specs.Filling.{filled};
 // The last position at which a field may begin.
 const FARTHEST: usize = 0x4000_0000_0000_0000;
 
-// What reading a field gives: its number and the position past it.
-#[derive(Clone, Copy)]
-pub enum FieldRead {
-    Value(u32, usize),
-    Short,
-}
-
 // Whether that many bytes have a field of n bits at a position.
 pub fn has_room(bytes: usize, at: usize, n: usize) -> bool
     ensures { result ≡ room_for (8 * bytes) at n }
@@ -45,23 +38,21 @@ fn value_at(s: &[u8], at: usize, n: usize) -> u32
     let q = at / 8;
     let k = (at % 8 + n + 7) / 8;
     let mut w: u64 = 0;
-    let mut i: usize = 0;
-    while i < k {
+    for i in 0..k {
         w = w * 256 + s[q + i] as u64;
-        i += 1;
     }
     low_bits(w >> (8 * k - at % 8 - n), n)
 }
 
-// A field of n bits at a position.
-pub fn read(s: &[u8], at: usize, n: usize) -> FieldRead
+// A field of n bits at a position, and the position past it; none where the bits end before it is whole.
+pub fn read(s: &[u8], at: usize, n: usize) -> Option<(u32, usize)>
     ensures { result ≡ read_at (bits_of s.now) at n }
 {
     if has_room(s.len(), at, n) {
         let next = at + n;
-        return FieldRead::Value(value_at(s, at, n), next);
+        return Some((value_at(s, at, n), next));
     }
-    FieldRead::Short
+    None
 }
 
 // Whether fewer than 8 bits are left from a position on, all of them zero.
@@ -115,10 +106,8 @@ fn put_field(s: &mut [u8], at: usize, n: usize, v: u32)
     requires { Room (8 * length s.old) at n }
     ensures { bits_of s.new ≡ over (bits_of s.old) at (field n v) }
 {
-    let mut i: usize = 0;
-    while i < n {
+    for i in 0..n {
         put_bit(s, at + i, v, n - 1 - i);
-        i += 1;
     }
 }
 

@@ -173,7 +173,7 @@ fn size(y: f32, limit: u16) -> u16
 fn capped(ceiling: u16) -> u16
     ensures { result ≡ lesser ceiling 32767 }
 {
-    if ceiling < 32767 { ceiling } else { 32767 }
+    ceiling.min(32767)
 }
 
 // The sample of x: 16 bits, held between -ceiling and ceiling.

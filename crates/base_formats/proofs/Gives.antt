@@ -2,13 +2,13 @@
 use Prim.Native.Nat.{ℕ, ◌^◌, ◌<◌, ◌≤◌}
 use mathlib.Core.Path.{◌≡◌}
 use mathlib.Core.List.{List, [], ◌∷◌}
-use Rattle.base_bitstream.specs.declared.FieldRead.TheVariants.{Value}
+use Rattle.std.specs.Prelude.{Some}
 use Rattle.base_formats.specs.Format.{Source, Read, got, Field, of}
 
 -- the source gives v in that width, and what follows holds at the position past it
 pub record Step (s : Source) (width v at : ℕ) (Rest : ℕ → Type 0) : Type 0 where
   pub next : ℕ
-  pub reads : s width at ≡ Value v next
+  pub reads : s width at ≡ Some (v, next)
   pub then : Rest next
 
 -- a width that a source can give, and that holds the number
@@ -30,4 +30,4 @@ pub record Found {A : Type 0} (x : Read A) (a : A) (Rest : ℕ → Type 0) : Typ
 
 -- every number of 32 bits that the source gives is below 2 ^ 32
 abbrev pub Bounded : Source → Type 0
-Bounded s = (at v p : ℕ) → s 32 at ≡ Value v p → v < 2 ^ 32
+Bounded s = (at v p : ℕ) → s 32 at ≡ Some (v, p) → v < 2 ^ 32

@@ -9,7 +9,7 @@ use lib.ListN.{length, take, drop, length-append, length-drop}
 use lib.Seq.{take_at, drop_at, drop-drop}
 use Rattle.base_bitstream.specs.Bits.{field, value_of}
 use Rattle.base_bitstream.specs.Fields.{put, farthest, read_at}
-use Rattle.base_bitstream.specs.declared.FieldRead.TheVariants.{Value}
+use Rattle.std.specs.Prelude.{Some}
 use Rattle.base_bitstream.proofs.BitValues.{length-field, value_of-field}
 use Rattle.base_bitstream.proofs.Fields.{room-yes, read_back}
 use Rattle.base_formats.specs.Format.{bit_source, Field, of, field_bits}
@@ -26,7 +26,7 @@ Small (of w v ∷ fs) = Fits w v × Small fs
 drop-field : (l : List Bool) (at n v : ℕ) (rest : List Bool) → drop at l ≡ put n v rest → drop (at + n) l ≡ rest
 drop-field l at n v rest e = sym (drop-drop n at l) ∙ ap (drop n) e ∙ drop_at (field n v) rest n (length-field n v)
 
-read-near : (l : List Bool) (at n v : ℕ) (rest : List Bool) → at ≤ farthest → Fits n v → drop at l ≡ put n v rest → read_at l at n ≡ Value v (at + n)
+read-near : (l : List Bool) (at n v : ℕ) (rest : List Bool) → at ≤ farthest → Fits n v → drop at l ≡ put n v rest → read_at l at n ≡ Some (v, at + n)
 unfolding read_at
 read-near l at n v rest near f e =
     let len : length l - at ≡ n + length rest = sym (length-drop at l) ∙ ap length e ∙ length-append (field n v) rest ∙ ap (λ (k : ℕ). k + length rest) (length-field n v) in

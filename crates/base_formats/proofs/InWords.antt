@@ -11,7 +11,8 @@ use lib.Dec.{ltb}
 use lib.ListN.{length, get_or, drop, length-drop}
 use lib.Seq.{drop-drop, drop-cons, get_or-drop}
 use Rattle.base_bitstream.specs.Fields.{pick}
-use Rattle.base_bitstream.specs.declared.FieldRead.TheVariants.{Value, Short}
+use Rattle.std.specs.Prelude.{Option, Some, None}
+use Rattle.std.proofs.lemmas.Option.{same_Some, none-some}
 use Rattle.base_formats.specs.Format.{keypad_source, Field, of, field_words}
 use Rattle.base_formats.proofs.Gives.{Gives, Bounded}
 use Rattle.base_formats.proofs.InBits.{Small}
@@ -22,13 +23,15 @@ record Next (words : List ℕ) (at v p : ℕ) : Type 0 where
   value : get_or words at 0 ≡ v
   past : p ≡ at + 1
 
-next_of : (words : List ℕ) (width at v p : ℕ) → keypad_source words width at ≡ Value v p → Next words at v p
+next_of : (words : List ℕ) (width at v p : ℕ) → keypad_source words width at ≡ Some (v, p) → Next words at v p
 unfolding keypad_source
 next_of words width at v p e = go (ltb at (length words)) refl e
   where
-    go : (t : Bool) → ltb at (length words) ≡ t → pick t (Value (get_or words at 0) (at + 1)) Short ≡ Value v p → Next words at v p
-    go true h k = record { within = ltb-true at (length words) h; value = cc; past = let z : at + 1 ≡ p = cc in sym z }
-    go false h k = absurd (let z : ◌≡◌ {A = ℕ} 0 1 = cc in omega arith)
+    go : (t : Bool) → ltb at (length words) ≡ t → pick {A = Option (ℕ × ℕ)} t (Some (get_or words at 0, at + 1)) None ≡ Some (v, p) → Next words at v p
+    go true h k =
+        let r = same_Some _ _ k in
+        record { within = ltb-true at (length words) h; value = ap (λ (x : ℕ × ℕ). x.0) r; past = sym (ap (λ (x : ℕ × ℕ). x.1) r) }
+    go false h k = absurd (none-some (v, p) k)
 
 pub words-bounded : (words : List ℕ) → ((i : ℕ) → get_or words i 0 < 2 ^ 32) → Bounded (keypad_source words)
 words-bounded words h at v p e = let n = next_of words 32 at v p e in subst (λ (x : ℕ). x < 2 ^ 32) n.value (h at)

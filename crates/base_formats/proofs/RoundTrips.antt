@@ -13,8 +13,8 @@ use lib.ListN.{length}
 use lib.Ieee.Bits.{is_true}
 use lib.Ieee.Fits.{and_i, and_l, and_r, eq→eqb}
 use Rattle.base_bitstream.specs.Bits.{digit}
-use Rattle.base_bitstream.specs.declared.FieldRead.{FieldRead}
-use Rattle.base_bitstream.specs.declared.FieldRead.TheVariants.{Value, Short}
+use Rattle.std.specs.Prelude.{Some, None}
+use Rattle.std.specs.Prelude as std
 use Rattle.base_formats.specs.Format.{Source, Read, got, refused, and_then, whole, number_from, Field, of, Format, field, small, flag, named, found, one_of, nothing, choose, if_set, if_set_fields, if_set_valid, set_then, times_from, times_fields, all, times, as-a}
 use Rattle.base_formats.specs.declared.Fault.{Fault}
 use Rattle.base_formats.specs.declared.Fault.TheVariants as fault
@@ -55,17 +55,17 @@ holds-cond P false x y f g = g refl
 
 -- ---- numbers
 
-pub number-there : (s : Source) (width at v q : ℕ) → s width at ≡ Value v q → number_from s width at ≡ got v q
+pub number-there : (s : Source) (width at v q : ℕ) → s width at ≡ Some (v, q) → number_from s width at ≡ got v q
 unfolding number_from
 number-there s width at v q e = rw e
 
-number-back : (s : Source) (width at : ℕ) → Holds (λ v q. s width at ≡ Value v q) (number_from s width at)
+number-back : (s : Source) (width at : ℕ) → Holds (λ v q. s width at ≡ Some (v, q)) (number_from s width at)
 unfolding number_from
 number-back s width at = go (s width at) refl
   where
-    go : (g : FieldRead) → s width at ≡ g → Holds (λ v q. s width at ≡ Value v q) (whole g)
-    go (Value v q) e = e
-    go Short e = tt
+    go : (g : std.Option (ℕ × ℕ)) → s width at ≡ g → Holds (λ v q. s width at ≡ Some (v, q)) (whole g)
+    go (Some (v, q)) e = e
+    go None e = tt
 
 -- what a field's test, value and number must satisfy
 pub record Stands {A : Type 0} (width : ℕ) (test : ℕ → Bool) (value : ℕ → A) (number : A → ℕ) (good : A → Bool) : Type 0 where
@@ -90,13 +90,13 @@ module _ {A : Type 0} (width : ℕ) (test : ℕ → Bool) (g : Fault) (value : �
 
   field_back : (s : Source) → Bounded s → (at : ℕ) → Holds (Back (field width test g value number good) s at) ((field width test g value number good).from s at)
   field_back s b at =
-      holds_then (λ v q. s width at ≡ Value v q) (Back (field width test g value number good) s at) (number_from s width at) (λ v p. cond (test v) (got (value v) p) (refused g)) (number-back s width at)
+      holds_then (λ v q. s width at ≡ Some (v, q)) (Back (field width test g value number good) s at) (number_from s width at) (λ v p. cond (test v) (got (value v) p) (refused g)) (number-back s width at)
       (λ v q e. holds-cond (Back (field width test g value number good) s at) (test v) (got (value v) q) (refused g)
       (λ t.
-      let n : number (value v) ≡ v = st.back v (λ w. b at v q (subst (λ (x : ℕ). s x at ≡ Value v q) w e)) t in
+      let n : number (value v) ≡ v = st.back v (λ w. b at v q (subst (λ (x : ℕ). s x at ≡ Some (v, q)) w e)) t in
       record {
         is-valid = and_i (good (value v)) (test (number (value v))) (st.good-value v t) (passes (test (number (value v))) (ap test n ∙ t));
-        gives = λ rest end r f. record { next = q; reads = e ∙ ap (λ (x : ℕ). Value x q) (sym n); then = r };
+        gives = λ rest end r f. record { next = q; reads = e ∙ ap (λ (x : ℕ). Some (x, q)) (sym n); then = r };
       })
       (λ t. tt))
 
@@ -177,10 +177,10 @@ module _ {K : Type 0} (width : ℕ) (number : K → ℕ) (ks : List K) (g : Faul
             let r = given (name-fits k) in
             record { next = r.next; is = rw (number-there s width at (number k) r.next r.reads, listed k); then = r.then };
         back = λ s b at.
-            holds_then (λ v q. s width at ≡ Value v q) (Back (one_of width number ks g) s at) (number_from s width at) (λ n p. found g p (named number ks n)) (number-back s width at)
+            holds_then (λ v q. s width at ≡ Some (v, q)) (Back (one_of width number ks g) s at) (number_from s width at) (λ n p. found g p (named number ks n)) (number-back s width at)
             (λ v q e. holds-map (found g q (named number ks v)) (λ k p h. record {
               is-valid = tt;
-              gives = λ rest end r f. record { next = p; reads = e ∙ ap₂ (λ (x y : ℕ). Value x y) h.0 h.1; then = r };
+              gives = λ rest end r f. record { next = p; reads = e ∙ ap₂ (λ (x y : ℕ). Some (x, y)) h.0 h.1; then = r };
             }) (named_back ks v q));
         small = λ k rest h r. (name-fits k, r);
       }

@@ -1,20 +1,19 @@
 -- Formats: how a value is read from a source, the fields that it is written as, and which values are valid, in one term.
 -- Definitions only.
-use Rattle.std.specs.Prelude.{ℕ, zero, suc, ◌+◌, Bool, true, false, cond, ◌&&◌, List, [], ◌∷◌, length, get_or, eqb, leb, ltb}
+use Rattle.std.specs.Prelude.{ℕ, zero, suc, ◌+◌, Bool, true, false, cond, ◌&&◌, List, [], ◌∷◌, length, get_or, eqb, leb, ltb, Some, None}
+use Rattle.std.specs.Prelude as std
 use Rattle.std.proofs.Math.Option.{Option, none, some}
 use Rattle.base_bitstream.specs.Bits.{digit}
 use Rattle.base_formats.specs.declared.Fault.{Fault}
 use Rattle.base_formats.specs.declared.Fault.TheVariants as fault
 use Rattle.base_bitstream.specs.Fields.{read_at, pick, put}
-use Rattle.base_bitstream.specs.declared.FieldRead.{FieldRead}
-use Rattle.base_bitstream.specs.declared.FieldRead.TheVariants.{Value, Short}
 use Rattle.base_formats.specs.declared.Fault.TheVariants.{CutShort}
 
 -- ---- where a record's numbers come from
 
--- a source gives, for a width and a position, a number and the position past it, or `Short` where no number is whole
+-- a source gives, for a width and a position, a number and the position past it, or none where no number is whole
 abbrev pub Source : Type 0
-Source = ℕ → ℕ → FieldRead
+Source = ℕ → ℕ → std.Option (ℕ × ℕ)
 
 -- bits: a field of that width
 unfoldable pub bit_source : List Bool → Source
@@ -22,7 +21,7 @@ bit_source l width at = read_at l at width
 
 -- the keypad: the next of its numbers, whatever the width
 unfoldable pub keypad_source : List ℕ → Source
-keypad_source words width at = pick (ltb at (length words)) (Value (get_or words at 0) (at + 1)) Short
+keypad_source words width at = pick (ltb at (length words)) (Some (get_or words at 0, at + 1)) None
 
 -- ---- what reading a part gives
 
@@ -36,9 +35,9 @@ abbrev pub and_then : {A B : Type 0} → Read A → (A → ℕ → Read B) → R
 and_then (got a p) k = k a p
 and_then (refused f) k = refused f
 
-abbrev pub whole : FieldRead → Read ℕ
-whole (Value v p) = got v p
-whole Short = refused CutShort
+abbrev pub whole : std.Option (ℕ × ℕ) → Read ℕ
+whole (Some r) = got r.0 r.1
+whole None = refused CutShort
 
 -- a field's number
 unfoldable pub number_from : Source → ℕ → ℕ → Read ℕ

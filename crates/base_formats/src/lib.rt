@@ -10,3 +10,10 @@ pub enum Fault {
     OutOfRange,
     TooManyValues,
 }
+
+// Where a record's numbers are read from: bits, or the keypad's numbers.
+#[derive(Clone, Copy)]
+pub enum Source<'a> {
+    Bits(&'a [u8]),
+    Keypad(&'a [u32]),
+}

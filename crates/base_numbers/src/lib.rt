@@ -1,23 +1,9 @@
-// Small functions of numbers that many crates call.
+// A float's bits, as many crates ask for them.
 #![tactic(auto)]
 
-ghost use Rattle.std.specs.Prelude.{◌≡◌, ◌-◌, min};
+ghost use Rattle.std.specs.Prelude.{◌≡◌};
 ghost use Rattle.std.specs.Float.{binary32};
 ghost use Rattle.std.specs.Float.Ieee.{to_bits};
-
-// A number, at most so much.
-pub fn at_most(n: usize, most: usize) -> usize
-    ensures { result ≡ min n most }
-{
-    if n < most { n } else { most }
-}
-
-// The number before, and 0 before 0.
-pub fn one_less(n: usize) -> usize
-    ensures { result ≡ n - 1 }
-{
-    if n == 0 { 0 } else { n - 1 }
-}
 
 // A float's bits. Every not-a-number counts as one.
 pub fn float_bits(x: f32) -> u32

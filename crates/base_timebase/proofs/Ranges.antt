@@ -9,16 +9,16 @@ use lib.Ieee.Scale.{finite}
 use Rattle.base_timebase.proofs.Order.{AtMost, at-most-back}
 use Rattle.base_timebase.specs.Time.{latest, slowest, fastest, finite_bits, time_bits, tempo_bits}
 use Rattle.base_timebase.specs.inside.Range.{checked}
-use Rattle.base_timebase.specs.declared.Checked.TheVariants.{Value, Outside}
+use Rattle.std.specs.Prelude.{Some, None}
 
 -- ---- a pattern by its test
 
-pub in-range : (p : Bool) (b : ℕ) → p ≡ true → Value (of_bits binary32 b) ≡ checked p b
+pub in-range : (p : Bool) (b : ℕ) → p ≡ true → Some (of_bits binary32 b) ≡ checked p b
 unfolding checked
 in-range true b e = refl
 in-range false b e = absurd (true≢false (sym e))
 
-pub out_of_range : (p : Bool) (b : ℕ) → p ≡ false → Outside ≡ checked p b
+pub out_of_range : (p : Bool) (b : ℕ) → p ≡ false → None ≡ checked p b
 unfolding checked
 out_of_range true b e = absurd (true≢false e)
 out_of_range false b e = refl

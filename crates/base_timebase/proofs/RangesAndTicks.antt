@@ -9,19 +9,19 @@ use lib.Ieee.Scale.{finite}
 use Rattle.base_laws.proofs.Choice.{both_true}
 use Rattle.base_timebase.specs.Time.{finite_bits, time_bits, duration_bits, tempo_bits, nearest, ticks_of, ticks_in, cycle_of, cycle_in, latest, slowest, fastest, endless, Nearest, TicksNearest, OneNearest}
 use Rattle.base_timebase.specs.inside.Range.{checked, EveryNumber}
-use Rattle.base_timebase.specs.declared.Checked.TheVariants.{Value, Outside}
+use Rattle.std.specs.Prelude.{Some, None}
 use Rattle.base_timebase.proofs.Order.{le_trans as le_on}
 use Rattle.base_timebase.proofs.Ranges.{zero_f, from_zero, between-finite}
 use Rattle.base_timebase.proofs.Growth.{ticks_of-grows, cycle_of-grows}
 
 -- ---- what an answer tells of its pattern
 
-pub checked-in : (p : Bool) (b : ℕ) (x : Float) → checked p b ≡ Value x → (p ≡ true) × (of_bits binary32 b ≡ x)
+pub checked-in : (p : Bool) (b : ℕ) (x : Float) → checked p b ≡ Some x → (p ≡ true) × (of_bits binary32 b ≡ x)
 unfolding checked
 checked-in true b x e = (refl, cc)
 checked-in false b x e = absurd (let z : ◌≡◌ {A = ℕ} 0 1 = cc in omega arith)
 
-pub checked-out : (p : Bool) (b : ℕ) → checked p b ≡ Outside → p ≡ false
+pub checked-out : (p : Bool) (b : ℕ) → checked p b ≡ None → p ≡ false
 unfolding checked
 checked-out true b e = absurd (let z : ◌≡◌ {A = ℕ} 0 1 = cc in omega arith)
 checked-out false b e = refl

@@ -97,63 +97,53 @@ pub fn ticks_per_cycle(tempo: f32) -> u64
     0
 }
 
-// What a pattern of 32 bits is: the float that it means, or outside its range.
-#[derive(Clone, Copy)]
-pub enum Checked {
-    Value(f32),
-    Outside,
-}
+// Each of the next four gives the float that a pattern of 32 bits means, or none outside its range.
 
 // A value: finite.
-pub fn value_of(b: u32) -> Checked
+pub fn value_of(b: u32) -> Option<f32>
     ensures { result ≡ checked (finite_bits b) b }
 {
     if b % 0x8000_0000 < 0x7f80_0000 {
-        Checked::Value(f32::from_bits(b))
+        Some(f32::from_bits(b))
     } else {
-        Checked::Outside
+        None
     }
 }
 
 // A time: sign bit clear, at most 16,384.
-pub fn time_of(b: u32) -> Checked
+pub fn time_of(b: u32) -> Option<f32>
     ensures { result ≡ checked (time_bits b) b }
 {
     // past infinity's pattern: the sign bit is set, or it is not a number
     if 0x7f80_0000 < b {
-        return Checked::Outside;
+        return None;
     }
     let x = f32::from_bits(b);
-    if x <= 16384.0 {
-        Checked::Value(x)
-    } else {
-        Checked::Outside
-    }
+    if x <= 16384.0 { Some(x) } else { None }
 }
 
 // A duration: a time, or exactly -1.
-pub fn duration_of(b: u32) -> Checked
+pub fn duration_of(b: u32) -> Option<f32>
     ensures { result ≡ checked (duration_bits b) b }
 {
     if b == 0xbf80_0000 {
-        return Checked::Value(-1.0);
+        return Some(-1.0);
     }
     time_of(b)
 }
 
 // A tempo: from 1 to 960.
-pub fn tempo_of(b: u32) -> Checked
+pub fn tempo_of(b: u32) -> Option<f32>
     ensures { result ≡ checked (tempo_bits b) b }
 {
     // not a number
     if 0x7f80_0000 < b % 0x8000_0000 {
-        return Checked::Outside;
+        return None;
     }
     let x = f32::from_bits(b);
-    if 1.0 <= x {
-        if x <= 960.0 {
-            return Checked::Value(x);
-        }
+    if 1.0 <= x && x <= 960.0 {
+        Some(x)
+    } else {
+        None
     }
-    Checked::Outside
 }

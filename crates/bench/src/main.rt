@@ -15,22 +15,20 @@ fn started() -> SplitPanel {
         &first,
         0,
     );
-    Panel::split(f.panel)
+    Panel::split(f.left)
 }
 
 // A note without end, at 440 Hz.
 fn with_note(c: Core) -> Core {
     let line = [0u32, 0, 0, 0, 0, 3212836864, 1, 1138491392];
     let r = Core::enter_line(c, &line);
-    r.core
+    r.left
 }
 
 fn with_notes(c: Core) -> Core {
     let mut with = c;
-    let mut left: u32 = 16;
-    while left > 0 {
+    for _ in 0..16 {
         with = with_note(with);
-        left -= 1;
     }
     with
 }
@@ -38,13 +36,11 @@ fn with_notes(c: Core) -> Core {
 fn played<'a>(c: Core, code: &'a [u64], vals: &'a [f32]) -> u32 {
     let mut core = c;
     let mut sum: u32 = 0;
-    let mut left = CYCLES;
-    while left > 0 {
+    for _ in 0..CYCLES {
         let mut block = [0i16; 320];
         let r = Core::cycle(core, code, vals, &mut block);
-        core = r.core;
+        core = r.left;
         sum = program_io::checked_sum(sum, &block);
-        left -= 1;
     }
     sum
 }

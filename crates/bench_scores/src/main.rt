@@ -28,10 +28,8 @@ fn answered(bytes: &[u8], text: bool) -> u8 {
 // The answer of the last reading.
 fn repeated(bytes: &[u8], text: bool) -> u8 {
     let mut number: u8 = 0;
-    let mut left = TIMES;
-    while left > 0 {
+    for _ in 0..TIMES {
         number = answered(bytes, text);
-        left -= 1;
     }
     number
 }
@@ -40,10 +38,8 @@ fn repeated(bytes: &[u8], text: bool) -> u8 {
 fn repeated_names(bytes: &[u8]) -> u8 {
     let mut buffer = room();
     let mut number: u8 = 0;
-    let mut left = TIMES;
-    while left > 0 {
+    for _ in 0..TIMES {
         number = naming::unpacked(bytes, &mut buffer);
-        left -= 1;
     }
     number
 }
@@ -55,16 +51,14 @@ fn last_answer(rt: &HostRuntime, bytes: &[u8], text: bool) -> u8 {
     repeated(bytes, text)
 }
 
-fn told(rt: &HostRuntime, bytes: &[u8], n: usize, text: bool) -> io::Result<()> {
-    if n <= bytes.len() {
-        let number = last_answer(rt, &bytes[..n], text);
-        println!(rt; "{n} bytes, 30 times, answer {number}")?;
-    }
-    Ok(())
+fn told(rt: &HostRuntime, bytes: &[u8], text: bool) -> io::Result<()> {
+    let n = bytes.len();
+    let number = last_answer(rt, bytes, text);
+    println!(rt; "{n} bytes, 30 times, answer {number}")
 }
 
 fn with_room(rt: &HostRuntime, bytes: &[u8; ROOM], n: usize) -> io::Result<()> {
-    told(rt, bytes, n, program_io::has_argument(rt, 1))
+    told(rt, &bytes[..n.min(ROOM)], program_io::has_argument(rt, 1))
 }
 
 fn taken_in(rt: &HostRuntime, buffer: &mut [u8; ROOM]) -> usize {

@@ -5,15 +5,14 @@ const ROOM: usize = 1048576;
 const LAST: u16 = 65534;
 
 fn asked(names: &[u8], n: usize) -> usize {
-    if n <= names.len() {
-        let name = symbol_lookup::name_in(&names[..n], LAST);
-        return name.len();
+    match names.get(..n) {
+        Some(names) => symbol_lookup::name_in(names, LAST).len(),
+        None => 0,
     }
-    0
 }
 
 // The length of that name.
 pub fn unpacked(table: &[u8], buffer: &mut [u8; ROOM]) -> u8 {
-    let r = symbol_unpacker::unpack(table, buffer);
-    (asked(buffer, r.length) % 256) as u8
+    let length = symbol_unpacker::unpack(table, buffer).unwrap_or(0);
+    (asked(buffer, length) % 256) as u8
 }

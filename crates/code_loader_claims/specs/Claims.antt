@@ -23,7 +23,7 @@ StandsFor is p = Represents is (take p.count p.table) p.code p.vals
 -- an accepted orchestra is taken, and its program stands for its tree
 pub record LoadedAs (bs : List ℕ) (is : List Instrument) : Type 0 where
   pub taken : (load_of bs).answer ≡ Taken
-  pub stands : StandsFor is (load_of bs).program
+  pub stands : StandsFor is (load_of bs).left
 
 -- Every accepted orchestra is loaded,
 abbrev pub Loaded : Type 0
@@ -39,7 +39,7 @@ blank_program = record { table = replicate most_instruments blank; count = 0; co
 
 -- A refusal hands back a blank program.
 abbrev pub RefusedBlank : Type 0
-RefusedBlank = (bs : List ℕ) → ((load_of bs).answer ≡ Taken → ⊥) → (load_of bs).program ≡ blank_program
+RefusedBlank = (bs : List ℕ) → ((load_of bs).answer ≡ Taken → ⊥) → (load_of bs).left ≡ blank_program
 
 -- the a code of a table's rows, one behind the other
 unfoldable pub a_codes : List row.Instrument → List ℕ → List ℕ
@@ -47,8 +47,8 @@ a_codes [] code = []
 a_codes (x ∷ xs) code = stretch x.astart x.aend code ++ a_codes xs code
 
 pub record CodedAs (bs : List ℕ) (is : List Instrument) : Type 0 where
-  pub rows : length (take (load_of bs).program.count (load_of bs).program.table) ≡ length is
-  pub code : a_codes (take (load_of bs).program.count (load_of bs).program.table) (load_of bs).program.code ≡ all_lowered 2 0 (map placed is)
+  pub rows : length (take (load_of bs).left.count (load_of bs).left.table) ≡ length is
+  pub code : a_codes (take (load_of bs).left.count (load_of bs).left.table) (load_of bs).left.code ≡ all_lowered 2 0 (map placed is)
 
 -- An accepted orchestra's program has a row for each instrument, and its a code is that of the instruments.
 abbrev pub LoadedCode : Type 0

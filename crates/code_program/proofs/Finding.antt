@@ -10,13 +10,13 @@ use lib.Dec.{eqb}
 use lib.ListN.{length, take, drop, get_or, length-take}
 use lib.Seq.{drop-cons, get_or-take}
 use Rattle.base_laws.proofs.Choice.{cond-true, cond-false}
-use Rattle.code_program.specs.InstrumentTable.{blank, lookup_in}
+use Rattle.std.specs.Prelude.{Option, Some, None}
+use Rattle.code_program.specs.InstrumentTable.{lookup_in}
 use Rattle.code_program.specs.declared.Instrument.{Instrument}
-use Rattle.code_program.specs.declared.Lookup.{Lookup}
 
 -- ---- the instrument with a name, among those from i on
 
-module _ (name : ℕ) (l : List Instrument) (r : Lookup) where
+module _ (name : ℕ) (l : List Instrument) (r : Option Instrument) where
   pub found-no : (i : ℕ) (d : Instrument) → i < length l → eqb (get_or l i d).name name ≡ false
       → lookup_in name (drop i l) ≡ r → lookup_in name (drop (i + 1) l) ≡ r
   unfolding lookup_in
@@ -24,11 +24,11 @@ module _ (name : ℕ) (l : List Instrument) (r : Lookup) where
       rw add-one (sym (cond-false _ _ e) ∙ ap (lookup_in name) (sym (drop-cons l i d h)) ∙ q)
 
   pub found-yes : (i : ℕ) (d : Instrument) → i < length l → eqb (get_or l i d).name name ≡ true
-      → lookup_in name (drop i l) ≡ r → record { there = true; instrument = get_or l i d } ≡ r
+      → lookup_in name (drop i l) ≡ r → Some (get_or l i d) ≡ r
   unfolding lookup_in
   found-yes i d h e q = sym (cond-true _ _ e) ∙ ap (lookup_in name) (sym (drop-cons l i d h)) ∙ q
 
-  pub found-end : (i : ℕ) → length l ≤ i → lookup_in name (drop i l) ≡ r → record { there = false; instrument = blank } ≡ r
+  pub found-end : (i : ℕ) → length l ≤ i → lookup_in name (drop i l) ≡ r → None ≡ r
   unfolding lookup_in
   found-end i h q = ap (lookup_in name) (sym (none i l h)) ∙ q
     where

@@ -2,7 +2,7 @@
 #![tactic(auto)]
 
 ghost use Rattle.std.specs.Prelude.{◌≡◌};
-ghost use Rattle.code_program.specs.InstrumentTable.{instruments_of, lookup_in, field_count_in};
+ghost use Rattle.code_program.specs.InstrumentTable.{instruments_of, lookup_in, instrument_in, field_count_in};
 
 use score_line::{Event, Line};
 
@@ -40,80 +40,48 @@ pub struct Instruments {
     pub count: usize,
 }
 
-// An instrument, and whether it was found.
-#[derive(Clone, Copy)]
-pub struct Lookup {
-    pub there: bool,
-    pub instrument: Instrument,
-}
-
-// How many fields an instrument has, where there is one of that name.
-#[derive(Clone, Copy)]
-pub enum FieldCount {
-    Count(usize),
-    NoSuch,
-}
-
-// The instrument with a name; else a blank one.
-pub fn find(instruments: Instruments, name: u16) -> Lookup
+// The first instrument with a name.
+pub fn find(instruments: Instruments, name: u16) -> Option<Instrument>
     ensures { result ≡ lookup_in name (instruments_of instruments) }
 {
     let table = instruments.table;
-    let m = base_numbers::at_most(instruments.count, MOST_INSTRUMENTS);
-    let mut i: usize = 0;
-    while i < m {
+    let m = instruments.count.min(MOST_INSTRUMENTS);
+    for i in 0..m {
         let x = table[i];
         if x.name == name {
-            return Lookup {
-                there: true,
-                instrument: x,
-            };
+            return Some(x);
         }
-        i += 1;
     }
-    let imports = [65536u32; 16];
-    let blank = Instrument {
-        name: 0,
-        fields: 0,
-        istart: 0,
-        iend: 0,
-        kstart: 0,
-        kend: 0,
-        astart: 0,
-        aend: 0,
-        imports: imports,
-    };
-    Lookup {
-        there: false,
-        instrument: blank,
+    None
+}
+
+// The first instrument with a name; else a blank one: no fields, no code, no imports.
+#[tactic(auto, unfolding(crate::specs::InstrumentTable::blank))]
+pub fn instrument_or_blank(instruments: Instruments, name: u16) -> Instrument
+    ensures { result ≡ instrument_in (instruments_of instruments) name }
+{
+    match find(instruments, name) {
+        Some(x) => x,
+        None => Instrument {
+            name: 0,
+            fields: 0,
+            istart: 0,
+            iend: 0,
+            kstart: 0,
+            kend: 0,
+            astart: 0,
+            aend: 0,
+            imports: [65536; 16],
+        },
     }
 }
 
-// How many fields a line's instrument has; for a line of another kind no such instrument.
-pub fn field_count_for(instruments: Instruments, l: Line) -> FieldCount
+// How many fields a line's instrument has, where there is one of that name; none for a line of another kind.
+pub fn field_count_for(instruments: Instruments, l: Line) -> Option<usize>
     ensures { result ≡ field_count_in (instruments_of instruments) l.event }
 {
-    let e = l.event;
-    match e {
-        Event::Instr {
-            label: _,
-            instrument,
-            duration: _,
-        } => {
-            let f = find(instruments, instrument);
-            let x = f.instrument;
-            if f.there {
-                FieldCount::Count(x.fields)
-            } else {
-                FieldCount::NoSuch
-            }
-        }
-        Event::Control {
-            label: _,
-            variable: _,
-            value: _,
-        } => FieldCount::NoSuch,
-        Event::End => FieldCount::NoSuch,
-        Event::Tempo(_) => FieldCount::NoSuch,
+    match l.event {
+        Event::Instr { instrument, .. } => Some(find(instruments, instrument)?.fields),
+        Event::Control { .. } | Event::End | Event::Tempo(_) => None,
     }
 }

@@ -6,15 +6,17 @@ use mathlib.Core.Bool.{Bool, true, false, true≢false}
 use mathlib.Core.List.{List, [], ◌∷◌, ◌++◌, map}
 use lib.ListN.{length, take, length-map, length-append}
 use lib.Dec.{eqb}
+use Rattle.std.specs.Option.{is_some}
 use Rattle.code_program.specs.declared.Instrument.{Instrument}
-use Rattle.code_program.specs.InstrumentTable.{lookup_in}
+use Rattle.code_program.specs.InstrumentTable.{lookup_in, instrument_in}
 use Rattle.code_interpreter.specs.Passes.{stretch}
 use Rattle.code_loader.specs.Loading.{load_of}
 use Rattle.code_loader_claims.specs.Claims.{a_codes}
 use Rattle.code_loader_claims.proofs.Loaded.{loaded-code}
 use Rattle.code_decoder.specs.Decoded.{count_of}
 use Rattle.engine_rows.specs.Instruction.{outs_of}
-use Rattle.engine_plan.specs.Plans.{Range, cut_range, In, needed, Roomy}
+use Rattle.engine_plan.specs.declared.Range.{Range}
+use Rattle.engine_plan.specs.Plans.{cut_range, In, needed, Roomy}
 use Rattle.engine_plan.specs.Plans as plans
 use Rattle.engine_plan.proofs.Plans.{stretch-there}
 use Rattle.engine_capacity.specs.Capacity.{EveryPlanFits}
@@ -26,13 +28,13 @@ abbrev cut : List ℕ → Instrument → Range
 cut code x = cut_range x.astart x.aend code
 
 -- the row of a name that is there is one of them
-found_in : (code : List ℕ) (name : ℕ) (table : List Instrument) → (lookup_in name table).there ≡ true → In (cut code (lookup_in name table).instrument) (map (cut code) table)
+found_in : (code : List ℕ) (name : ℕ) (table : List Instrument) → is_some (lookup_in name table) ≡ true → In (cut code (instrument_in table name)) (map (cut code) table)
 unfolding lookup_in
 found_in code name [] h = absurd (true≢false (sym h))
 found_in code name (x ∷ xs) h = go (eqb x.name name) refl (λ l. found_in code name xs l)
   where
-    go : (b : Bool) → eqb x.name name ≡ b → ((lookup_in name xs).there ≡ true → In (cut code (lookup_in name xs).instrument) (map (cut code) xs))
-        → In (cut code (lookup_in name (x ∷ xs)).instrument) (cut code x ∷ map (cut code) xs)
+    go : (b : Bool) → eqb x.name name ≡ b → (is_some (lookup_in name xs) ≡ true → In (cut code (instrument_in xs name)) (map (cut code) xs))
+        → In (cut code (instrument_in (x ∷ xs) name)) (cut code x ∷ map (cut code) xs)
     go true e f = rw e plans.In.first
     go false e f = rw e (plans.In.later (f (rw e at h)))
 
@@ -55,8 +57,8 @@ outs-none = refl
 
 pub every-plan-fits : EveryPlanFits
 every-plan-fits bs is a notes m p known F =
-    let code = (load_of bs).program.code in
-    let table = take (load_of bs).program.count (load_of bs).program.table in
+    let code = (load_of bs).left.code in
+    let table = take (load_of bs).left.count (load_of bs).left.table in
     let c = loaded-code bs is a in
     let h = engine-holds bs is a in
     let rs = map (cut code) table in

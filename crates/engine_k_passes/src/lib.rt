@@ -25,14 +25,11 @@ fn run_serially<'a>(
 {
     let mut room = code_interpreter::working_area(vals);
     let mut a = notes;
-    let mut j: usize = 0;
-    while j < m {
+    for j in 0..m {
         let x = notes[j];
-        let f = code_program::find(instruments, x.instrument);
-        let i = f.instrument;
+        let i = code_program::instrument_or_blank(instruments, x.instrument);
         let y = code_interpreter::run_pass(code, i.kstart, i.kend, &mut room, x);
         a[j] = y;
-        j += 1;
     }
     a
 }
@@ -52,15 +49,12 @@ fn have_k_code(instruments: Instruments, notes: [Note; LANES], m: usize) -> bool
     requires { m ≤ lane_count }
     ensures { result ≡ false → AllStill (instruments_of instruments) (take m notes) }
 {
-    let mut j: usize = 0;
-    while j < m {
+    for j in 0..m {
         let x = notes[j];
-        let f = code_program::find(instruments, x.instrument);
-        let i = f.instrument;
+        let i = code_program::instrument_or_blank(instruments, x.instrument);
         if has_k_code(i, x) {
             return true;
         }
-        j += 1;
     }
     false
 }

@@ -37,8 +37,9 @@ module _ (ceiling : ℕ) (mix : List Float) (whole : List ℤ) (n : ℕ) where
               (sym (ap₂ (λ (p : List Float) (q : List ℤ). take i block ++ limited ceiling p q) m b) ∙ g.is);
         }
 
-    pub block-done : length block ≤ i → block ≡ whole
-    block-done h =
+    pub block-done : n ≤ i → block ≡ whole
+    block-done r =
+        let h : length block ≤ i = rw g.size r in
         sym (append-nil block)
         ∙ ap₂ (λ (p q : List ℤ). p ++ q) (sym (take_all i block h)) (sym (no_room ceiling (drop i mix)))
         ∙ ap (λ (q : List ℤ). take i block ++ limited ceiling (drop i mix) q) (sym (drop_of_length-le block {i = i} h))

@@ -9,12 +9,10 @@ ghost use Rattle.engine_limiter.specs.Block.{limited};
 pub fn limit(mix: &[f32], ceiling: u16, block: &mut [i16])
     ensures block { block.new ≡ limited ceiling mix.now block.old }
 {
-    let mut i = 0;
-    while i < block.len() {
+    for i in 0..block.len() {
         if mix.len() <= i {
             return;
         }
         block[i] = base_float32::sample(mix[i], ceiling);
-        i += 1;
     }
 }

@@ -13,9 +13,8 @@ use Rattle.player_model.specs.Cycle as cycle
 use Rattle.code_interpreter.specs.Run.{run}
 use Rattle.code_interpreter.specs.Passes.{sums, played}
 use Rattle.note_state.specs.declared.Note.{Note}
-use Rattle.code_program.specs.InstrumentTable.{instrument_in, lookup_in}
+use Rattle.code_program.specs.InstrumentTable.{instrument_in}
 use Rattle.code_program.specs.declared.Instrument.{Instrument}
-use Rattle.code_program.specs.declared.Lookup.{Lookup}
 use Rattle.voices_compiled.specs.Voices.{VoiceState, voices, ran_values, ran_mix_of}
 use Rattle.note_lifecycle.specs.OneNote.{note_of, struct_of, k_note, ran_note, ran_mix}
 use Rattle.note_pool.specs.Notes.{notes_in}
@@ -91,21 +90,21 @@ module _ (table : List Instrument) (code : List ℕ) (vals : List Float) where
   running_none notes mix h = record { long = h; samples = refl; are = refl; behind = refl }
 
   pub running-step : (notes a : List Note) (start mix : List Float) (j : ℕ) (d : Note) → length notes ≡ 16 → j < 16
-      → (f : Lookup) → f ≡ lookup_in (get_or notes j d).instrument table
-      → (y : Note) → y ≡ ran_note code vals f.instrument (get_or notes j d) mix
-      → (mix' : List Float) → mix' ≡ ran_mix code vals f.instrument (get_or notes j d) mix
+      → (f : Instrument) → f ≡ instrument_in table (get_or notes j d).instrument
+      → (y : Note) → y ≡ ran_note code vals f (get_or notes j d) mix
+      → (mix' : List Float) → mix' ≡ ran_mix code vals f (get_or notes j d) mix
       → Running notes a start mix j → Running notes (set a j y) start mix' (j + 1)
   unfolding ran_on
   running-step notes a start mix j d ln h f ef y ey mix' em r =
       let n = get_or notes j d in
       let v = voices table code vals in
       let y-is : note_of y ≡ with_state (note_of n) (v.run (note_of n).state mix).state =
-      ap note_of (ey ∙ ap (λ (g : Lookup). ran_note code vals g.instrument n mix) ef) ∙ (ran-same n mix).0 in
+      ap note_of (ey ∙ ap (λ (g : Instrument). ran_note code vals g n mix) ef) ∙ (ran-same n mix).0 in
       let m-is : mix' ≡ (v.run (note_of n).state mix).mix =
-      em ∙ ap (λ (g : Lookup). ran_mix code vals g.instrument n mix) ef ∙ (ran-same n mix).1 in
+      em ∙ ap (λ (g : Instrument). ran_mix code vals g n mix) ef ∙ (ran-same n mix).1 in
       record {
         long = length-set a j y ∙ r.long;
-        samples = ap length em ∙ length-ran f.instrument n mix ∙ r.samples;
+        samples = ap length em ∙ length-ran f n mix ∙ r.samples;
         are =
             ap (λ (l : List (cycle.Note VoiceState)). record { notes = l; mix = mix' }) (one_set a j y (omega (arith, r.long)))
             ∙ (λ i. record { notes = notes_in a j ++ (y-is i ∷ []); mix = m-is i })

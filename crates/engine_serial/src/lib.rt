@@ -25,17 +25,14 @@ pub fn run_notes<'a>(
     ensures notes { result ≡ over (each struct_of (run_from (voices (instruments_of instruments) code.now vals.now) (notes_in notes count) mix.old).notes) notes }
     ensures mix { mix.new ≡ (run_from (voices (instruments_of instruments) code.now vals.now) (notes_in notes count) mix.old).mix }
 {
-    let m = base_numbers::at_most(count, MOST_NOTES);
+    let m = count.min(MOST_NOTES);
     let mut room = code_interpreter::working_area(vals);
     let mut a = notes;
-    let mut j: usize = 0;
-    while j < m {
+    for j in 0..m {
         let x = notes[j];
-        let f = code_program::find(instruments, x.instrument);
-        let i = f.instrument;
+        let i = code_program::instrument_or_blank(instruments, x.instrument);
         let y = note_lifecycle::run_note(code, &mut room, i, x, mix);
         a[j] = y;
-        j += 1;
     }
     a
 }

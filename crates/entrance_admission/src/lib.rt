@@ -8,19 +8,11 @@ ghost use Rattle.code_program.specs.InstrumentTable.{instruments_of};
 ghost use Rattle.entrance_readers.specs.Entrances.{score_in};
 ghost use Rattle.entrance_admission.specs.Submission.{line_admitted, admitted_all, submitted_in};
 
-use base_answer::Answer;
+use base_answer::{Answer, Answered, AnsweredLine};
 use code_program::Instruments;
 use entrance_readers::EntranceRead;
-use player_queue::{Admitted, Queue};
+use player_queue::Queue;
 use score_line::Line;
-
-// What the lines make of the waiting ones; `line` is the number of the line that a refusal is about.
-#[derive(Clone, Copy)]
-pub struct AdmissionResult {
-    pub queue: Queue,
-    pub answer: Answer,
-    pub line: usize,
-}
 
 fn lacks_time(l: Line, timed: bool) -> bool
     ensures { result ≡ (timed && not (has_time l.when)) }
@@ -34,12 +26,12 @@ fn lacks_time(l: Line, timed: bool) -> bool
 
 // The one operation on a decoded line, whichever entrance read it: 6 where it needs a time and has none, then the one admission, with the fields of
 // the line's instrument.
-fn admit_line(instruments: Instruments, q: Queue, l: Line, timed: bool) -> Admitted
+fn admit_line(instruments: Instruments, q: Queue, l: Line, timed: bool) -> Answered<Queue>
     ensures { result ≡ line_admitted timed (instruments_of instruments) q l }
 {
     if lacks_time(l, timed) {
-        return Admitted {
-            queue: q,
+        return Answered {
+            left: q,
             answer: Answer::NoTime,
         };
     }
@@ -47,42 +39,45 @@ fn admit_line(instruments: Instruments, q: Queue, l: Line, timed: bool) -> Admit
 }
 
 // The lines into a copy of the waiting ones, so that earlier lines count as waiting.
-fn admit_lines(instruments: Instruments, old: Queue, h: EntranceRead) -> AdmissionResult
+fn admit_lines(instruments: Instruments, old: Queue, h: EntranceRead) -> AnsweredLine<Queue>
     ensures { result ≡ admitted_all h.timed (instruments_of instruments) old old 0 (take h.count h.lines) }
 {
     let lines = h.lines;
     let timed = h.timed;
-    let m = base_numbers::at_most(h.count, entrance_readers::MOST_LINES);
+    let m = h.count.min(entrance_readers::MOST_LINES);
     let mut q = old;
-    let mut i: usize = 0;
-    while i < m {
+    for i in 0..m {
         let l = lines[i];
         let a = admit_line(instruments, q, l, timed);
         let answer = a.answer;
         if !base_answer::is_taken(answer) {
-            return AdmissionResult {
-                queue: old,
-                answer: answer,
+            return AnsweredLine {
+                left: old,
+                answer,
                 line: i,
             };
         }
-        q = a.queue;
-        i += 1;
+        q = a.left;
     }
-    AdmissionResult {
-        queue: q,
+    AnsweredLine {
+        left: q,
         answer: Answer::Taken,
         line: 0,
     }
 }
 
 // What was handed in, into the waiting lines: 9 after the end, then the fault of its reading, then all its lines or none.
-pub fn submit(instruments: Instruments, ended: bool, q: Queue, h: EntranceRead) -> AdmissionResult
+pub fn submit(
+    instruments: Instruments,
+    ended: bool,
+    q: Queue,
+    h: EntranceRead,
+) -> AnsweredLine<Queue>
     ensures { result ≡ submitted_in ended h.timed (instruments_of instruments) q (score_in h) }
 {
     if ended {
-        return AdmissionResult {
-            queue: q,
+        return AnsweredLine {
+            left: q,
             answer: Answer::Ended,
             line: 0,
         };
@@ -91,9 +86,9 @@ pub fn submit(instruments: Instruments, ended: bool, q: Queue, h: EntranceRead) 
     if base_answer::is_taken(answer) {
         return admit_lines(instruments, q, h);
     }
-    AdmissionResult {
-        queue: q,
-        answer: answer,
+    AnsweredLine {
+        left: q,
+        answer,
         line: h.line,
     }
 }

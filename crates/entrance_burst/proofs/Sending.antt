@@ -23,7 +23,7 @@ use Rattle.player_queue.specs.declared.Queue.{Queue}
 use Rattle.code_program.specs.declared.Instrument.{Instrument}
 use Rattle.entrance_admission.specs.Submission.{submitted_in}
 use Rattle.entrance_burst.specs.Singly.{singly_in, burst_submitted_in, area_in}
-use Rattle.entrance_admission.specs.declared.AdmissionResult.{AdmissionResult}
+use Rattle.base_answer.specs.declared.AnsweredLine.{AnsweredLine}
 
 -- the first of a list and the others
 first-same : {x y : ℕ} {xs ys : List ℕ} → x ∷ xs ≡ y ∷ ys → x ≡ y
@@ -79,8 +79,8 @@ module _ (ended : Bool) (table : List Instrument) where
       pub send-inside : at + 2 + k ≤ length s
       send-inside = next.inside
 
-      pub send-next : (r : AdmissionResult) → r ≡ submitted_in ended (must_be_timed unit) table q (reads unit (take (at + 2 + k - (at + 2)) (drop (at + 2) s)))
-          → (v : ℕ) → v ≡ number_of r.answer → Sending old s us m area₀ r.queue (at + 2 + k) (i + 1) (set area i v)
+      pub send-next : (r : AnsweredLine Queue) → r ≡ submitted_in ended (must_be_timed unit) table q (reads unit (take (at + 2 + k - (at + 2)) (drop (at + 2) s)))
+          → (v : ℕ) → v ≡ number_of r.answer → Sending old s us m area₀ r.left (at + 2 + k) (i + 1) (set area i v)
       unfolding singly_in
       send-next r er v ev =
           let same : at + 2 + k - (at + 2) ≡ k = omega arith in
@@ -90,8 +90,8 @@ module _ (ended : Bool) (table : List Instrument) where
           let count : length all ≡ length us = length-numbers us old in
           let short : i < length all = omega (arith, h, x.most, count) in
           let size : length (take i all) ≡ i = length-take i all ∙ omega (arith, short) in
-          let rest : number_of r.answer ∷ (singly_in ended table r.queue (drop (suc i) us)).numbers ≡ get_or all i 0 ∷ drop (suc i) all =
-          ap (λ (y : AdmissionResult). number_of y.answer ∷ (singly_in ended table y.queue (drop (suc i) us)).numbers) is-unit
+          let rest : number_of r.answer ∷ (singly_in ended table r.left (drop (suc i) us)).numbers ≡ get_or all i 0 ∷ drop (suc i) all =
+          ap (λ (y : AnsweredLine Queue). number_of y.answer ∷ (singly_in ended table y.left (drop (suc i) us)).numbers) is-unit
           ∙ ap (λ (l : List (List ℕ)). (singly_in ended table q l).numbers) (sym front) ∙ x.numbers ∙ drop-cons all i 0 short in
           record {
             most = x.most;
@@ -99,10 +99,10 @@ module _ (ended : Bool) (table : List Instrument) where
             small = omega arith;
             ahead = subst (λ (n : ℕ). Ahead (drop (at + 2 + k) s) (drop n us)) one next.ahead;
             queue =
-                ap (λ (n : ℕ). (singly_in ended table r.queue (drop n us)).queue) (sym one)
-                ∙ ap (λ (y : AdmissionResult). (singly_in ended table y.queue (drop (suc i) us)).queue) is-unit
+                ap (λ (n : ℕ). (singly_in ended table r.left (drop n us)).queue) (sym one)
+                ∙ ap (λ (y : AnsweredLine Queue). (singly_in ended table y.left (drop (suc i) us)).queue) is-unit
                 ∙ ap (λ (l : List (List ℕ)). (singly_in ended table q l).queue) (sym front) ∙ x.queue;
-            numbers = ap (λ (n : ℕ). (singly_in ended table r.queue (drop n us)).numbers) (sym one) ∙ rest-same rest ∙ ap (λ (n : ℕ). drop n all) one;
+            numbers = ap (λ (n : ℕ). (singly_in ended table r.left (drop n us)).numbers) (sym one) ∙ rest-same rest ∙ ap (λ (n : ℕ). drop n all) one;
             here =
                 (λ j. set (x.here j) (sym size j) ((ev ∙ first-same rest) j))
                 ∙ over-set (take i all) area₀ (get_or all i 0) (omega (arith, size, h, x.wide))
@@ -131,7 +131,7 @@ module _ (ended : Bool) (table : List Instrument) where
     refused-is t =
         fault-is (burst_of s) (every-kind s) (ap (λ (x : BurstScan). is_taken x.answer) (sym e) ∙ t) ∙ ap (λ (x : BurstScan). fault x.answer) (sym e)
 
-    pub sent-fault : (places : ℕ) → is_taken c.answer ≡ false → record { queue = q; answer = c.answer; units = 0 } ≡ burst_submitted_in ended table q places (burst_of s)
+    pub sent-fault : (places : ℕ) → is_taken c.answer ≡ false → record { left = q; answer = c.answer; units = 0 } ≡ burst_submitted_in ended table q places (burst_of s)
     unfolding burst_submitted_in
     sent-fault places t = ap (burst_submitted_in ended table q places) (sym (refused-is t))
 
@@ -155,7 +155,7 @@ module _ (ended : Bool) (table : List Instrument) where
       few : (places : ℕ) → places < c.units → leb (length (units_in (burst_of s))) places ≡ false
       few places l = lt-leb (length (units_in (burst_of s))) places (omega (arith, l, count))
 
-      pub sent-short : (places : ℕ) → places < c.units → record { queue = q; answer = answer.NoRoom; units = 0 } ≡ burst_submitted_in ended table q places (burst_of s)
+      pub sent-short : (places : ℕ) → places < c.units → record { left = q; answer = answer.NoRoom; units = 0 } ≡ burst_submitted_in ended table q places (burst_of s)
       unfolding burst_submitted_in
       sent-short places l = sym (ap (burst_submitted_in ended table q places) whole ∙ cond-false _ _ (few places l))
 
@@ -167,10 +167,10 @@ module _ (ended : Bool) (table : List Instrument) where
       enough places l = le-leb (length (units_in (burst_of s))) places (omega (arith, l, count))
 
       pub sent-whole : (places : ℕ) → c.units ≤ places → (left : Queue) → left ≡ (singly_in ended table q (units_in (burst_of s))).queue
-          → record { queue = left; answer = answer.Taken; units = c.units } ≡ burst_submitted_in ended table q places (burst_of s)
+          → record { left = left; answer = answer.Taken; units = c.units } ≡ burst_submitted_in ended table q places (burst_of s)
       unfolding burst_submitted_in
       sent-whole places l left k =
-          (λ i. record { queue = k i; answer = answer.Taken; units = count i }) ∙ sym (ap (burst_submitted_in ended table q places) whole ∙ cond-true _ _ (enough places l))
+          (λ i. record { left = k i; answer = answer.Taken; units = count i }) ∙ sym (ap (burst_submitted_in ended table q places) whole ∙ cond-true _ _ (enough places l))
 
       pub area-whole : (area : List ℕ) → c.units ≤ length area → (after : List ℕ) → after ≡ over (singly_in ended table q (units_in (burst_of s))).numbers area
           → after ≡ area_in ended table q area (burst_of s)

@@ -12,21 +12,12 @@ ghost use Rattle.entrance_admission.specs.Submission.{submitted_in};
 ghost use Rattle.code_program.specs.InstrumentTable.{instruments_of};
 ghost use Rattle.entrance_burst.specs.Singly.{singly_in, burst_submitted_in, area_in};
 
-use base_answer::Answer;
+use base_answer::{Answer, AnsweredLine, AnsweredUnits};
 use code_program::Instruments;
-use entrance_admission::AdmissionResult;
 use player_queue::Queue;
 
-// What a burst makes of the waiting lines; `units` is how many of its units were answered.
-#[derive(Clone, Copy)]
-pub struct BurstAdmission {
-    pub queue: Queue,
-    pub answer: Answer,
-    pub units: usize,
-}
-
 // A unit of a burst: it comes in as a unit does that comes alone.
-fn submit_unit(instruments: Instruments, ended: bool, q: Queue, s: &[u8]) -> AdmissionResult
+fn submit_unit(instruments: Instruments, ended: bool, q: Queue, s: &[u8]) -> AnsweredLine<Queue>
     ensures { result ≡ submitted_in ended (must_be_timed entrance.unit) (instruments_of instruments) q (reads entrance.unit s.now) }
 {
     entrance_admission::submit(instruments, ended, q, entrance_readers::unit(s))
@@ -49,16 +40,14 @@ fn submit_units(
 {
     let mut q = old;
     let mut at: usize = 0;
-    let mut i: usize = 0;
-    while i < m {
+    for i in 0..m {
         let start = at + score_bursts::LENGTH_BYTES;
         let end = start + score_bursts::length_at(s, at);
         let r = submit_unit(instruments, ended, q, &s[start..end]);
         let given = r.answer;
         answers[i] = base_answer::number(given);
-        q = r.queue;
+        q = r.left;
         at = end;
-        i += 1;
     }
     q
 }
@@ -70,29 +59,29 @@ pub fn submit_burst(
     q: Queue,
     s: &[u8],
     answers: &mut [u8],
-) -> BurstAdmission
+) -> AnsweredUnits<Queue>
     ensures sent { result ≡ burst_submitted_in ended (instruments_of instruments) q (length answers.old) (burst_of s.now) }
     ensures area { answers.new ≡ area_in ended (instruments_of instruments) q answers.old (burst_of s.now) }
 {
     let cut = score_bursts::scan(s);
     let fault = cut.answer;
     if !base_answer::is_taken(fault) {
-        return BurstAdmission {
-            queue: q,
+        return AnsweredUnits {
+            left: q,
             answer: fault,
             units: 0,
         };
     }
     if answers.len() < cut.units {
-        return BurstAdmission {
-            queue: q,
+        return AnsweredUnits {
+            left: q,
             answer: Answer::NoRoom,
             units: 0,
         };
     }
     let left = submit_units(instruments, ended, q, s, cut.units, answers);
-    BurstAdmission {
-        queue: left,
+    AnsweredUnits {
+        left,
         answer: Answer::Taken,
         units: cut.units,
     }

@@ -16,8 +16,7 @@ use Rattle.score_line.specs.declared.Line.{Line}
 use Rattle.score_line.specs.declared.LineRead.{LineRead}
 use Rattle.base_bitstream.specs.Fields.{read_at}
 use Rattle.base_bitstream.specs.Filling.{filled}
-use Rattle.base_bitstream.specs.declared.FieldRead.{FieldRead}
-use Rattle.base_bitstream.specs.declared.FieldRead.TheVariants.{Value, Short}
+use Rattle.std.specs.Prelude.{Option, Some, None}
 use Rattle.score_reader.specs.Score.{Score, Lines, all, faulty, lines_from, taken, refused_score, counted, ended, score_of}
 use Rattle.score_reader.specs.inside.Walk.{score_read_of, first_of, next_of, Ahead}
 use Rattle.score_reader.specs.declared.Cursor.{Cursor}
@@ -27,8 +26,9 @@ use Rattle.score_reader.proofs.Readers.{fault-not-taken}
 use Rattle.score_reader.proofs.Walk.{ahead-first, ahead-left, ahead-next}
 use Rattle.text_format.specs.inside.Reading.{Text, lines, bad, lines_from as text-from, judged, text_of, line_from}
 use Rattle.text_format.specs.Content.{judged_from, judgement}
-use Rattle.text_event_reader.specs.Results.{line_told}
-use Rattle.text_event_reader.specs.declared.TextLineRead.{TextLineRead}
+use Rattle.std.specs.Prelude.{Option, Some}
+use Rattle.std.specs.Option.{IsSome, is_some}
+use Rattle.text_event_reader.specs.Results.{line_told, step_of}
 use Rattle.text_reader.specs.Texts.{text_told, Ahead as AheadText}
 use Rattle.text_reader.specs.declared.TextRead.{TextRead}
 use Rattle.text_reader.proofs.Walk.{ahead-first as text-first, ahead-next as text-next}
@@ -64,9 +64,9 @@ score-told bits = go (read_at bits 0 20)
     by_lines (all ls p) = by-fill (filled bits p) ls
     by_lines (faulty f i) = fault-told f i
 
-    go : (g : FieldRead) → Told (counted bits g)
-    go (Value n p) = by_lines (lines_from bits n 0 p)
-    go Short = not-read answer.CutShort 0 refl
+    go : (g : Option (ℕ × ℕ)) → Told (counted bits g)
+    go (Some r) = by_lines (lines_from bits r.0 0 r.1)
+    go None = not-read answer.CutShort 0 refl
 
 pub text-told : (bytes : List ℕ) → Told (text_of bytes)
 unfolding text_of
@@ -127,13 +127,14 @@ fewer ls = let e : min (length ls) most_lines_read ≡ min most_lines_read (leng
 
 pub gather-end : {C : Type 0} (Ahead : C → List Line → Type 0) (s : Score) → Told s → is_taken s.answer ≡ true
     → (m : ℕ) (a : List Line) (c : C) (i : ℕ) → m ≤ i → Gathered Ahead s.lines m a c i
-    → record { timed = true; answer = answer.Taken; line = 0; lines = a; count = i } ≡ entrance_read_of true s
+    → record { timed = true; answer = answer.Taken; line = 0; lines = a; count = m } ≡ entrance_read_of true s
 unfolding entrance_read_of
 gather-end Ahead s t u m a c i h g =
     let whole = told-lines s t u in
     let e : i ≡ min (length s.lines) most_lines_read = omega (arith, g.most, g.small) in
     let first : take i s.lines ≡ take most_lines_read s.lines = ap (λ (x : ℕ). take x s.lines) e ∙ fewer s.lines in
-    let size : i ≡ length (take most_lines_read s.lines) = e ∙ sym (length-take most_lines_read s.lines ∙ omega arith) in
+    let all : m ≡ min (length s.lines) most_lines_read = omega (arith, h, g.most, g.small) in
+    let size : m ≡ length (take most_lines_read s.lines) = all ∙ sym (length-take most_lines_read s.lines ∙ omega arith) in
     λ j. record {
       timed = true;
       answer = (sym whole j).answer;
@@ -162,10 +163,20 @@ text-start bytes t count e m k l q =
     let ls = (text_of bytes).lines in
     gather_none (AheadText bytes) ls m (k ∙ ap (λ (x : ℕ). min x most_lines_read) e) 0 (text-first bytes ls (told-lines (text_of bytes) (text-told bytes) t)) l q
 
-pub text-steps : (bytes : List ℕ) (at : ℕ) (st : TextLineRead) → st ≡ line_told bytes (line_from (drop at bytes)) → Steps (AheadText bytes) at st.read.line st.next
-text-steps bytes at st e l ls h =
+-- before each of the first m lines, a line stands there
+pub text-stands : (bytes : List ℕ) (ls : List Line) (m : ℕ) (a : List Line) (at i : ℕ) → i < m → Gathered (AheadText bytes) ls m a at i
+    → {o : Option (LineRead × ℕ)} → o ≡ line_told bytes (line_from (drop at bytes)) → IsSome o
+text-stands bytes ls m a at i h g e =
+    let short : i < length ls = omega (arith, h, g.most) in
+    let p = text-next bytes at (get_or ls i blank_line) (drop (suc i) ls) (subst (AheadText bytes at) (drop-cons ls i blank_line short) g.ahead) in
+    ap is_some (e ∙ p.stands)
+
+pub text-steps : (bytes : List ℕ) (at : ℕ) (st : LineRead × ℕ) {o : Option (LineRead × ℕ)} → o ≡ line_told bytes (line_from (drop at bytes)) → o ≡ Some st
+    → Steps (AheadText bytes) at st.0.line st.1
+text-steps bytes at st e f l ls h =
     let p = text-next bytes at l ls h in
-    (ap (λ (x : TextLineRead). x.read.line) e ∙ p.line, subst⁻¹ (λ (x : TextLineRead). AheadText bytes x.next ls) e p.ahead)
+    let s : st ≡ step_of (line_told bytes (line_from (drop at bytes))) = ap step_of (sym f ∙ e) in
+    (ap (λ (x : LineRead × ℕ). x.0.line) s ∙ p.line, subst⁻¹ (λ (x : LineRead × ℕ). AheadText bytes x.1 ls) s p.ahead)
 
 -- a fault brings no line
 pub refused-handed : (timed : Bool) (a : Answer) (i : ℕ) (l : Line) → l ≡ blank_line

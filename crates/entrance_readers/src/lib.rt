@@ -36,21 +36,18 @@ fn score_lines(s: &[u8]) -> EntranceRead
     let none = score_line::blank_line();
     let mut lines = [none; MOST_LINES];
     let mut c = score_reader::first(s);
-    let m = base_numbers::at_most(c.left, MOST_LINES);
-    let mut i: usize = 0;
-    while i < m {
+    let m = c.left.min(MOST_LINES);
+    for i in 0..m {
         let step = score_reader::next(s, c);
-        let l = step.line;
-        lines[i] = l;
+        lines[i] = step.line;
         c = step.rest;
-        i += 1;
     }
     EntranceRead {
         timed: true,
         answer: Answer::Taken,
         line: 0,
         lines: lines,
-        count: i,
+        count: m,
     }
 }
 
@@ -89,23 +86,19 @@ fn text_lines(s: &[u8], count: usize) -> EntranceRead
 {
     let none = score_line::blank_line();
     let mut lines = [none; MOST_LINES];
-    let m = base_numbers::at_most(count, MOST_LINES);
+    let m = count.min(MOST_LINES);
     let mut at: usize = 0;
-    let mut i: usize = 0;
-    while i < m {
-        let step = text_line_reader::line_at(s, at);
-        let read = step.read;
-        let l = read.line;
-        lines[i] = l;
-        at = step.next;
-        i += 1;
+    for i in 0..m {
+        let (read, next) = text_line_reader::line_at(s, at).unwrap();
+        lines[i] = read.line;
+        at = next;
     }
     EntranceRead {
         timed: true,
         answer: Answer::Taken,
         line: 0,
         lines: lines,
-        count: i,
+        count: m,
     }
 }
 

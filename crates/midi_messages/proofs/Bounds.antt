@@ -8,19 +8,19 @@ use lib.ListN.{get_or}
 use Rattle.midi_messages.specs.Message.{kind, channel_of, note_off, note_on, classified}
 use Rattle.midi_messages.specs.Writing.{Call, whole, fault, before, AllData, Parses, nothing, written, running, system, stray, cut, running-cut}
 use Rattle.midi_messages.specs.Claims.{Valid, AllValid, ValidCall, EveryMessageValid}
-use Rattle.midi_messages.specs.declared.Classified.{Classified}
-use Rattle.midi_messages.specs.declared.Classified.TheVariants.{Note, Other}
+use Rattle.midi_messages.specs.declared.NoteMessage.{NoteMessage}
+use Rattle.std.specs.Prelude.{Option, Some, None}
 use Rattle.midi_messages.proofs.Meaning.{every_call}
 
-ValidHeard : Classified → Type 0
-ValidHeard (Note m) = Valid m
-ValidHeard Other = Unit {0}
+ValidHeard : Option NoteMessage → Type 0
+ValidHeard (Some m) = Valid m
+ValidHeard None = Unit {0}
 
-put-before : (h : Classified) (c : Call) → ValidHeard h → ValidCall c → ValidCall (before h c)
+put-before : (h : Option NoteMessage) (c : Call) → ValidHeard h → ValidCall c → ValidCall (before h c)
 unfolding ValidHeard ValidCall AllValid before
-put-before (Note m) (whole ms) p q = (p, q)
-put-before (Note m) (fault a) p q = tt
-put-before Other c p q = q
+put-before (Some m) (whole ms) p q = (p, q)
+put-before (Some m) (fault a) p q = tt
+put-before None c p q = q
 
 module _ (s k v : ℕ) (key : k < 128) (velocity : v < 128) where
   off : Valid (note_off (channel_of s) k)
@@ -30,7 +30,7 @@ module _ (s k v : ℕ) (key : k < 128) (velocity : v < 128) where
   on true = off
   on false = record { channel = mod-lt s (lit≤ tt); key = key; velocity = velocity }
 
-  by_kind : (a b : Bool) → ValidHeard (cond a (Note (note_off (channel_of s) k)) (cond b (Note (note_on (channel_of s) k v)) Other))
+  by_kind : (a b : Bool) → ValidHeard (cond a (Some (note_off (channel_of s) k)) (cond b (Some (note_on (channel_of s) k v)) None))
   unfolding ValidHeard note_on
   by_kind true b = off
   by_kind false true = on (eqb v 0)

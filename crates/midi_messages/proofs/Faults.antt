@@ -4,8 +4,7 @@ use Prim.Native.Nat.{ℕ}
 use Rattle.base_answer.specs.declared.Answer.TheVariants.{CutShort, NotCarried}
 use Rattle.midi_messages.specs.Writing.{Call, whole, fault, before, Parses, nothing, written, running, system, stray, cut, running-cut}
 use Rattle.midi_messages.specs.inside.Reading.{call_of}
-use Rattle.midi_messages.specs.declared.Classified.{Classified}
-use Rattle.midi_messages.specs.declared.Classified.TheVariants.{Note, Other}
+use Rattle.std.specs.Prelude.{Option, Some, None}
 use Rattle.midi_messages.specs.declared.NoteMessage.{NoteMessage}
 use Rattle.midi_messages.proofs.Meaning.{every_call}
 
@@ -14,12 +13,12 @@ pub data Kind : Call → Type 0 where
   is_cut : Kind (fault CutShort)
   is-not-carried : Kind (fault NotCarried)
 
-kind-before : (h : Classified) {c : Call} → Kind c → Kind (before h c)
+kind-before : (h : Option NoteMessage) {c : Call} → Kind c → Kind (before h c)
 unfolding before
-kind-before (Note m) (is_whole ms) = is_whole _
-kind-before (Note m) is_cut = is_cut
-kind-before (Note m) is-not-carried = is-not-carried
-kind-before Other k = k
+kind-before (Some m) (is_whole ms) = is_whole _
+kind-before (Some m) is_cut = is_cut
+kind-before (Some m) is-not-carried = is-not-carried
+kind-before None k = k
 
 kind-said : {s : ℕ} {bs : List ℕ} {c : Call} → Parses s bs c → Kind c
 kind-said nothing = is_whole _

@@ -14,11 +14,9 @@ use Rattle.base_laws.proofs.Choice.{cond-true, cond-false}
 use Rattle.base_answer.specs.declared.Answer.TheVariants.{CutShort, NotCarried}
 use Rattle.midi_messages.specs.Message.{first_status, first_system, none, kind, data_bytes, classified}
 use Rattle.midi_messages.specs.Writing.{Call, whole, fault, before, AllData, Whole, Part, Stops, at-end, at-status, Parses, nothing, written, running, system, stray, cut, running-cut}
-use Rattle.midi_messages.specs.inside.Reading.{parser_state, feed_data, feed_running, feed_status, stepped, behind, call_from, call_of}
+use Rattle.midi_messages.specs.inside.Reading.{Step, parser_state, feed_data, feed_running, feed_status, stepped, behind, call_from, call_of}
 use Rattle.midi_messages.specs.Claims.{EveryCall, OneParse}
-use Rattle.midi_messages.specs.declared.Classified.TheVariants.{Other}
-use Rattle.midi_messages.specs.declared.Step.{Step}
-use Rattle.midi_messages.specs.declared.Step.TheVariants.{Stops as Halts}
+use Rattle.std.specs.Prelude.{None, Err}
 
 -- ---- what one byte does at each kind of place
 rest : Step → List ℕ → Call
@@ -36,20 +34,20 @@ data-byte s b bs h = ap (λ x. rest x bs) (cond-true (feed_running s b) (feed_st
 -- within one
 wanted : (s w d b : ℕ) (bs : List ℕ) → (w ≡ 0 → ⊥) → b < first_status → call_from (parser_state s w d) (b ∷ bs) ≡ rest (feed_data s w d b) bs
 unfolding call_from stepped rest
-wanted s w d b bs n h = ap (λ x. rest x bs) (cond-false _ _ (ne_eqb w 0 n) ∙ cond-true (feed_data s w d b) (Halts CutShort) (lt-ltb b first_status h))
+wanted s w d b bs n h = ap (λ x. rest x bs) (cond-false _ _ (ne_eqb w 0 n) ∙ cond-true (feed_data s w d b) (Err CutShort) (lt-ltb b first_status h))
 
 stopped : (s w d : ℕ) (bs : List ℕ) → (w ≡ 0 → ⊥) → Stops bs → call_from (parser_state s w d) bs ≡ fault CutShort
 unfolding call_from stepped rest
 stopped s w d _ n at-end = cond-false _ _ (ne_eqb w 0 n)
-stopped s w d (b ∷ bs) n (at-status h) = ap (λ x. rest x bs) (cond-false _ _ (ne_eqb w 0 n) ∙ cond-false (feed_data s w d b) (Halts CutShort) (le-ltb b first_status h))
+stopped s w d (b ∷ bs) n (at-status h) = ap (λ x. rest x bs) (cond-false _ _ (ne_eqb w 0 n) ∙ cond-false (feed_data s w d b) (Err CutShort) (le-ltb b first_status h))
 
 -- ---- a message's data bytes
 data Size (s : ℕ) : Type 0 where
-  one : data_bytes s ≡ 1 → ((k v : ℕ) → classified s k v ≡ Other) → Size s
+  one : data_bytes s ≡ 1 → ((k v : ℕ) → classified s k v ≡ None) → Size s
   two : data_bytes s ≡ 2 → Size s
 
 -- the kinds with one data byte are no notes
-plain : (s n : ℕ) → kind s ≡ n → eqb n 8 ≡ false → eqb n 9 ≡ false → (k v : ℕ) → classified s k v ≡ Other
+plain : (s n : ℕ) → kind s ≡ n → eqb n 8 ≡ false → eqb n 9 ≡ false → (k v : ℕ) → classified s k v ≡ None
 unfolding classified
 plain s n e a b k v = cond-false _ _ (ap (λ x. eqb x 8) e ∙ a) ∙ cond-false _ _ (ap (λ x. eqb x 9) e ∙ b)
 
@@ -64,7 +62,7 @@ at : ℕ → ℕ → List ℕ → Call
 at s n bs = call_from (parser_state s n 0) bs
 
 -- all of them: the message is heard
-filled-one : (s : ℕ) (ds bs : List ℕ) → AllData ds → length ds ≡ 1 → ((k v : ℕ) → classified s k v ≡ Other)
+filled-one : (s : ℕ) (ds bs : List ℕ) → AllData ds → length ds ≡ 1 → ((k v : ℕ) → classified s k v ≡ None)
     → at s 1 (ds ++ bs) ≡ before (classified s (get_or ds 0 0) (get_or ds 1 0)) (at s 0 bs)
 unfolding AllData at rest feed_data
 filled-one s [] bs p l o = absurd (omega arith)

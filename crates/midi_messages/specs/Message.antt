@@ -1,8 +1,6 @@
 -- MIDI 1.0's channel messages: which bytes begin one, how many data bytes it has, and which note message it is.
-use Rattle.std.specs.Prelude.{ℕ, ◌/◌, ◌%◌, true, false, ◌||◌, cond, eqb}
+use Rattle.std.specs.Prelude.{ℕ, ◌/◌, ◌%◌, true, false, ◌||◌, cond, eqb, Option, Some, None}
 use Rattle.midi_messages.specs.declared.NoteMessage.{NoteMessage}
-use Rattle.midi_messages.specs.declared.Classified.{Classified}
-use Rattle.midi_messages.specs.declared.Classified.TheVariants.{Note, Other}
 
 -- a byte below 0x80 is data; from 0x80 on it is a status byte, which begins a channel message or, from 0xF0 on, is a system byte
 abbrev pub first_status : ℕ
@@ -34,5 +32,5 @@ unfoldable pub note_on : ℕ → ℕ → ℕ → NoteMessage
 note_on c k v = cond (eqb v 0) (note_off c k) (record { on = true; channel = c; key = k; velocity = v })
 
 -- what a whole channel message is, of its status and its first two data bytes: 8n a note-off, 9n a note-on, any other no note message
-unfoldable pub classified : ℕ → ℕ → ℕ → Classified
-classified s k v = cond (eqb (kind s) 8) (Note (note_off (channel_of s) k)) (cond (eqb (kind s) 9) (Note (note_on (channel_of s) k v)) Other)
+unfoldable pub classified : ℕ → ℕ → ℕ → Option NoteMessage
+classified s k v = cond (eqb (kind s) 8) (Some (note_off (channel_of s) k)) (cond (eqb (kind s) 9) (Some (note_on (channel_of s) k v)) None)

@@ -1,11 +1,9 @@
 -- Document 02 on a keyboard call: "whole messages per call, running status within the call and none at its start"; its faults, 1 and 2.
-use Rattle.std.specs.Prelude.{ℕ, ◌≤◌, ◌<◌, ◌≡◌, List, [], ◌∷◌, ◌++◌, length, get_or}
+use Rattle.std.specs.Prelude.{ℕ, ◌≤◌, ◌<◌, ◌≡◌, List, [], ◌∷◌, ◌++◌, length, get_or, Option, Some, None}
 use Rattle.base_answer.specs.declared.Answer.{Answer}
 use Rattle.base_answer.specs.declared.Answer.TheVariants.{CutShort, NotCarried}
 use Rattle.midi_messages.specs.Message.{first_status, first_system, none, data_bytes, classified}
 use Rattle.midi_messages.specs.declared.NoteMessage.{NoteMessage}
-use Rattle.midi_messages.specs.declared.Classified.{Classified}
-use Rattle.midi_messages.specs.declared.Classified.TheVariants.{Note, Other}
 
 -- the note messages of a call, in order, or the answer to its first fault
 pub data Call : Type 0 where
@@ -13,10 +11,10 @@ pub data Call : Type 0 where
   fault : Answer → Call
 
 -- a message before the rest of a call; of a call with a fault nothing is kept
-unfoldable pub before : Classified → Call → Call
-before (Note m) (whole ms) = whole (m ∷ ms)
-before (Note m) (fault a) = fault a
-before Other c = c
+unfoldable pub before : Option NoteMessage → Call → Call
+before (Some m) (whole ms) = whole (m ∷ ms)
+before (Some m) (fault a) = fault a
+before None c = c
 
 unfoldable pub AllData : List ℕ → Type 0
 AllData [] = Unit {0}

@@ -2,27 +2,20 @@
 #![tactic(auto)]
 
 ghost use Rattle.std.specs.Prelude.{◌≡◌, []};
-ghost use Rattle.base_answer.specs.declared.Answer.TheVariants.{Taken};
 ghost use Rattle.midi_messages.specs.Message.{data_bytes, note_off, note_on, classified};
 ghost use Rattle.midi_messages.specs.inside.Reading.{feed_data as feed_data_of, feed_running as feed_running_of, feed_status as feed_status_of, stepped, call_of, messages_with, call_messages};
-ghost use Rattle.midi_messages.specs.inside.Passes.{added, answered as answered_of};
+ghost use Rattle.midi_messages.specs.inside.Passes.{added};
 
 use base_answer::Answer;
 
 // A note-on, or a note-off, which has velocity 0.
+// Kept: `on` is a flag, since a test of it is plainer than a match on two kinds with the same fields.
 #[derive(Clone, Copy)]
 pub struct NoteMessage {
     pub on: bool,
     pub channel: u8,
     pub key: u8,
     pub velocity: u8,
-}
-
-// What a whole channel message is to the panel.
-#[derive(Clone, Copy)]
-enum Classified {
-    Note(NoteMessage),
-    Other,
 }
 
 // A place between two bytes: the running status, how many data bytes the message that has begun still wants, and the first that it had.
@@ -33,22 +26,14 @@ struct ParserState {
     first: u8,
 }
 
-// What a byte does.
-#[derive(Clone, Copy)]
-enum Step {
-    Stops(Answer),
-    Goes(ParserState, Classified),
-}
-
 // How many note messages wait at most.
 pub const MOST_MESSAGES: usize = 64;
 
-// The answer to a call, and its note messages from the first on: one more than can wait tells that there is no room.
+// The note messages of a call, from the first on: one more than can wait tells that there is no room.
 #[derive(Clone, Copy)]
 pub struct CallMessages {
     pub list: [NoteMessage; MOST_READ],
     pub count: usize,
-    pub answer: Answer,
 }
 
 pub const MOST_READ: usize = MOST_MESSAGES + 1;
@@ -86,8 +71,8 @@ fn note_off(channel: u8, key: u8) -> NoteMessage
 {
     NoteMessage {
         on: false,
-        channel: channel,
-        key: key,
+        channel,
+        key,
         velocity: 0,
     }
 }
@@ -101,49 +86,48 @@ fn note_on(channel: u8, key: u8, velocity: u8) -> NoteMessage
     }
     NoteMessage {
         on: true,
-        channel: channel,
-        key: key,
-        velocity: velocity,
+        channel,
+        key,
+        velocity,
     }
 }
 
-fn classify(status: u8, key: u8, velocity: u8) -> Classified
+// The note message that a whole channel message is, if it is one.
+fn classify(status: u8, key: u8, velocity: u8) -> Option<NoteMessage>
     ensures { result ≡ classified status key velocity }
 {
     let kind = status / 16;
     let channel = status % 16;
     if kind == NOTE_OFF {
-        return Classified::Note(note_off(channel, key));
+        return Some(note_off(channel, key));
     }
     if kind == NOTE_ON {
-        return Classified::Note(note_on(channel, key, velocity));
+        return Some(note_on(channel, key, velocity));
     }
-    Classified::Other
+    None
 }
+
+// What a byte does: the place behind it, and the note message that it ends, if it ends one.
+type Step = Result<(ParserState, Option<NoteMessage>), Answer>;
 
 // A data byte for a message that wants some.
 fn feed_data(status: u8, wants: u8, first: u8, b: u8) -> Step
     ensures { result ≡ feed_data_of status wants first b }
 {
     if wants == 1 {
-        let h = classify(status, first, b);
-        return Step::Goes(
-            ParserState {
-                status: status,
-                wants: 0,
-                first: 0,
-            },
-            h,
-        );
+        let ended = ParserState {
+            status,
+            wants: 0,
+            first: 0,
+        };
+        return Ok((ended, classify(status, first, b)));
     }
-    Step::Goes(
-        ParserState {
-            status: status,
-            wants: 1,
-            first: b,
-        },
-        Classified::Other,
-    )
+    let begun = ParserState {
+        status,
+        wants: 1,
+        first: b,
+    };
+    Ok((begun, None))
 }
 
 // A data byte between messages.
@@ -151,7 +135,7 @@ fn feed_running(status: u8, b: u8) -> Step
     ensures { result ≡ feed_running_of status b }
 {
     if status == NO_STATUS {
-        return Step::Stops(Answer::NotCarried);
+        return Err(Answer::NotCarried);
     }
     feed_data(status, data_bytes(status), 0, b)
 }
@@ -161,16 +145,14 @@ fn feed_status(b: u8) -> Step
     ensures { result ≡ feed_status_of b }
 {
     if b < FIRST_SYSTEM {
-        return Step::Goes(
-            ParserState {
-                status: b,
-                wants: data_bytes(b),
-                first: 0,
-            },
-            Classified::Other,
-        );
+        let begun = ParserState {
+            status: b,
+            wants: data_bytes(b),
+            first: 0,
+        };
+        return Ok((begun, None));
     }
-    Step::Stops(Answer::NotCarried)
+    Err(Answer::NotCarried)
 }
 
 fn advance(p: ParserState, b: u8) -> Step
@@ -185,83 +167,53 @@ fn advance(p: ParserState, b: u8) -> Step
     if b < FIRST_STATUS {
         return feed_data(p.status, p.wants, p.first, b);
     }
-    Step::Stops(Answer::CutShort)
+    Err(Answer::CutShort)
 }
 
 // No messages.
 fn empty() -> CallMessages
-    ensures { result ≡ messages_with [] Taken }
+    ensures { result ≡ messages_with [] }
 {
     let blank = note_off(0, 0);
-    let list = [blank; MOST_READ];
     CallMessages {
-        list: list,
+        list: [blank; MOST_READ],
         count: 0,
-        answer: Answer::Taken,
-    }
-}
-
-fn answered(g: CallMessages, a: Answer) -> CallMessages
-    ensures { result ≡ answered_of g a }
-{
-    let list = g.list;
-    CallMessages {
-        list: list,
-        count: g.count,
-        answer: a,
     }
 }
 
 // A note message goes behind the others while there is a place for it.
-fn add(g: CallMessages, h: Classified) -> CallMessages
-    ensures { result ≡ added g h }
+fn add(g: CallMessages, m: NoteMessage) -> CallMessages
+    ensures { result ≡ added g m }
 {
-    match h {
-        Classified::Note(m) => {
-            let n = g.count;
-            if n < MOST_READ {
-                let mut list = g.list;
-                list[n] = m;
-                let a = g.answer;
-                return CallMessages {
-                    list: list,
-                    count: n + 1,
-                    answer: a,
-                };
-            }
-            g
-        }
-        Classified::Other => g,
+    let n = g.count;
+    if n < MOST_READ {
+        let mut list = g.list;
+        list[n] = m;
+        return CallMessages { list, count: n + 1 };
     }
+    g
 }
 
-// The bytes of one call: its note messages in order, at most the first 65, or its first fault and none of them.
-pub fn read_call(bytes: &[u8]) -> CallMessages
+// The bytes of one call: its note messages in order, at most the first 65, or its first fault.
+pub fn read_call(bytes: &[u8]) -> Result<CallMessages, Answer>
     ensures { result ≡ call_messages (call_of bytes.now) }
 {
-    let nothing = empty();
-    let mut g = nothing;
+    let mut g = empty();
     let mut p = ParserState {
         status: NO_STATUS,
         wants: 0,
         first: 0,
     };
-    let mut i: usize = 0;
-    while i < bytes.len() {
+    for i in 0..bytes.len() {
         let b = bytes[i];
-        match advance(p, b) {
-            Step::Stops(a) => {
-                return answered(nothing, a);
-            }
-            Step::Goes(q, h) => {
-                p = q;
-                g = add(g, h);
-            }
+        let (q, h) = advance(p, b)?;
+        p = q;
+        if let Some(m) = h {
+            g = add(g, m);
         }
-        i += 1;
     }
-    if p.wants == 0 {
-        return g;
+    if p.wants != 0 {
+        return Err(Answer::CutShort);
     }
-    answered(nothing, Answer::CutShort)
+    Ok(g)
 }

@@ -9,19 +9,18 @@ use lib.ListN.{length, take, drop, get_or, set, length-append, length-take, take
 use lib.Seq.{take-suc, take_at, take_all, length-take-le}
 use borrow.Author.Tests.{le-leb, lt-leb}
 use Rattle.base_laws.proofs.Lists.{take_min}
-use Rattle.base_answer.specs.Numbers.{is_taken}
-use Rattle.base_answer.specs.declared.Answer.TheVariants.{Taken, NoRoom}
+use Rattle.base_answer.specs.declared.Answer.{Answer}
+use Rattle.base_answer.specs.declared.Answer.TheVariants.{NoRoom}
+use Rattle.std.specs.Prelude.{Result, Ok, Err}
 use Rattle.midi_messages.specs.Writing.{Call, whole, fault}
-use Rattle.midi_messages.specs.inside.Reading.{most, padded, call_messages, call_of}
+use Rattle.midi_messages.specs.inside.Reading.{most, padded, messages_with, call_messages, call_of}
 use Rattle.midi_messages.specs.declared.NoteMessage.{NoteMessage}
 use Rattle.midi_messages.specs.declared.CallMessages.{CallMessages}
-use Rattle.midi_messages.proofs.Faults.{Kind, is_whole, is_cut, is-not-carried, every-kind}
 use Rattle.player_model.specs.Lists.{over}
 use Rattle.player_model.proofs.Lists.{cond-true, cond-false}
 use Rattle.player_model.proofs.Loops.{over-set}
 use Rattle.midi_queue.specs.Keyboard.{most_messages, messages_in, behind, enqueued_in}
 use Rattle.midi_queue.specs.declared.MessageQueue.{MessageQueue}
-use Rattle.midi_queue.specs.declared.QueueResult.{QueueResult}
 
 -- ---- one message after the other
 
@@ -44,66 +43,51 @@ module _ (list more : List NoteMessage) (n : ℕ) where
       ∙ subst (λ (m : ℕ). set (over ks list) m x ≡ over (ks ++ (x ∷ [])) list) l (over-set ks list x (omega (arith, l)))
       ∙ ap (λ (t : List NoteMessage). over t list) s
 
--- ---- a fault is a refusal
-
-Honest : Call → Type 0
-Honest (whole ms) = Unit {0}
-Honest (fault a) = is_taken a ≡ false
-
-kind-honest : {c : Call} → Kind c → Honest c
-unfolding Honest
-kind-honest (is_whole ms) = tt
-kind-honest is_cut = refl
-kind-honest is-not-carried = refl
-
-honest : (bs : List ℕ) → Honest (call_of bs)
-honest bs = kind-honest (every-kind bs)
-
 -- ---- a call
 
-refuses : (w : MessageQueue) (c : Call) (g : CallMessages) → g ≡ call_messages c → is_taken g.answer ≡ false → ◌≡◌ {A = QueueResult} (record { messages = w; answer = g.answer }) (enqueued_in w c)
+-- the ways through it, of what its bytes were read as
+refuses : (w : MessageQueue) (c : Call) {a : Answer} → Err a ≡ call_messages c → Err a ≡ enqueued_in w c
 unfolding call_messages enqueued_in
-refuses w (whole ms) g e t = absurd (true≢false (sym (ap (λ (x : CallMessages). is_taken x.answer) e) ∙ t))
-refuses w (fault a) g e t = λ i. record { messages = w; answer = (e i).answer }
+refuses w (whole ms) e = cc
+refuses w (fault a) e = cc
 
-pub press-refuses : (w : MessageQueue) (bs : List ℕ) (g : CallMessages) → g ≡ call_messages (call_of bs) → is_taken g.answer ≡ false
-    → ◌≡◌ {A = QueueResult} (record { messages = w; answer = g.answer }) (enqueued_in w (call_of bs))
-press-refuses w bs g e t = refuses w (call_of bs) g e t
+pub press-refuses : (w : MessageQueue) (bs : List ℕ) {r : Result CallMessages Answer} {a : Answer} → r ≡ call_messages (call_of bs) → r ≡ Err a
+    → Err a ≡ enqueued_in w (call_of bs)
+press-refuses w bs e t = refuses w (call_of bs) (sym t ∙ e)
 
 module _ (w : MessageQueue) (long : length w.list ≡ 64) (n : ℕ) (is : n ≡ min w.count 64) where
   many : length (messages_in w) ≡ n
   many = length-take w.count w.list ∙ omega (arith, is, long)
 
-  full : (c : Call) → Honest c → (g : CallMessages) → g ≡ call_messages c → is_taken g.answer ≡ true → 64 - n < g.count
-      → ◌≡◌ {A = QueueResult} (record { messages = w; answer = NoRoom }) (enqueued_in w c)
-  unfolding call_messages enqueued_in Honest
-  full (fault a) o g e t h = absurd (true≢false (sym t ∙ ap (λ (x : CallMessages). is_taken x.answer) e ∙ o))
-  full (whole ms) o g e t h =
-      let k : g.count ≡ length (take most ms) = ap (λ (x : CallMessages). x.count) e in
+  full : (c : Call) {g : CallMessages} → Ok g ≡ call_messages c → 64 - n < g.count → Err NoRoom ≡ enqueued_in w c
+  unfolding call_messages enqueued_in
+  full (fault a) e h = cc
+  full (whole ms) {g} e h =
+      let k : g.count ≡ length (take most ms) = cc in
       sym (cond-false _ _ (lt-leb (length (messages_in w) + length ms) most_messages (omega (arith, k, length-take most ms, many, is, h))))
 
-  pub press-full : (bs : List ℕ) (g : CallMessages) → g ≡ call_messages (call_of bs) → is_taken g.answer ≡ true → 64 - n < g.count
-      → ◌≡◌ {A = QueueResult} (record { messages = w; answer = NoRoom }) (enqueued_in w (call_of bs))
-  press-full bs g e t h = full (call_of bs) (honest bs) g e t h
+  pub press-full : (bs : List ℕ) {r : Result CallMessages Answer} {g : CallMessages} → r ≡ call_messages (call_of bs) → r ≡ Ok g → 64 - n < g.count
+      → Err NoRoom ≡ enqueued_in w (call_of bs)
+  press-full bs e t h = full (call_of bs) (sym t ∙ e) h
 
-  fits : (c : Call) → Honest c → (g : CallMessages) → g ≡ call_messages c → is_taken g.answer ≡ true → g.count ≤ 64 - n
-      → (list : List NoteMessage) → list ≡ over (take n w.list ++ take g.count g.list) w.list
-      → ◌≡◌ {A = QueueResult} (record { messages = record { list = list; count = n + g.count }; answer = Taken }) (enqueued_in w c)
-  unfolding call_messages enqueued_in Honest behind
-  fits (fault a) o g e t h list q = absurd (true≢false (sym t ∙ ap (λ (x : CallMessages). is_taken x.answer) e ∙ o))
-  fits (whole ms) o g e t h list q =
-      let k : g.count ≡ length (take most ms) = ap (λ (x : CallMessages). x.count) e in
+  fits : (c : Call) {g : CallMessages} → Ok g ≡ call_messages c → g.count ≤ 64 - n → (list : List NoteMessage) → list ≡ over (take n w.list ++ take g.count g.list) w.list
+      → Ok (record { list = list; count = n + g.count }) ≡ enqueued_in w c
+  unfolding call_messages enqueued_in behind
+  fits (fault a) e h list q = cc
+  fits (whole ms) {g} e h list q =
+      let s : g ≡ messages_with (take most ms) = cc in
+      let k : g.count ≡ length (take most ms) = ap (λ (x : CallMessages). x.count) s in
       let few : length ms ≤ most = omega (arith, k, length-take most ms, is, h) in
       let all : take most ms ≡ ms = take_all most ms few in
       let k' : g.count ≡ length ms = k ∙ ap length all in
       let front : take n w.list ≡ messages_in w = ap (λ (m : ℕ). take m w.list) is ∙ take_min w.list w.count 64 long in
       let back : take g.count g.list ≡ ms =
-      (λ i. take (k' i) ((ap (λ (x : CallMessages). x.list) e ∙ ap padded all) i)) ∙ take_at ms _ (length ms) refl in
+      (λ i. take (k' i) ((ap (λ (x : CallMessages). x.list) s ∙ ap padded all) i)) ∙ take_at ms _ (length ms) refl in
       let c : n + g.count ≡ length (messages_in w ++ ms) = sym (length-append (messages_in w) ms ∙ (λ i. many i + sym k' i)) in
-      (λ i. record { messages = record { list = (q ∙ (λ j. over (front j ++ back j) w.list)) i; count = c i }; answer = Taken })
+      (λ i. Ok (record { list = (q ∙ (λ j. over (front j ++ back j) w.list)) i; count = c i }))
       ∙ sym (cond-true _ _ (le-leb (length (messages_in w) + length ms) most_messages (omega (arith, k', many, is, h))))
 
-  pub press-fits : (bs : List ℕ) (g : CallMessages) → g ≡ call_messages (call_of bs) → is_taken g.answer ≡ true → g.count ≤ 64 - n
+  pub press-fits : (bs : List ℕ) {r : Result CallMessages Answer} {g : CallMessages} → r ≡ call_messages (call_of bs) → r ≡ Ok g → g.count ≤ 64 - n
       → (list : List NoteMessage) → list ≡ over (take n w.list ++ take g.count g.list) w.list
-      → ◌≡◌ {A = QueueResult} (record { messages = record { list = list; count = n + g.count }; answer = Taken }) (enqueued_in w (call_of bs))
-  press-fits bs g e t h list q = fits (call_of bs) (honest bs) g e t h list q
+      → Ok (record { list = list; count = n + g.count }) ≡ enqueued_in w (call_of bs)
+  press-fits bs e t h list q = fits (call_of bs) (sym t ∙ e) h list q

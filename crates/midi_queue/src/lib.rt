@@ -6,7 +6,7 @@ ghost use Rattle.player_model.specs.Lists.{over};
 ghost use Rattle.midi_messages.specs.inside.Reading.{call_of};
 ghost use Rattle.midi_queue.specs.Keyboard.{no_messages, enqueued_in};
 
-use base_answer::Answer;
+use base_answer::{Answer, Answered};
 use midi_messages::{MOST_MESSAGES, MOST_READ, NoteMessage};
 
 // The note messages that wait, from the first on.
@@ -14,13 +14,6 @@ use midi_messages::{MOST_MESSAGES, MOST_READ, NoteMessage};
 pub struct MessageQueue {
     pub list: [NoteMessage; MOST_MESSAGES],
     pub count: usize,
-}
-
-// What a keyboard call leaves of them, and its answer.
-#[derive(Clone, Copy)]
-pub struct QueueResult {
-    pub messages: MessageQueue,
-    pub answer: Answer,
 }
 
 // None wait.
@@ -33,9 +26,8 @@ pub fn no_messages() -> MessageQueue
         key: 0,
         velocity: 0,
     };
-    let list = [blank; MOST_MESSAGES];
     MessageQueue {
-        list: list,
+        list: [blank; MOST_MESSAGES],
         count: 0,
     }
 }
@@ -51,42 +43,24 @@ fn appended(
     ensures { result ≡ over (take n list ++ take m more) list }
 {
     let mut out = list;
-    let mut i: usize = 0;
-    while i < m {
+    for i in 0..m {
         let x = more[i];
         out[n + i] = x;
-        i += 1;
     }
     out
 }
 
 // The bytes of a call: their note messages wait behind the others, or, at a fault or without room for all of them, none does.
-pub fn enqueue(waiting: MessageQueue, bytes: &[u8]) -> QueueResult
+pub fn enqueue(waiting: MessageQueue, bytes: &[u8]) -> Result<MessageQueue, Answer>
     ensures { result ≡ enqueued_in waiting (call_of bytes.now) }
 {
-    let g = midi_messages::read_call(bytes);
-    let a = g.answer;
-    if !base_answer::is_taken(a) {
-        return QueueResult {
-            messages: waiting,
-            answer: a,
-        };
-    }
-    let n = base_numbers::at_most(waiting.count, MOST_MESSAGES);
+    let g = midi_messages::read_call(bytes)?;
+    let n = waiting.count.min(MOST_MESSAGES);
     if MOST_MESSAGES - n < g.count {
-        return QueueResult {
-            messages: waiting,
-            answer: Answer::NoRoom,
-        };
+        return Err(Answer::NoRoom);
     }
-    let list = waiting.list;
-    let more = g.list;
-    let laid = appended(list, n, more, g.count);
-    QueueResult {
-        messages: MessageQueue {
-            list: laid,
-            count: n + g.count,
-        },
-        answer: Answer::Taken,
-    }
+    Ok(MessageQueue {
+        list: appended(waiting.list, n, g.list, g.count),
+        count: n + g.count,
+    })
 }

@@ -7,6 +7,7 @@ use native.Mathlib.Omega.{arith}
 use lib.Dec.{eqb}
 use lib.Ieee.{Float}
 use lib.ListN.{length, take, get_or}
+use Rattle.std.specs.Option.{option_map_or}
 use Rattle.score_line.specs.declared.Label.{Label}
 use Rattle.score_line.specs.declared.Event.{Event}
 use Rattle.score_line.specs.declared.Event.TheVariants.{Instr, Control, End, Tempo}
@@ -18,7 +19,7 @@ use Rattle.player_model.specs.Cycle as cycle
 use Rattle.player_model.proofs.Lists.{cond-true, cond-false}
 use Rattle.player_model.proofs.Loops.{fold-take, over-over}
 use Rattle.note_state.specs.declared.Note.{Note}
-use Rattle.code_program.specs.InstrumentTable.{instrument_in, lookup_in}
+use Rattle.code_program.specs.InstrumentTable.{instrument_in}
 use Rattle.voices_compiled.specs.Voices.{VoiceState, voices, birth_of, named}
 use Rattle.note_pool.specs.Notes.{started_in}
 use Rattle.note_events.specs.Controls.{controlled_in, controls_in, controlled_all}
@@ -26,16 +27,15 @@ use Rattle.note_lifecycle.specs.OneNote.{note_of, struct_of, born_note, note_fro
 use Rattle.note_state.specs.Notes.{with_values}
 use Rattle.code_program.specs.declared.Instrument.{Instrument}
 use Rattle.note_pool.specs.Started.{StartedBy}
-use Rattle.code_program.specs.declared.Lookup.{Lookup}
 use Rattle.note_pool.specs.declared.Started.{Started}
 use Rattle.note_pool.proofs.Steps.{length-each, struct-note, take-laid, Starting, starting-step}
 
-pub control-in : (table : List Instrument) (label variable : ℕ) (value : Float) (n : Note) (f : Lookup) (y : Note)
-    → f ≡ lookup_in n.instrument table → y ≡ controlled_note f.instrument n label variable value
+pub control-in : (table : List Instrument) (label variable : ℕ) (value : Float) (n : Note) (f : Instrument) (y : Note)
+    → f ≡ instrument_in table n.instrument → y ≡ controlled_note f n label variable value
     → y ≡ controlled_in table label variable value n
 unfolding controlled_in
 control-in table label variable value n f y e q =
-    q ∙ ap (λ (g : Lookup). controlled_note g.instrument n label variable value) e
+    q ∙ ap (λ (g : Instrument). controlled_note g n label variable value) e
 
 module _ (table : List Instrument) (code : List ℕ) (vals : List Float) where
   pub born-same : (position : ℕ) (l : Line) (label : Label) (name : ℕ) (duration : Float)
@@ -48,7 +48,7 @@ module _ (table : List Instrument) (code : List ℕ) (vals : List Float) where
   control-one : (label variable : ℕ) (value : Float) (n : Note)
       → note_of (controlled_in table label variable value n) ≡ controlled_by (voices table code vals) label variable value (note_of n)
   unfolding controlled_in controlled_note controlled_by voices
-  control-one label variable value n = go (n.label.given && eqb label n.label.symbol)
+  control-one label variable value n = go (option_map_or (eqb label) n.label false)
     where
       vs : List Float
       vs = named variable value (instrument_in table n.instrument).imports n.values
@@ -104,10 +104,10 @@ module _ (table : List Instrument) (code : List ℕ) (vals : List Float) where
 
   -- ---- step 3
 
-  pub born-found : (position : ℕ) (l : Line) (label : Label) (name : ℕ) (duration : Float) (f : Lookup) → f ≡ lookup_in name table
-      → (n : Note) → n ≡ born_note code vals f.instrument l position label name duration
+  pub born-found : (position : ℕ) (l : Line) (label : Label) (name : ℕ) (duration : Float) (f : Instrument) → f ≡ instrument_in table name
+      → (n : Note) → n ≡ born_note code vals f l position label name duration
       → n ≡ born_note code vals (instrument_in table name) l position label name duration
-  born-found position l label name duration f ef n en = en ∙ ap (λ (g : Lookup). born_note code vals g.instrument l position label name duration) ef
+  born-found position l label name duration f ef n en = en ∙ ap (λ (g : Instrument). born_note code vals g l position label name duration) ef
 
   pub start-instr : (most position : ℕ) (l : Line) (s : cycle.Started VoiceState) (e : Event) (label : Label) (name : ℕ) (duration : Float)
       → e ≡ Instr label name duration → (n : Note) → n ≡ born_note code vals (instrument_in table name) l position label name duration
@@ -132,11 +132,11 @@ module _ (table : List Instrument) (code : List ℕ) (vals : List Float) where
   unfolding note_from_key pressed voices birth_of
   pressed-same name m = refl
 
-  pub press-starts : (most : ℕ) (s : cycle.Started VoiceState) (name : ℕ) (m : NoteMessage) → m.on ≡ true → (f : Lookup) → f ≡ lookup_in name table
-      → (n : Note) → n ≡ note_from_key code vals f.instrument name m → joined_by most s (note_of n) ≡ after_message (voices table code vals) most name s m
+  pub press-starts : (most : ℕ) (s : cycle.Started VoiceState) (name : ℕ) (m : NoteMessage) → m.on ≡ true → (f : Instrument) → f ≡ instrument_in table name
+      → (n : Note) → n ≡ note_from_key code vals f name m → joined_by most s (note_of n) ≡ after_message (voices table code vals) most name s m
   unfolding after_message
   press-starts most s name m o f ef n en =
-      ap (joined_by most s) (ap note_of (en ∙ ap (λ (g : Lookup). note_from_key code vals g.instrument name m) ef) ∙ pressed-same name m)
+      ap (joined_by most s) (ap note_of (en ∙ ap (λ (g : Instrument). note_from_key code vals g name m) ef) ∙ pressed-same name m)
       ∙ sym (cond-true _ _ o)
 
   pub off-marks : (most : ℕ) (s : cycle.Started VoiceState) (name : ℕ) (m : NoteMessage) → m.on ≡ false

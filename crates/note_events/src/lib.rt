@@ -38,8 +38,7 @@ fn start_line<'a>(
             duration,
         } => {
             if v.count < most {
-                let f = code_program::find(instruments, instrument);
-                let x = f.instrument;
+                let x = code_program::instrument_or_blank(instruments, instrument);
                 let note = note_lifecycle::note_from_line(
                     code, vals, x, l, position, label, instrument, duration,
                 );
@@ -52,8 +51,7 @@ fn start_line<'a>(
             if v.count <= place {
                 return note_pool::with_miss(v);
             }
-            let f = code_program::find(instruments, instrument);
-            let x = f.instrument;
+            let x = code_program::instrument_or_blank(instruments, instrument);
             let note = note_lifecycle::note_from_line(
                 code, vals, x, l, position, label, instrument, duration,
             );
@@ -82,19 +80,17 @@ pub fn start_notes<'a>(
     requires { (position ≤ position_limit) × (most ≤ 16) }
     ensures { (result ≡ started_over (started (voices (instruments_of instruments) code.now vals.now) most position (notes_in old.notes old.count) (take due.count due.lines)) old.notes) × (result.missed ≤ 64) }
 {
-    let w = base_numbers::at_most(due.count, MOST_LINES);
+    let w = due.count.min(MOST_LINES);
     let lines = due.lines;
     let notes = old.notes;
     let mut v = Started {
         notes: notes,
-        count: base_numbers::at_most(old.count, MOST_NOTES),
+        count: old.count.min(MOST_NOTES),
         missed: 0,
     };
-    let mut i: usize = 0;
-    while i < w {
+    for i in 0..w {
         let l = lines[i];
         v = start_line(instruments, code, vals, v, l, position, most);
-        i += 1;
     }
     v
 }
@@ -104,16 +100,13 @@ fn control_notes(instruments: Instruments, v: Notes, label: u16, variable: u16, 
     ensures { (result.count ≡ v.count) × (result.notes ≡ over (each (controlled_in (instruments_of instruments) label variable value) (take v.count v.notes)) v.notes) }
 {
     let notes = v.notes;
-    let m = base_numbers::at_most(v.count, MOST_NOTES);
+    let m = v.count.min(MOST_NOTES);
     let mut a = notes;
-    let mut j: usize = 0;
-    while j < m {
+    for j in 0..m {
         let x = notes[j];
-        let f = code_program::find(instruments, x.instrument);
-        let i = f.instrument;
+        let i = code_program::instrument_or_blank(instruments, x.instrument);
         let y = note_lifecycle::controlled_note(i, x, label, variable, value);
         a[j] = y;
-        j += 1;
     }
     Notes {
         notes: a,
@@ -150,13 +143,11 @@ pub fn control_lines(
 ) -> Notes
     ensures { (result.count ≡ notes.count) × (result.notes ≡ over (controlled_all (instruments_of instruments) (take notes.count notes.notes) (take m lines)) notes.notes) }
 {
-    let w = base_numbers::at_most(m, MOST_LINES);
+    let w = m.min(MOST_LINES);
     let mut v = notes;
-    let mut i: usize = 0;
-    while i < w {
+    for i in 0..w {
         let l = lines[i];
         v = control_line(instruments, v, l);
-        i += 1;
     }
     v
 }
@@ -176,8 +167,7 @@ fn play_message<'a>(
 {
     if m.on {
         if v.count < most {
-            let f = code_program::find(instruments, chosen);
-            let x = f.instrument;
+            let x = code_program::instrument_or_blank(instruments, chosen);
             let note = note_lifecycle::note_from_key(code, vals, x, chosen, m);
             return note_pool::with_note(v, note);
         }
@@ -200,14 +190,12 @@ pub fn play_messages<'a>(
     requires { (old.missed ≤ 64) × (most ≤ 16) }
     ensures { (result ≡ started_over (after_messages (voices (instruments_of instruments) code.now vals.now) most chosen (started_in old.notes old.count old.missed) (take m messages)) old.notes) × (result.missed ≤ 128) }
 {
-    let count = base_numbers::at_most(m, MOST_MESSAGES);
+    let count = m.min(MOST_MESSAGES);
     let mut v = old;
-    v.count = base_numbers::at_most(old.count, MOST_NOTES);
-    let mut next: usize = 0;
-    while next < count {
+    v.count = old.count.min(MOST_NOTES);
+    for next in 0..count {
         let x = messages[next];
         v = play_message(instruments, code, vals, v, chosen, x, most);
-        next += 1;
     }
     v
 }

@@ -1,28 +1,29 @@
 -- What the code makes of one note, put together from its calls.
 use mathlib.Core.Path.{◌≡◌, refl, sym, ap, ◌∙◌}
-use mathlib.Core.Bool.{Bool, true, false, not, ◌&&◌}
+use mathlib.Core.Bool.{Bool, true, false, not, ◌&&◌, and-true}
 use mathlib.Core.List.{List, [], ◌∷◌, ◌++◌}
 use Prim.Native.Nat.{ℕ, ◌+◌}
 use lib.Dec.{eqb}
 use lib.Ieee.{Float, binary32, eq, neg, of_bits, of_fields, size, odd, climb, span}
 use lib.ListN.{take}
-use borrow.Author.Tests.{eq-eqb, ne_eqb}
-use Rattle.base_timebase.specs.Time.{ticks_in, endless as without_end}
+use borrow.Author.Tests.{eq-eqb, ne_eqb, eqb-true, eqb-false}
+use Rattle.std.specs.Prelude.{Option, Some, None, nat_eq}
+use Rattle.std.specs.Option.{option_map_or, option_eq}
+use Rattle.base_timebase.specs.Time.{endless as without_end}
 use Rattle.score_line.specs.declared.Label.{Label}
 use Rattle.score_line.specs.declared.Line.{Line}
 use Rattle.midi_keys.specs.Keys.{frequency_of, normalized_velocity}
 use Rattle.midi_messages.specs.declared.NoteMessage.{NoteMessage}
 use Rattle.player_model.specs.Cycle.{is_held}
-use Rattle.player_model.proofs.Lists.{cond-true, cond-false}
+use Rattle.player_model.proofs.Lists.{cond-true, cond-false, by-test}
 use Rattle.player_model.proofs.Results.{and-false}
 use Rattle.code_interpreter.specs.Passes.{stretch, frame_of, fresh_of, once, sums, Played, played}
 use Rattle.code_interpreter.specs.WorkingArea.{numbers_in, working_area_of, area_played}
 use Rattle.note_state.specs.Notes.{new_note, with_values}
 use Rattle.code_interpreter.proofs.Rooms.{once-program, played-program}
 use Rattle.note_state.specs.declared.Note.{Note}
-use Rattle.note_state.specs.declared.NoteLabel.{NoteLabel}
 use Rattle.voices_compiled.specs.Voices.{named}
-use Rattle.note_lifecycle.specs.OneNote.{label_of, born_note, note_from_key, is_held_in, controlled_note, k_note, ran_note, ran_mix, ran_area}
+use Rattle.note_lifecycle.specs.OneNote.{label_of, end_after, born_note, note_from_key, is_held_in, controlled_note, k_note, ran_note, ran_mix, ran_area}
 use Rattle.code_program.specs.declared.Instrument.{Instrument}
 
 pub minus_one : (x : Float) → eq x (neg (of_bits binary32 0x3f800000)) ≡ eq x without_end
@@ -36,16 +37,15 @@ begun-law vals ws note room m r q =
     ∙ ap (λ (u : List Float). with_values u note) (once-program vals ws note.values)
 
 pub born-law : (code : List ℕ) (vals : List Float) (x : Instrument) (l : Line) (position : ℕ) (label : Label) (name : ℕ) (duration : Float)
-    → (vs : List Float) → vs ≡ fresh_of (take x.fields (take l.count l.values)) → (t : ℕ) → t ≡ ticks_in duration
-    → (named : NoteLabel) → named ≡ label_of label → (never : Bool) → never ≡ eq duration without_end
-    → (note : Note) → note ≡ new_note vs named name (record { never = never; at = position + t }) l.priority (record { keyed = false; channel = 0; key = 0; released = false })
+    → (vs : List Float) → vs ≡ fresh_of (take x.fields (take l.count l.values)) → (end : Option ℕ) → end ≡ end_after position duration
+    → (own : Option ℕ) → own ≡ label_of label → (note : Note) → note ≡ new_note vs own name end l.priority None false
     → (r : Note) → r ≡ with_values (once vals (stretch x.istart x.iend code) note.values) note
     → r ≡ born_note code vals x l position label name duration
 unfolding born_note
-born-law code vals x l position label name duration vs e t f named g never k note o r q =
+born-law code vals x l position label name duration vs e end f own g note o r q =
     let ws = stretch x.istart x.iend code in
     q ∙ ap (λ (y : Note). with_values (once vals ws y.values) y) o
-    ∙ (λ i. new_note (once vals ws (e i)) (g i) name (record { never = k i; at = position + f i }) l.priority (record { keyed = false; channel = 0; key = 0; released = false }))
+    ∙ (λ i. new_note (once vals ws (e i)) (g i) name (f i) l.priority None false)
 
 -- nothing is cut off for a line without priority, with no note to cut off, or for the keyboard
 pub born-yields : (code : List ℕ) (vals : List Float) (x : Instrument) (l : Line) (position : ℕ) (label : Label) (name : ℕ) (duration : Float) (b : Bool)
@@ -71,50 +71,50 @@ pressed-yields code vals x name m b = refl
 pub pressed-law : (code : List ℕ) (vals : List Float) (x : Instrument) (name : ℕ) (m : NoteMessage)
     → (f : Float) → f ≡ frequency_of m.key → (l : Float) → l ≡ normalized_velocity m.velocity
     → (vs : List Float) → vs ≡ fresh_of (take x.fields (f ∷ l ∷ []))
-    → (note : Note) → note ≡ new_note vs (record { given = false; symbol = 0 }) name (record { never = true; at = 0 }) false (record { keyed = true; channel = m.channel; key = m.key; released = false })
+    → (note : Note) → note ≡ new_note vs None name None false (Some (m.channel, m.key)) false
     → (r : Note) → r ≡ with_values (once vals (stretch x.istart x.iend code) note.values) note
     → r ≡ note_from_key code vals x name m
 unfolding note_from_key
 pressed-law code vals x name m f ef l el vs e note o r q =
     let ws = stretch x.istart x.iend code in
     q ∙ ap (λ (y : Note). with_values (once vals ws y.values) y) o
-    ∙ (λ i. new_note (once vals ws ((e ∙ (λ j. fresh_of (take x.fields (ef j ∷ el j ∷ [])))) i)) (record { given = false; symbol = 0 }) name (record { never = true; at = 0 }) false (record { keyed = true; channel = m.channel; key = m.key; released = false }))
+    ∙ (λ i. new_note (once vals ws ((e ∙ (λ j. fresh_of (take x.fields (ef j ∷ el j ∷ [])))) i)) None name None false (Some (m.channel, m.key)) false)
 
 -- ---- an unmarked note of a key of a channel
 
 module _ (n : Note) (channel key : ℕ) where
-  pub held-here : n.origin.keyed ≡ true → n.origin.channel ≡ channel → n.origin.key ≡ key → not n.origin.released ≡ is_held_in channel key n
-  unfolding is_held
-  held-here a b c = sym (λ i. a i && eq-eqb n.origin.channel channel b i && eq-eqb n.origin.key key c i && not n.origin.released)
+  abbrev same_key : Option (ℕ × ℕ) → Bool
+  same_key o = option_map_or (λ (k : ℕ × ℕ). eqb k.0 channel && eqb k.1 key) o false
 
-  pub held-other-key : n.origin.keyed ≡ true → n.origin.channel ≡ channel → (n.origin.key ≡ key → ⊥) → false ≡ is_held_in channel key n
+  pub held-marked : n.released ≡ true → false ≡ is_held_in channel key n
   unfolding is_held
-  held-other-key a b c = sym (λ i. a i && eq-eqb n.origin.channel channel b i && ne_eqb n.origin.key key c i && not n.origin.released)
+  held-marked a = sym (ap (λ (r : Bool). same_key n.key && not r) a ∙ and-false (same_key n.key))
 
-  pub held-other-channel : n.origin.keyed ≡ true → (n.origin.channel ≡ channel → ⊥) → false ≡ is_held_in channel key n
+  pub held-key : n.released ≡ false → (own : ℕ × ℕ) → n.key ≡ Some own → (eqb own.0 channel && eqb own.1 key) ≡ is_held_in channel key n
   unfolding is_held
-  held-other-channel a b = sym (λ i. a i && ne_eqb n.origin.channel channel b i && eqb n.origin.key key && not n.origin.released)
+  held-key a own e = sym ((λ i. same_key (e i) && not (a i)) ∙ and-true (eqb own.0 channel && eqb own.1 key))
 
-  pub held-no-key : n.origin.keyed ≡ false → false ≡ is_held_in channel key n
+  pub held-no-key : n.key ≡ None → false ≡ is_held_in channel key n
   unfolding is_held
-  held-no-key a = sym (λ i. a i && eqb n.origin.channel channel && eqb n.origin.key key && not n.origin.released)
+  held-no-key e = sym (λ i. same_key (e i) && not n.released)
+
+-- ---- a control line
+
+pub same-label : (label : ℕ) (o : Option ℕ) → option_eq nat_eq o (Some label) ≡ option_map_or (eqb label) o false
+same-label label None = refl
+same-label label (Some own) =
+    by-test (eqb label own) (λ e. eq-eqb own label (sym (eqb-true label own e)) ∙ sym e) (λ e. ne_eqb own label (λ q. eqb-false label own e (sym q)) ∙ sym e)
 
 module _ (x : Instrument) (n : Note) (label variable : ℕ) (value : Float) where
-  pub control-yes : n.label.given ≡ true → n.label.symbol ≡ label → (w : ℕ) → w ≡ variable → (vs : List Float) → vs ≡ named w value x.imports n.values
+  pub control-yes : option_map_or (eqb label) n.label false ≡ true → (w : ℕ) → w ≡ variable → (vs : List Float) → vs ≡ named w value x.imports n.values
       → (r : Note) → r ≡ with_values vs n → r ≡ controlled_note x n label variable value
   unfolding controlled_note
-  control-yes a b w e vs q r p =
-      p ∙ ap (λ (l : List Float). with_values l n) (q ∙ ap (λ (y : ℕ). named y value x.imports n.values) e)
-      ∙ sym (cond-true _ _ (ap (λ (t : Bool). t && eqb label n.label.symbol) a ∙ eq-eqb label n.label.symbol (sym b)))
+  control-yes a w e vs q r p =
+      p ∙ ap (λ (l : List Float). with_values l n) (q ∙ ap (λ (y : ℕ). named y value x.imports n.values) e) ∙ sym (cond-true _ _ a)
 
-  pub control-other : n.label.given ≡ true → (n.label.symbol ≡ label → ⊥) → n ≡ controlled_note x n label variable value
+  pub control-other : option_map_or (eqb label) n.label false ≡ false → n ≡ controlled_note x n label variable value
   unfolding controlled_note
-  control-other a b =
-      sym (cond-false _ _ (ap (λ (t : Bool). t && eqb label n.label.symbol) a ∙ ne_eqb label n.label.symbol (λ e. b (sym e))))
-
-  pub control-none : n.label.given ≡ false → n ≡ controlled_note x n label variable value
-  unfolding controlled_note
-  control-none a = sym (cond-false _ _ (ap (λ (t : Bool). t && eqb label n.label.symbol) a))
+  control-other a = sym (cond-false _ _ a)
 
 -- a note's cycle in a room whose numbers stay
 module _ (code : List ℕ) (N N' : List Float) (x : Instrument) (n k : Note) (mix : List Float) (e : N' ≡ N)

@@ -9,11 +9,11 @@ ghost use Rattle.code_interpreter.specs.Passes.{stretch, fresh_of, once};
 ghost use Rattle.note_state.specs.Notes.{with_values};
 ghost use Rattle.code_interpreter.specs.WorkingArea.{numbers_in};
 ghost use Rattle.voices_compiled.specs.Voices.{named};
-ghost use Rattle.note_lifecycle.specs.OneNote.{note_of, label_of, born_note, note_from_key, is_held_in, controlled_note, ran_note, ran_mix, ran_area};
+ghost use Rattle.note_lifecycle.specs.OneNote.{note_of, label_of, end_after, born_note, note_from_key, is_held_in, controlled_note, ran_note, ran_mix, ran_area};
 
 use code_program::Instrument;
 use midi_messages::NoteMessage;
-use note_state::{Note, NoteEnd, NoteLabel, NoteOrigin};
+use note_state::Note;
 use score_line::{Label, Line};
 
 fn select_value(first: bool, x: f32, y: f32) -> f32
@@ -27,10 +27,8 @@ fn set_import(values: [f32; 16], imports: [u32; 16], variable: u32, value: f32) 
     ensures { result ≡ named variable value imports values }
 {
     let mut out = values;
-    let mut j: usize = 0;
-    while j < 16 {
+    for j in 0..16 {
         out[j] = select_value(imports[j] == variable, value, values[j]);
-        j += 1;
     }
     out
 }
@@ -42,18 +40,12 @@ fn wide(x: u16) -> u32
 }
 
 // A line's label, as its note has it.
-fn label_of(label: Label) -> NoteLabel
+fn label_of(label: Label) -> Option<u16>
     ensures { result ≡ label_of label }
 {
     match label {
-        Label::Labelled(n) => NoteLabel {
-            given: true,
-            symbol: n,
-        },
-        Label::Unlabelled => NoteLabel {
-            given: false,
-            symbol: 0,
-        },
+        Label::Labelled(n) => Some(n),
+        Label::Unlabelled => None,
     }
 }
 
@@ -61,7 +53,7 @@ fn label_of(label: Label) -> NoteLabel
 fn fresh_values(given: [f32; 8], count: usize, fields: usize) -> [f32; 16]
     ensures { result ≡ fresh_of (take fields (take count given)) }
 {
-    let n = base_numbers::at_most(base_numbers::at_most(count, 8), fields);
+    let n = count.min(8).min(fields);
     code_interpreter::initial_values(&given[0..n])
 }
 
@@ -71,6 +63,18 @@ fn after_i_pass<'a>(code: &'a [u64], vals: &'a [f32], x: Instrument, note: Note)
 {
     let mut room = code_interpreter::working_area(vals);
     code_interpreter::run_pass(code, x.istart, x.iend, &mut room, note)
+}
+
+// Where a note ends that starts at a position, if it does: a duration of -1 is without end.
+fn end_after(position: u64, duration: f32) -> Option<u64>
+    requires { position ≤ position_limit }
+    ensures { result ≡ end_after position duration }
+{
+    if duration == -1.0 {
+        None
+    } else {
+        Some(position + base_timebase::beats_to_ticks(duration))
+    }
 }
 
 // The note that a line starts at a position, its event an instr with this label, name and duration; its i pass has run.
@@ -87,20 +91,9 @@ pub fn note_from_line<'a>(
     requires { position ≤ position_limit }
     ensures { result ≡ born_note code.now vals.now x l position label name duration }
 {
-    let given = l.values;
-    let values = fresh_values(given, l.count, x.fields);
-    let ticks = base_timebase::beats_to_ticks(duration);
-    let end = NoteEnd {
-        never: duration == -1.0,
-        at: position + ticks,
-    };
-    let origin = NoteOrigin {
-        keyed: false,
-        channel: 0,
-        key: 0,
-        released: false,
-    };
-    let note = note_state::new_note(values, label_of(label), name, end, l.priority, origin);
+    let values = fresh_values(l.values, l.count, x.fields);
+    let end = end_after(position, duration);
+    let note = note_state::new_note(values, label_of(label), name, end, l.priority, None);
     after_i_pass(code, vals, x, note)
 }
 
@@ -118,18 +111,7 @@ pub fn note_from_key<'a>(
     given[0] = midi_keys::frequency(m.key);
     given[1] = midi_keys::normalized_velocity(m.velocity);
     let values = fresh_values(given, 2, x.fields);
-    let label = NoteLabel {
-        given: false,
-        symbol: 0,
-    };
-    let end = NoteEnd { never: true, at: 0 };
-    let origin = NoteOrigin {
-        keyed: true,
-        channel: m.channel,
-        key: m.key,
-        released: false,
-    };
-    let note = note_state::new_note(values, label, name, end, false, origin);
+    let note = note_state::new_note(values, None, name, None, false, Some((m.channel, m.key)));
     after_i_pass(code, vals, x, note)
 }
 
@@ -137,13 +119,9 @@ pub fn note_from_key<'a>(
 pub fn controlled_note(x: Instrument, n: Note, label: u16, variable: u16, value: f32) -> Note
     ensures { result ≡ controlled_note x n label variable value }
 {
-    if n.label.given {
-        if n.label.symbol == label {
-            let values = n.values;
-            let imports = x.imports;
-            let held = set_import(values, imports, wide(variable), value);
-            return note_state::with_values(n, held);
-        }
+    if n.label == Some(label) {
+        let held = set_import(n.values, x.imports, wide(variable), value);
+        return note_state::with_values(n, held);
     }
     n
 }
@@ -152,14 +130,13 @@ pub fn controlled_note(x: Instrument, n: Note, label: u16, variable: u16, value:
 pub fn is_held(n: Note, channel: u8, key: u8) -> bool
     ensures { result ≡ is_held_in channel key n }
 {
-    if n.origin.keyed {
-        if n.origin.channel == channel {
-            if n.origin.key == key {
-                return !n.origin.released;
-            }
-        }
+    if n.released {
+        return false;
     }
-    false
+    match n.key {
+        Some(own) => own.0 == channel && own.1 == key,
+        None => false,
+    }
 }
 
 // A note's cycle: its k pass, then an a pass for each sample of the mix.
@@ -182,12 +159,11 @@ pub fn run_note(
 pub fn goes_on(n: Note, position: u64) -> bool
     ensures { result ≡ goes_on position (note_of n) }
 {
-    if n.origin.released {
+    if n.released {
         return false;
     }
-    if n.end.never {
-        true
-    } else {
-        position < n.end.at
+    match n.end {
+        Some(end) => position < end,
+        None => true,
     }
 }

@@ -64,13 +64,11 @@ pub fn oldest_without_priority(v: Started) -> usize
 {
     let notes = v.notes;
     let count = v.count;
-    let mut oldest: usize = 0;
-    while oldest < count {
+    for oldest in 0..count {
         let x = notes[oldest];
         if !x.priority {
             return oldest;
         }
-        oldest += 1;
     }
     count
 }
@@ -83,11 +81,9 @@ pub fn cut_off(v: Started, place: usize) -> Started
     let notes = v.notes;
     let m = v.count - 1;
     let mut a = notes;
-    let mut i = place;
-    while i < m {
+    for i in place..m {
         let x = notes[i + 1];
         a[i] = x;
-        i += 1;
     }
     with_miss(Started {
         notes: a,
@@ -103,8 +99,7 @@ pub fn release_oldest(v: Started, channel: u8, key: u8) -> Started
 {
     let notes = v.notes;
     let count = v.count;
-    let mut place: usize = 0;
-    while place < count {
+    for place in 0..count {
         let x = notes[place];
         if note_lifecycle::is_held(x, channel, key) {
             let mut a = notes;
@@ -115,7 +110,6 @@ pub fn release_oldest(v: Started, channel: u8, key: u8) -> Started
                 missed: v.missed,
             };
         }
-        place += 1;
     }
     v
 }
@@ -124,17 +118,15 @@ pub fn release_oldest(v: Started, channel: u8, key: u8) -> Started
 pub fn remaining(notes: [Note; MOST_NOTES], count: usize, position: u64) -> Notes
     ensures { (result.count ≡ length (filter (goes_on_in position) (take count notes))) × (result.notes ≡ over (filter (goes_on_in position) (take count notes)) notes) × (result.count ≤ 16) }
 {
-    let m = base_numbers::at_most(count, MOST_NOTES);
+    let m = count.min(MOST_NOTES);
     let mut a = notes;
     let mut k: usize = 0;
-    let mut i: usize = 0;
-    while i < m {
+    for i in 0..m {
         let x = notes[i];
         if note_lifecycle::goes_on(x, position) {
             a[k] = x;
             k += 1;
         }
-        i += 1;
     }
     Notes { notes: a, count: k }
 }
@@ -147,13 +139,11 @@ pub fn copied_over(
 ) -> [Note; MOST_NOTES]
     ensures { result ≡ over (take count new) old }
 {
-    let m = base_numbers::at_most(count, MOST_NOTES);
+    let m = count.min(MOST_NOTES);
     let mut a = old;
-    let mut i: usize = 0;
-    while i < m {
+    for i in 0..m {
         let x = new[i];
         a[i] = x;
-        i += 1;
     }
     a
 }

@@ -1,63 +1,43 @@
 // A note that sounds, of its parts.
 #![tactic(auto)]
 
-ghost use Rattle.std.specs.Prelude.{◌≡◌};
+ghost use Rattle.std.specs.Prelude.{◌≡◌, false};
 ghost use Rattle.note_state.specs.Notes.{new_note, with_values, release};
 
 // How many values a note holds.
 const VALUES: usize = 16;
 
-// A note's label: whether it was given one, and which symbol it is.
-#[derive(Clone, Copy)]
-pub struct NoteLabel {
-    pub given: bool,
-    pub symbol: u16,
-}
-
-// Where a note ends: never, or at a position.
-#[derive(Clone, Copy)]
-pub struct NoteEnd {
-    pub never: bool,
-    pub at: u64,
-}
-
-// Where a note is from: the keyboard or a line; of which channel and key, and whether that key was released.
-#[derive(Clone, Copy)]
-pub struct NoteOrigin {
-    pub keyed: bool,
-    pub channel: u8,
-    pub key: u8,
-    pub released: bool,
-}
-
-// A note that sounds: what it holds, its label, its instrument, its end, whether its line had priority, and where it is from.
+// A note that sounds: what it holds, its label, if it has one, its instrument, where it ends, if it does, whether its line had priority,
+// the channel and key that it is from, if it is from the keyboard, and whether that key was released.
 #[derive(Clone, Copy)]
 pub struct Note {
     pub values: [f32; VALUES],
-    pub label: NoteLabel,
+    pub label: Option<u16>,
     pub instrument: u16,
-    pub end: NoteEnd,
+    pub end: Option<u64>,
     pub priority: bool,
-    pub origin: NoteOrigin,
+    pub key: Option<(u8, u8)>,
+    pub released: bool,
 }
 
 pub fn new_note(
     values: [f32; VALUES],
-    label: NoteLabel,
+    label: Option<u16>,
     instrument: u16,
-    end: NoteEnd,
+    end: Option<u64>,
     priority: bool,
-    origin: NoteOrigin,
+    key: Option<(u8, u8)>,
 ) -> Note
-    ensures { result ≡ new_note values label instrument end priority origin }
+    ensures { result ≡ new_note values label instrument end priority key false }
 {
     Note {
-        values: values,
-        label: label,
-        instrument: instrument,
-        end: end,
-        priority: priority,
-        origin: origin,
+        values,
+        label,
+        instrument,
+        end,
+        priority,
+        key,
+        released: false,
     }
 }
 
@@ -65,20 +45,15 @@ pub fn new_note(
 pub fn release(note: Note) -> Note
     ensures { result ≡ release note }
 {
-    let values = note.values;
-    let label = note.label;
-    let end = note.end;
-    let mut origin = note.origin;
-    origin.released = true;
-    new_note(values, label, note.instrument, end, note.priority, origin)
+    Note {
+        released: true,
+        ..note
+    }
 }
 
 // A note with other values.
 pub fn with_values(note: Note, values: [f32; VALUES]) -> Note
     ensures { result ≡ with_values values note }
 {
-    let label = note.label;
-    let end = note.end;
-    let origin = note.origin;
-    new_note(values, label, note.instrument, end, note.priority, origin)
+    Note { values, ..note }
 }

@@ -5,12 +5,11 @@ use lib.Seq.{sets, length-sets, take-set-le}
 use Rattle.base_laws.proofs.Lists.{map-append}
 use Rattle.orchestra_tokens.specs.declared.Token.{Token}
 use Rattle.orchestra_syntax.specs.inside.Program.{Ins}
-use Rattle.orchestra_expressions.specs.declared.ParseState.{ParseState}
-use Rattle.orchestra_expressions.specs.declared.ParseState.TheVariants.{Next, Refused}
+use Rattle.std.specs.Prelude.{Some, None}
 use Rattle.orchestra_expressions.specs.Roles.{sign_l}
 use Rattle.orchestra_expressions.specs.Reader.{Res, ok, seq, sign, emit}
-use Rattle.orchestra_expressions.specs.Areas.{Areas, op_of, arg_of, val_of, stored, stored_at, one_more, passed, left, Holds, Place, Ready, gone, come, Runs, refused, done, StoredStays}
-use Rattle.orchestra_expressions.proofs.Moves.{sign-in}
+use Rattle.orchestra_expressions.specs.Areas.{ParseState, Areas, op_of, arg_of, val_of, stored, stored_at, one_more, passed, left, Holds, Place, Ready, gone, come, Runs, refused, done, StoredStays}
+use Rattle.orchestra_expressions.proofs.Moves.{same_at, same_out, sign-in}
 use Rattle.orchestra_expressions.proofs.Results.{All, some, All-weaken}
 
 -- ---- stores in a row
@@ -55,13 +54,13 @@ runs_seq k (refused at out c e v f q) (refused at' out' d x w y r) = let z : ◌
 runs_seq k (refused at out b e v f q) (done at' out' to c x w le y s) = let z : ◌≡◌ {A = ℕ} 0 1 = cc in absurd (omega arith)
 runs_seq k (done at out to c e v le f s) (gone x y r) = let z : ◌≡◌ {A = ℕ} 0 1 = cc in absurd (omega arith)
 runs_seq k {m = m} (done at out to c e v le f s) (refused at' out' d x w y s') =
-    let p : at' ≡ to = cc in
-    let q : out' ≡ out + length c = cc in
+    let p : at' ≡ to = same_at x f in
+    let q : out' ≡ out + length c = same_out x f in
     refused at out (c ++ d) e (rw (v, rw p at w)) y
     (s' ∙ ap (λ z. stored z out' d) s ∙ ap (λ z. stored (stored m out c) z d) q ∙ stored-append m out c d)
 runs_seq {ts} k {m = m} {u = u} (done at out to c e v le f s) (done at' out' to' d x w le' y s') =
-    let p : at' ≡ to = cc in
-    let q : out' ≡ out + length c = cc in
+    let p : at' ≡ to = same_at x f in
+    let q : out' ≡ out + length c = same_out x f in
     let l : out' + length d ≡ out + length (c ++ d) = omega (arith, length-append c d) in
     done at out to' (c ++ d) e (rw (v, rw p at w)) le' (rw l at y)
     (s' ∙ ap (λ z. stored z out' d) s ∙ ap (λ z. stored (stored m out c) z d) q ∙ stored-append m out c d)
@@ -72,22 +71,22 @@ drop-one ts at = drop-drop 1 at ts
 
 module _ {ts : List Token} {f : List Token → Res} {m n : Areas} {h : ParseState} where
   -- another definition that reads from p what f reads from at
-  runs-from : (k : List Token → Res) (at p : ℕ) {out : ℕ} {g i : ParseState} → g ≡ Next at out → i ≡ Next p out → k (drop p ts) ≡ f (drop at ts) → Runs ts f g m h n
+  runs-from : (k : List Token → Res) (at p : ℕ) {out : ℕ} {g i : ParseState} → g ≡ Some (at, out) → i ≡ Some (p, out) → k (drop p ts) ≡ f (drop at ts) → Runs ts f g m h n
       → Runs ts k i m h n
   runs-from k at p q j l (gone e x s) = let z : ◌≡◌ {A = ℕ} 0 1 = cc in absurd (omega arith)
   runs-from k at p {out} q j l (refused a o c e v x s) =
-      let y : at ≡ a = cc in
-      let w : o ≡ out = cc in
+      let y : at ≡ a = same_at q e in
+      let w : o ≡ out = same_out e q in
       refused p out c j (l ∙ ap (λ z. f (drop z ts)) y ∙ v) x (rw w at s)
   runs-from k at p {out} q j l (done a o to c e v le x s) =
-      let y : at ≡ a = cc in
-      let w : o ≡ out = cc in
+      let y : at ≡ a = same_at q e in
+      let w : o ≡ out = same_out e q in
       done p out to c j (l ∙ ap (λ z. f (drop z ts)) y ∙ v) le (rw w at x) (rw w at s)
 
-  pub runs_after : {at out : ℕ} → Runs ts f (Next (at + 1) out) m h n → Runs ts (λ z. f (drop 1 z)) (Next at out) m h n
+  pub runs_after : {at out : ℕ} → Runs ts f (Some (at + 1, out)) m h n → Runs ts (λ z. f (drop 1 z)) (Some (at, out)) m h n
   runs_after {at} = runs-from _ (at + 1) at refl refl (ap f (drop-one ts at))
 
-  pub runs_as : {at out : ℕ} {g : ParseState} (k : List Token → Res) → g ≡ Next at out → k (drop at ts) ≡ f (drop at ts) → Runs ts f g m h n → Runs ts k g m h n
+  pub runs_as : {at out : ℕ} {g : ParseState} (k : List Token → Res) → g ≡ Some (at, out) → k (drop at ts) ≡ f (drop at ts) → Runs ts f g m h n → Runs ts k g m h n
   runs_as {at} k q l = runs-from k at at q q l
 
 -- the same reading by another name, and to the same place by another name
@@ -102,28 +101,28 @@ runs_to {ts} {f} {g} {m = m} {n = n} e r = subst (λ (z : ParseState). Runs ts f
 
 -- a reader that goes by its first token, where that says h
 pub runs_by : {K : Type 0} (ts : List Token) (at : ℕ) {out : ℕ} {g r : ParseState} {m n : Areas} (F : List Token → Res) (L : List Token → K)
-    (by : K → List Token → Res) {k : K} (h : K) (f : List Token → Res) → ((z : List Token) → F z ≡ by (L z) z) → ((z : List Token) → by h z ≡ f (drop 1 z)) → g ≡ Next at out → k ≡ L (drop at ts) → k ≡ h
-    → Runs ts f (Next (at + 1) out) m r n → Runs ts F g m r n
+    (by : K → List Token → Res) {k : K} (h : K) (f : List Token → Res) → ((z : List Token) → F z ≡ by (L z) z) → ((z : List Token) → by h z ≡ f (drop 1 z)) → g ≡ Some (at, out) → k ≡ L (drop at ts) → k ≡ h
+    → Runs ts f (Some (at + 1, out)) m r n → Runs ts F g m r n
 runs_by ts at F L by h f law l q x y w =
     let z : L (drop at ts) ≡ h = sym x ∙ y in
     rw q (runs_as F refl (law (drop at ts) ∙ rw z (l (drop at ts))) (runs_after w))
 
 pub runs-sign : (ts : List Token) (s : ℕ) (g : ParseState) {h : ParseState} {m : Areas} → h ≡ passed s ts g → Runs ts (sign s) g m h m
-runs-sign ts s Refused e = gone refl e refl
-runs-sign ts s (Next at out) {m = m} e = go (sign_l (drop at ts) s) refl e
+runs-sign ts s None e = gone refl e refl
+runs-sign ts s (Some (at, out)) {m = m} e = go (sign_l (drop at ts) s) refl e
   where
-    go : {h : ParseState} (b : Bool) → sign_l (drop at ts) s ≡ b → h ≡ cond b (Next (at + 1) out) Refused → Runs ts (sign s) (Next at out) m h m
+    go : {h : ParseState} (b : Bool) → sign_l (drop at ts) s ≡ b → h ≡ cond b (Some (at + 1, out)) None → Runs ts (sign s) (Some (at, out)) m h m
     go true f q = let lt = sign-in ts at s f in
-        done at out (at + 1) [] refl (rw (f, drop-one ts at)) (omega arith) (q ∙ ap (λ z. Next (at + 1) z) (omega arith)) refl
+        done at out (at + 1) [] refl (rw (f, drop-one ts at)) (omega arith) (q ∙ ap (λ z. Some (at + 1, z)) (omega arith)) refl
     go false f q = refused at out [] refl (rw f) q refl
 
 -- nothing more is read
-pub stays : {ts : List Token} {f : List Token → Res} {k at out : ℕ} {g : ParseState} {m : Areas} → Ready ts k g m → g ≡ Next at out
-    → f (drop at ts) ≡ ok [] (drop at ts) → Runs ts f g m (Next at out) m
+pub stays : {ts : List Token} {f : List Token → Res} {k at out : ℕ} {g : ParseState} {m : Areas} → Ready ts k g m → g ≡ Some (at, out)
+    → f (drop at ts) ≡ ok [] (drop at ts) → Runs ts f g m g m
 stays (gone e) q x = let z : ◌≡◌ {A = ℕ} 0 1 = cc in absurd (omega arith)
 stays {at = at} {out = out} (come p o e le r) q x =
-    let y : p ≡ at = cc in
-    done at out at [] q x (omega arith) (ap (Next at) (omega arith)) refl
+    let y : p ≡ at = same_at e q in
+    done at out at [] q x (omega arith) (q ∙ ap (λ z. Some (at, z)) (omega arith)) refl
 
 took-ok : {P : List Ins → List Token → Type 0} {c : List Ins} {r : List Token} → All P (ok c r) → P c r
 took-ok (some h) = h
@@ -140,7 +139,7 @@ module _ {ts : List Token} {k : ℕ} {g : ParseState} {m : Areas} where
 
   pub ready-place : Ready ts (suc k) g m → Place g m
   ready-place (gone e) = record { fits = λ at out q. let z : ◌≡◌ {A = ℕ} 0 1 = cc in absurd (omega arith) }
-  ready-place (come at out e le r) = record { fits = λ p o q. let z : o ≡ out = cc in rw z (holds-less (omega arith) r) }
+  ready-place (come at out e le r) = record { fits = λ p o q. let z : o ≡ out = same_out q e in rw z (holds-less (omega arith) r) }
 
   pub ready-less : {j : ℕ} → j ≤ k → Ready ts k g m → Ready ts j g m
   ready-less le (gone e) = gone e
@@ -156,7 +155,7 @@ module _ {ts : List Token} {k : ℕ} {g : ParseState} {m : Areas} where
   ready-sign s (gone e) x = gone (x ∙ rw e)
   ready-sign s {h} (come at out e le r) x = go (sign_l (drop at ts) s) refl (x ∙ ap (passed s ts) e)
     where
-      go : (b : Bool) → sign_l (drop at ts) s ≡ b → h ≡ cond b (Next (at + 1) out) Refused → Ready ts (suc k) h m
+      go : (b : Bool) → sign_l (drop at ts) s ≡ b → h ≡ cond b (Some (at + 1, out)) None → Ready ts (suc k) h m
       go true f q = let lt = sign-in ts at s f in come (at + 1) out q (omega arith) (holds-less (omega arith) r)
       go false f q = gone q
 
@@ -176,8 +175,8 @@ module _ {ts : List Token} {f : List Token → Res} {g h : ParseState} {m n : Ar
   ready-took r (refused at out c e v x q) = gone x
   ready-took (gone q) (done at out to c e v le x s) = let z : ◌≡◌ {A = ℕ} 0 1 = cc in absurd (omega arith)
   ready-took (come p o q l r) (done at out to c e v le x s) =
-      let y : p ≡ at = cc in
-      let w : o ≡ out = cc in
+      let y : p ≡ at = same_at q e in
+      let w : o ≡ out = same_out q e in
       let t = took_of (b (drop at ts)) v in
       come to (out + length c) x le (rw s (holds-stored out c (holds-less (omega (arith, t.room, length-drop to ts, length-drop at ts)) r)))
 
@@ -187,7 +186,7 @@ module _ {ts : List Token} {f : List Token → Res} {g h : ParseState} {m n : Ar
   left-keeps (refused at out c e v x q) = rw x (omega arith)
   left-keeps (done at out to c e v le x s) = let t = took_of (b (drop at ts)) v in rw (x, e) (omega (arith, t.room, length-drop to ts, length-drop at ts))
 
-  pub left-took : (at : ℕ) {out : ℕ} → Runs ts f g m h n → h ≡ Next at out → left ts h + j ≤ left ts g
+  pub left-took : (at : ℕ) {out : ℕ} → Runs ts f g m h n → h ≡ Some (at, out) → left ts h + j ≤ left ts g
   left-took at (gone e x s) q = let z : ◌≡◌ {A = ℕ} 0 1 = cc in absurd (omega arith)
   left-took at (refused p o c e v x s) q = let z : ◌≡◌ {A = ℕ} 0 1 = cc in absurd (omega arith)
   left-took at (done p o to c e v le x s) q = let t = took_of (b (drop p ts)) v in rw (x, e) (omega (arith, t.room, length-drop to ts, length-drop p ts))
@@ -197,20 +196,20 @@ module _ {ts : List Token} {f : List Token → Res} {g h : ParseState} {m n : Ar
 
 -- a first reading that took a token more than it gave instructions
 pub past_first : {ts : List Token} {f : List Token → Res} {t k : ℕ} {g h : ParseState} {m n : Areas} (j : ℕ) {at out : ℕ} → ((z : List Token) → All (Took (suc j) z) (f z))
-    → Ready ts k g m → left ts g ≡ t → Runs ts f g m h n → h ≡ Next at out → Past ts t (k + suc j) h n
+    → Ready ts k g m → left ts g ≡ t → Runs ts f g m h n → h ≡ Some (at, out) → Past ts t (k + suc j) h n
 past_first j {at} b r e x q = record { ready = ready-took (suc j) b r x; less = omega (arith, left-took (suc j) b at x q) }
 
 left_passed : (ts : List Token) (s : ℕ) (g : ParseState) → left ts (passed s ts g) ≤ left ts g
-left_passed ts s Refused = omega arith
-left_passed ts s (Next at out) = go (sign_l (drop at ts) s)
+left_passed ts s None = omega arith
+left_passed ts s (Some (at, out)) = go (sign_l (drop at ts) s)
   where
-    go : (b : Bool) → left ts (cond b (Next (at + 1) out) Refused) ≤ length ts - at
+    go : (b : Bool) → left ts (cond b (Some (at + 1, out)) None) ≤ length ts - at
     go true = omega arith
     go false = omega arith
 
 left-more : (ts : List Token) (g : ParseState) → left ts (one_more g) ≡ left ts g
-left-more ts Refused = refl
-left-more ts (Next at out) = refl
+left-more ts None = refl
+left-more ts (Some (at, out)) = refl
 
 module _ {ts : List Token} {t k : ℕ} {g : ParseState} {m : Areas} where
   pub past-ready : Past ts t k g m → Ready ts 0 g m
@@ -232,12 +231,12 @@ module _ {ts : List Token} {t k : ℕ} {g : ParseState} {m : Areas} where
   past-emit i p e f = record { ready = ready-emit i p.ready e f; less = rw (e, left-more ts g) p.less }
 
 -- past the first token
-pub past-start : {ts : List Token} {t k : ℕ} {g : ParseState} {m : Areas} {at out : ℕ} → Ready ts k g m → g ≡ Next at out → left ts g ≡ t → at < length ts
-    → Past ts t (suc k) (Next (at + 1) out) m
+pub past-start : {ts : List Token} {t k : ℕ} {g : ParseState} {m : Areas} {at out : ℕ} → Ready ts k g m → g ≡ Some (at, out) → left ts g ≡ t → at < length ts
+    → Past ts t (suc k) (Some (at + 1, out)) m
 past-start (gone x) q e lt = let z : ◌≡◌ {A = ℕ} 0 1 = cc in absurd (omega arith)
 past-start {ts} {at = at} {out = out} (come p o x le r) q e lt =
-    let y : p ≡ at = cc in
-    let w : o ≡ out = cc in
+    let y : p ≡ at = same_at x q in
+    let w : o ≡ out = same_out x q in
     record {
       ready = come (at + 1) out refl (omega arith) (holds-less (omega arith) r);
       less = let z : length ts - at ≡ _ = sym (ap (left ts) q) ∙ e in omega arith;
@@ -245,16 +244,16 @@ past-start {ts} {at = at} {out = out} (come p o x le r) q e lt =
 
 -- past a first sign
 pub past-passed : {ts : List Token} {t k : ℕ} {g : ParseState} {m : Areas} (s : ℕ) {h : ParseState} {at out : ℕ} → Ready ts k g m → left ts g ≡ t → h ≡ passed s ts g
-    → h ≡ Next at out → Past ts t (suc k) h m
+    → h ≡ Some (at, out) → Past ts t (suc k) h m
 past-passed {ts} {t} {g = g} s {h} {at} {out} r e x q = record { ready = ready-sign s r x; less = go g e (sym x ∙ q) }
   where
-    on : (p o : ℕ) (b : Bool) → sign_l (drop p ts) s ≡ b → length ts - p ≡ t → cond b (Next (p + 1) o) Refused ≡ Next at out → left ts h < t
-    on p o true f e y = let lt = sign-in ts p s f in let z : at ≡ p + 1 = cc in rw q (omega arith)
+    on : (p o : ℕ) (b : Bool) → sign_l (drop p ts) s ≡ b → length ts - p ≡ t → cond {A = ParseState} b (Some (p + 1, o)) None ≡ Some (at, out) → left ts h < t
+    on p o true f e y = let lt = sign-in ts p s f in let z : at ≡ p + 1 = same_at refl (sym y) in rw q (omega arith)
     on p o false f e y = let z : ◌≡◌ {A = ℕ} 0 1 = cc in absurd (omega arith)
 
-    go : (g : ParseState) → left ts g ≡ t → passed s ts g ≡ Next at out → left ts h < t
-    go Refused e y = let z : ◌≡◌ {A = ℕ} 0 1 = cc in absurd (omega arith)
-    go (Next p o) e y = on p o (sign_l (drop p ts) s) refl e y
+    go : (g : ParseState) → left ts g ≡ t → passed s ts g ≡ Some (at, out) → left ts h < t
+    go None e y = let z : ◌≡◌ {A = ℕ} 0 1 = cc in absurd (omega arith)
+    go (Some (p, o)) e y = on p o (sign_l (drop p ts) s) refl e y
 
 -- ---- what stays
 

@@ -1,12 +1,14 @@
 -- What the reading code does with the three lent areas that take a program's instructions.
-use Rattle.std.specs.Prelude.{◌≡◌, ℕ, ◌+◌, ◌-◌, ◌≤◌, cond, List, [], ◌∷◌, map, length, take, drop, Float}
+use Rattle.std.specs.Prelude.{Option, Some, None, ◌≡◌, ℕ, ◌+◌, ◌-◌, ◌≤◌, cond, List, [], ◌∷◌, map, length, take, drop, Float}
 use Rattle.std.proofs.lemmas.List.Edits.{sets}
 use Rattle.orchestra_tokens.specs.declared.Token.{Token}
 use Rattle.orchestra_syntax.specs.inside.Program.{Ins}
-use Rattle.orchestra_expressions.specs.declared.ParseState.{ParseState}
-use Rattle.orchestra_expressions.specs.declared.ParseState.TheVariants.{Next, Refused}
 use Rattle.orchestra_expressions.specs.Roles.{sign_l}
 use Rattle.orchestra_expressions.specs.Reader.{Res, no, ok}
+
+-- how far a reading has come: the next token and the next place in the code; none at a refusal
+abbrev pub ParseState : Type 0
+ParseState = Option (ℕ × ℕ)
 
 -- an operation, an argument and a number for each instruction
 pub record Areas : Type 0 where
@@ -32,22 +34,22 @@ stored m out c = record { ops = sets m.ops out (map op_of c); args = sets m.args
 
 -- one instruction where a reading has come to
 abbrev pub stored_at : ParseState → Areas → Ins → Areas
-stored_at (Next at out) m i = stored m out (i ∷ [])
-stored_at Refused m i = m
+stored_at (Some (at, out)) m i = stored m out (i ∷ [])
+stored_at None m i = m
 
 abbrev pub one_more : ParseState → ParseState
-one_more (Next at out) = Next at (out + 1)
-one_more Refused = Refused
+one_more (Some (at, out)) = Some (at, out + 1)
+one_more None = None
 
 -- past a sign that must be there
 abbrev pub passed : ℕ → List Token → ParseState → ParseState
-passed s ts (Next at out) = cond (sign_l (drop at ts) s) (Next (at + 1) out) Refused
-passed s ts Refused = Refused
+passed s ts (Some (at, out)) = cond (sign_l (drop at ts) s) (Some (at + 1, out)) None
+passed s ts None = None
 
 -- the tokens left
 abbrev pub left : List Token → ParseState → ℕ
-left ts (Next at out) = length ts - at
-left ts Refused = 0
+left ts (Some (at, out)) = length ts - at
+left ts None = 0
 
 -- each area has n places
 pub record Holds (n : ℕ) (m : Areas) : Type 0 where
@@ -57,19 +59,19 @@ pub record Holds (n : ℕ) (m : Areas) : Type 0 where
 
 -- there is room for one instruction where a reading has come to
 pub record Place (g : ParseState) (m : Areas) : Type 0 where
-  pub fits : (at out : ℕ) → g ≡ Next at out → Holds (out + 1) m
+  pub fits : (at out : ℕ) → g ≡ Some (at, out) → Holds (out + 1) m
 
 -- a reading has come to a place among the tokens, and each area has room for an instruction to each token that is left, and for k more
 pub data Ready (ts : List Token) (k : ℕ) (g : ParseState) (m : Areas) : Type 0 where
-  gone : g ≡ Refused → Ready ts k g m
-  come : (at out : ℕ) → g ≡ Next at out → at ≤ length ts → Holds (out + k + (length ts - at)) m → Ready ts k g m
+  gone : g ≡ None → Ready ts k g m
+  come : (at out : ℕ) → g ≡ Some (at, out) → at ≤ length ts → Holds (out + k + (length ts - at)) m → Ready ts k g m
 
 -- The code, which has come to g, reads on as f does, and comes to h: what the areas, m before, then hold. At a refusal they hold some code from the
 -- first free place on, and are as they were before that place.
 pub data Runs (ts : List Token) (f : List Token → Res) (g : ParseState) (m : Areas) (h : ParseState) (n : Areas) : Type 0 where
-  gone : g ≡ Refused → h ≡ Refused → n ≡ m → Runs ts f g m h n
-  refused : (at out : ℕ) (c : List Ins) → g ≡ Next at out → f (drop at ts) ≡ no → h ≡ Refused → n ≡ stored m out c → Runs ts f g m h n
-  done : (at out to : ℕ) (c : List Ins) → g ≡ Next at out → f (drop at ts) ≡ ok c (drop to ts) → to ≤ length ts → h ≡ Next to (out + length c)
+  gone : g ≡ None → h ≡ None → n ≡ m → Runs ts f g m h n
+  refused : (at out : ℕ) (c : List Ins) → g ≡ Some (at, out) → f (drop at ts) ≡ no → h ≡ None → n ≡ stored m out c → Runs ts f g m h n
+  done : (at out to : ℕ) (c : List Ins) → g ≡ Some (at, out) → f (drop at ts) ≡ ok c (drop to ts) → to ≤ length ts → h ≡ Some (to, out + length c)
       → n ≡ stored m out c → Runs ts f g m h n
 
 -- Whatever is stored from a place on, all that stands before it stays, and so does each area's length.

@@ -2,7 +2,6 @@
 #![tactic(auto)]
 
 ghost use Rattle.std.specs.Prelude.{◌≡◌, drop};
-ghost use Rattle.orchestra_tokens.specs.inside.Token.{toks};
 ghost use Rattle.orchestra_expressions.specs.Roles.{prefix_of, infix_of, is_sign, prefix_l, infix_l, sign_l};
 ghost use Rattle.orchestra_expressions.specs.Areas.{areas, stored_at, one_more, passed, Place};
 
@@ -44,12 +43,8 @@ pub enum InfixToken {
     Stop,
 }
 
-// How far a reading has come: the next token and the next place in the code.
-#[derive(Clone, Copy)]
-pub enum ParseState {
-    Next(usize, usize),
-    Refused,
-}
+// How far a reading has come: the next token and the next place in the code; none at a refusal.
+pub type ParseState = Option<(usize, usize)>;
 
 pub fn prefix_of(t: Token) -> PrefixToken
     ensures { result ≡ prefix_of t }
@@ -96,9 +91,7 @@ pub fn infix_of(t: Token) -> InfixToken
             orchestra_signs::DIVIDE => InfixToken::Binary(orchestra_signs::DIVIDE, PRODUCT),
             _ => InfixToken::Stop,
         },
-        Token::Number(_) => InfixToken::Stop,
-        Token::Symbol(_) => InfixToken::Stop,
-        Token::Whole(_) => InfixToken::Stop,
+        _ => InfixToken::Stop,
     }
 }
 
@@ -107,54 +100,50 @@ pub fn is_sign(t: Token, s: u8) -> bool
 {
     match t {
         Token::Sign(k) => k == s,
-        Token::Number(_) => false,
-        Token::Symbol(_) => false,
-        Token::Whole(_) => false,
+        _ => false,
     }
 }
 
 // What stands at a place among the tokens; past their end nothing starts, nothing goes on and no sign stands.
-pub fn prefix_at(kinds: &[u8], words: &[u32], reals: &[f32], at: usize) -> PrefixToken
-    ensures { result ≡ prefix_l (drop at (toks kinds.now words.now reals.now)) }
+pub fn prefix_at(tokens: &[Token], at: usize) -> PrefixToken
+    ensures { result ≡ prefix_l (drop at tokens.now) }
 {
-    if at < kinds.len() {
-        prefix_of(orchestra_tokens::token_at(kinds, words, reals, at))
+    if at < tokens.len() {
+        prefix_of(tokens[at])
     } else {
         PrefixToken::Bad
     }
 }
 
-pub fn infix_at(kinds: &[u8], words: &[u32], reals: &[f32], at: usize) -> InfixToken
-    ensures { result ≡ infix_l (drop at (toks kinds.now words.now reals.now)) }
+pub fn infix_at(tokens: &[Token], at: usize) -> InfixToken
+    ensures { result ≡ infix_l (drop at tokens.now) }
 {
-    if at < kinds.len() {
-        infix_of(orchestra_tokens::token_at(kinds, words, reals, at))
+    if at < tokens.len() {
+        infix_of(tokens[at])
     } else {
         InfixToken::Stop
     }
 }
 
-pub fn sign_at(kinds: &[u8], words: &[u32], reals: &[f32], at: usize, s: u8) -> bool
-    ensures { result ≡ sign_l (drop at (toks kinds.now words.now reals.now)) s }
+pub fn sign_at(tokens: &[Token], at: usize, s: u8) -> bool
+    ensures { result ≡ sign_l (drop at tokens.now) s }
 {
-    if at < kinds.len() {
-        is_sign(orchestra_tokens::token_at(kinds, words, reals, at), s)
+    if at < tokens.len() {
+        is_sign(tokens[at], s)
     } else {
         false
     }
 }
 
 // Past a sign that must be there.
-pub fn expect(kinds: &[u8], words: &[u32], reals: &[f32], got: ParseState, s: u8) -> ParseState
-    ensures { result ≡ passed s (toks kinds.now words.now reals.now) got }
+pub fn expect(tokens: &[Token], got: ParseState, s: u8) -> ParseState
+    ensures { result ≡ passed s tokens.now got }
 {
-    let ParseState::Next(at, out) = got else {
-        return ParseState::Refused;
-    };
-    if sign_at(kinds, words, reals, at, s) {
-        ParseState::Next(at + 1, out)
+    let (at, out) = got?;
+    if sign_at(tokens, at, s) {
+        Some((at + 1, out))
     } else {
-        ParseState::Refused
+        None
     }
 }
 
@@ -172,11 +161,9 @@ pub fn emit(
     ensures answer { result ≡ one_more got }
     ensures code { areas ops.new args.new vals.new ≡ stored_at got (areas ops.old args.old vals.old) (record { op = op; arg = arg; val = val }) }
 {
-    let ParseState::Next(at, out) = got else {
-        return ParseState::Refused;
-    };
+    let (at, out) = got?;
     ops[out] = op;
     args[out] = arg;
     vals[out] = val;
-    ParseState::Next(at, out + 1)
+    Some((at, out + 1))
 }

@@ -1,4 +1,5 @@
 -- The steps of the four readers that call themselves are steady, and so each reader is its own next step.
+use Rattle.std.specs.Prelude.{Option, Some, None}
 use Prim.Native.Nat.{ℕ}
 use native.Mathlib.Omega.{arith}
 use mathlib.Core.Path.{◌≡◌, refl, ap}
@@ -13,8 +14,6 @@ use Rattle.orchestra_grammar.specs.declared.StatementStart.{StatementStart}
 use Rattle.orchestra_grammar.specs.declared.StatementStart.TheVariants.{Name, Output, If, Stop}
 use Rattle.orchestra_grammar.specs.declared.DeclarationStart.{DeclarationStart}
 use Rattle.orchestra_grammar.specs.declared.DeclarationStart.TheVariants.{Kind, Imports, Stop as No}
-use Rattle.orchestra_grammar.specs.declared.NameToken.{NameToken}
-use Rattle.orchestra_grammar.specs.declared.NameToken.TheVariants.{Is, Not}
 use Rattle.orchestra_grammar.specs.Starts.{statement_start_l, statement_start_of, declaration_start_l, declaration_start_of, name_token_of}
 use Rattle.orchestra_grammar.specs.Reader.{set_to, bracketed, otherwise, branches, by_statement_start, step_statements, statements, by_name_token, name, step_names, names, listed, by_declaration_start, step_declarations, declarations, fields, header, body, instrument, step_instruments, orchestra, none as nothing}
 use Rattle.orchestra_expressions.proofs.ReaderSteps.{All, none, some, All-weaken, All-cond}
@@ -67,9 +66,9 @@ pub name-took : (o : ℕ) (ts : List Token) → All (Took 0 ts) (name o ts)
 name-took o [] = none
 name-took o (t ∷ ts) = go (name_token_of t)
   where
-    go : (w : NameToken) → All (Took 0 (t ∷ ts)) (by_name_token o w ts)
-    go (Is n) = some {c = ins_arg o n ∷ []} {r = ts} (record { room = omega arith })
-    go Not = none
+    go : (w : Option ℕ) → All (Took 0 (t ∷ ts)) (by_name_token o w ts)
+    go (Some n) = some {c = ins_arg o n ∷ []} {r = ts} (record { room = omega arith })
+    go None = none
 
 pub steady-names : (k : ℕ) → Steady 0 0 1 (step_names k)
 steady-names k =

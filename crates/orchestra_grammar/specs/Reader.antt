@@ -1,4 +1,5 @@
 -- The reader above expressions, on lists of tokens: the program, and the tokens that are left.
+use Rattle.std.specs.Prelude.{Option, Some, None}
 use Rattle.std.specs.Prelude.{ℕ, zero, suc, Bool, true, false, cond, List, [], ◌∷◌, length, drop}
 use Rattle.orchestra_tokens.specs.declared.Token.{Token}
 use Rattle.orchestra_syntax.specs.Tree.{field_kind, imports_kind}
@@ -10,8 +11,6 @@ use Rattle.orchestra_grammar.specs.declared.StatementStart.{StatementStart}
 use Rattle.orchestra_grammar.specs.declared.StatementStart.TheVariants.{Name, Output, If, Stop}
 use Rattle.orchestra_grammar.specs.declared.DeclarationStart.{DeclarationStart}
 use Rattle.orchestra_grammar.specs.declared.DeclarationStart.TheVariants.{Kind, Imports, Stop as No}
-use Rattle.orchestra_grammar.specs.declared.NameToken.{NameToken}
-use Rattle.orchestra_grammar.specs.declared.NameToken.TheVariants.{Is, Not}
 use Rattle.orchestra_grammar.specs.Starts.{statement_start_l, declaration_start_l, name_token_l}
 
 -- the signs that the reader looks for, by number
@@ -83,9 +82,9 @@ statements = whole step_statements
 -- ---- declarations
 
 -- a name that must be there, as an instruction
-abbrev pub by_name_token : ℕ → NameToken → List Token → Res
-by_name_token o (Is n) ts = emit (ins_arg o n) ts
-by_name_token o Not ts = no
+abbrev pub by_name_token : ℕ → Option ℕ → List Token → Res
+by_name_token o (Some n) ts = emit (ins_arg o n) ts
+by_name_token o None ts = no
 
 abbrev pub name : ℕ → List Token → Res
 name o ts = by_name_token o (name_token_l ts) (drop 1 ts)

@@ -1,4 +1,5 @@
 -- What a token starts above expressions.
+use Rattle.std.specs.Prelude.{Option, Some, None}
 use Rattle.std.specs.Prelude.{ℕ, Bool, cond, List, [], ◌∷◌, eqb}
 use Rattle.orchestra_signs.specs.Signs as S
 use Rattle.orchestra_syntax.specs.Tree.{ivar_kind, ksig_kind, asig_kind}
@@ -8,8 +9,6 @@ use Rattle.orchestra_grammar.specs.declared.StatementStart.{StatementStart}
 use Rattle.orchestra_grammar.specs.declared.StatementStart.TheVariants.{Name, Output, If, Stop}
 use Rattle.orchestra_grammar.specs.declared.DeclarationStart.{DeclarationStart}
 use Rattle.orchestra_grammar.specs.declared.DeclarationStart.TheVariants.{Kind, Imports, Stop as No}
-use Rattle.orchestra_grammar.specs.declared.NameToken.{NameToken}
-use Rattle.orchestra_grammar.specs.declared.NameToken.TheVariants.{Is, Not}
 
 -- the number s is that of a sign
 abbrev is : ℕ → S.Sign → Bool
@@ -36,11 +35,11 @@ declaration_start_of (Whole w) = No
 declaration_start_of (Sign s) = declaration_sign s
 
 -- a name
-abbrev pub name_token_of : Token → NameToken
-name_token_of (Number x) = Not
-name_token_of (Symbol n) = Is n
-name_token_of (Whole w) = Not
-name_token_of (Sign s) = Not
+abbrev pub name_token_of : Token → Option ℕ
+name_token_of (Number x) = None
+name_token_of (Symbol n) = Some n
+name_token_of (Whole w) = None
+name_token_of (Sign s) = None
 
 -- the same of the first of some tokens
 abbrev pub statement_start_l : List Token → StatementStart
@@ -51,6 +50,6 @@ abbrev pub declaration_start_l : List Token → DeclarationStart
 declaration_start_l [] = No
 declaration_start_l (t ∷ ts) = declaration_start_of t
 
-abbrev pub name_token_l : List Token → NameToken
-name_token_l [] = Not
+abbrev pub name_token_l : List Token → Option ℕ
+name_token_l [] = None
 name_token_l (t ∷ ts) = name_token_of t

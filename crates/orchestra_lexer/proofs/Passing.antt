@@ -14,10 +14,11 @@ use Rattle.base_answer.specs.declared.Answer.TheVariants.{BadToken}
 use Rattle.orchestra_tokens.specs.Encoding.{valid}
 use Rattle.orchestra_tokens.specs.inside.Scanning.{Scanned, none, some, with, ended, more, tokens_after}
 use Rattle.orchestra_tokens.specs.Measures.{kind_of, opened, since, brackets_within, stretches_within}
-use Rattle.orchestra_tokens.specs.inside.Passes.{standing, found, next, closed_of, finished, start, scanned}
+use Rattle.orchestra_tokens.specs.inside.Passes.{standing, next, closed_of, finished, start, scanned}
 use Rattle.orchestra_tokens.specs.declared.Token.{Token}
 use Rattle.orchestra_tokens.specs.declared.Measure.{Measure}
-use Rattle.orchestra_tokens.specs.declared.ScanResult.{ScanResult}
+use Rattle.std.specs.Prelude.{Result, Err}
+use Rattle.base_answer.specs.declared.Answer.{Answer}
 use Rattle.orchestra_tokens.proofs.RoundTrip.{after-drop}
 use Rattle.orchestra_lexer.proofs.Standing.{kind-is}
 
@@ -115,12 +116,12 @@ module _ {bs : List ℕ} {m : Measure} {at : ℕ} (i : Inv bs m at) where
       subst (λ (x : Measure). Inv bs x (at + 1 + n)) (sym u)
       (subst (λ (x : ℕ). Inv bs (next m k) (at + 1 + x)) (sym w) (stepped k lt e a (sym p ∙ not-false b q)))
 
-  pub ends-closed : {f : ScanResult} (k : ℕ) → at < length bs → k ≡ get_or bs at 0 → k ≡ 0xff → f ≡ closed_of m (length bs - at) → f ≡ scanned bs
+  pub ends-closed : {f : Result ℕ Answer} (k : ℕ) → at < length bs → k ≡ get_or bs at 0 → k ≡ 0xff → f ≡ closed_of m (length bs - at) → f ≡ scanned bs
   ends-closed k lt e a u = u ∙ ap (finished m) (sym (left_end bs at lt k e a)) ∙ i.is
 
-  pub ends-bad : {f : ScanResult} (k : ℕ) {b : Bool} → at < length bs → k ≡ get_or bs at 0 → (k ≡ 0xff → ⊥) → b ≡ valid (standing bs at) → not b ≡ true
-      → f ≡ found BadToken 0 → f ≡ scanned bs
-  ends-bad k {b} lt e a p q u = u ∙ ap (finished m) (sym (left-bad bs at lt k e a (sym p ∙ not-true b q))) ∙ i.is
+  pub ends-bad : (k : ℕ) {b : Bool} → at < length bs → k ≡ get_or bs at 0 → (k ≡ 0xff → ⊥) → b ≡ valid (standing bs at) → not b ≡ true
+      → Err BadToken ≡ scanned bs
+  ends-bad k {b} lt e a p q = ap (finished m) (sym (left-bad bs at lt k e a (sym p ∙ not-true b q))) ∙ i.is
 
-  pub ends-short : {f : ScanResult} → length bs ≤ at → f ≡ found BadToken 0 → f ≡ scanned bs
-  ends-short h u = u ∙ ap (finished m) (sym (left-none bs at h)) ∙ i.is
+  pub ends-short : length bs ≤ at → Err BadToken ≡ scanned bs
+  ends-short h = ap (finished m) (sym (left-none bs at h)) ∙ i.is

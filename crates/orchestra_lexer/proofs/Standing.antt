@@ -1,9 +1,9 @@
--- The token that stands at a place of the bytes: its words, whether it is valid, what is stored of it.
+-- The token that stands at a place of the bytes: its words, whether it is valid.
 use Prim.Native.Nat.{ℕ, ◌+◌, ◌*◌, ◌%◌, ◌<◌}
 use native.Mathlib.Omega.{arith}
 use native.Mathlib.Nat.{mod-eq_of_lt}
 use mathlib.Core.Path.{◌≡◌, refl, sym, ap, ◌∙◌}
-use mathlib.Core.Bool.{Bool, true, false, ◌&&◌, and-true}
+use mathlib.Core.Bool.{Bool, true, false, not, ◌&&◌, and-true}
 use mathlib.Core.List.{List}
 use lib.ListN.{get_or, drop}
 use lib.Seq.{get_or-drop}
@@ -14,30 +14,15 @@ use lib.Ieee.Scale.{finite}
 use borrow.Author.Tests.{lt-ltb, ne_eqb, eqb-true}
 use Rattle.base_timebase.specs.Time.{finite_bits}
 use Rattle.base_timebase.specs.inside.Range.{checked}
-use Rattle.base_timebase.specs.declared.Checked.{Checked}
-use Rattle.base_timebase.specs.declared.Checked.TheVariants.{Value, Outside}
-use Rattle.base_timebase.proofs.RangesAndTicks.{checked-in, checked-out}
+use Rattle.std.specs.Prelude.{Option}
+use Rattle.std.specs.Option.{is_some, unwrap_or}
 use Rattle.orchestra_tokens.specs.inside.Token.{zero_f}
 use Rattle.orchestra_tokens.specs.Encoding.{valid}
 use Rattle.orchestra_tokens.specs.inside.Scanning.{more, two_of, four_of, token_from}
 use Rattle.orchestra_tokens.specs.Measures.{kind_of}
 use Rattle.orchestra_tokens.specs.inside.Passes.{standing}
-use Rattle.orchestra_tokens.specs.inside.Reading.{word_of, real_of}
-
--- ---- how many more bytes a token has
-
-module _ (k : ℕ) where
-  pub more-symbol : k ≡ 0xf0 → 2 ≡ more k
-  more-symbol e = rw e
-
-  pub more-number : (k ≡ 0xf0 → ⊥) → k ≡ 0xf1 → 4 ≡ more k
-  more-number a e = rw e
-
-  pub more-whole : (k ≡ 0xf0 → ⊥) → (k ≡ 0xf1 → ⊥) → k ≡ 0xf2 → 4 ≡ more k
-  more-whole a b e = rw e
-
-  pub more-none : (k ≡ 0xf0 → ⊥) → (k ≡ 0xf1 → ⊥) → (k ≡ 0xf2 → ⊥) → 0 ≡ more k
-  more-none a b c = rw (ne_eqb k 0xf0 a, ne_eqb k 0xf1 b, ne_eqb k 0xf2 c)
+use Rattle.orchestra_tokens.specs.inside.Reading.{real_of}
+use Rattle.orchestra_tokens.specs.declared.Token.TheVariants.{Number, Symbol, Whole, Sign}
 
 -- ---- words
 
@@ -52,11 +37,13 @@ four_is bs at h l p q =
     omega
     (arith, drop_get bs (at + 2) 0 (at + 2) (omega arith), drop_get bs at 2 (at + 2) (omega arith), drop_get bs (at + 2) 1 (at + 3) (omega arith), drop_get bs at 3 (at + 3) (omega arith))
 
-pub finite-yes : (w : ℕ) (c : Checked) (x : Float) → c ≡ checked (finite_bits w) w → c ≡ Value x → true ≡ finite_bits w
-finite-yes w c x e f = sym (checked-in (finite_bits w) w x (sym e ∙ f)).0
+some-checked : (p : Bool) (b : ℕ) → is_some (checked p b) ≡ p
+unfolding checked
+some-checked true b = refl
+some-checked false b = refl
 
-pub finite-no : (w : ℕ) (c : Checked) → c ≡ checked (finite_bits w) w → c ≡ Outside → false ≡ finite_bits w
-finite-no w c e f = sym (checked-out (finite_bits w) w (sym e ∙ f))
+pub finite-is : (w : ℕ) (c : Option Float) {b : Bool} → c ≡ checked (finite_bits w) w → b ≡ is_some c → b ≡ finite_bits w
+finite-is w c e f = f ∙ ap (λ (o : Option Float). is_some o) e ∙ some-checked (finite_bits w) w
 
 fits-of : (w : ℕ) → (finite (of_bits binary32 w) && fits binary32 (of_bits binary32 w)) ≡ finite_bits w
 unfolding finite_bits
@@ -77,7 +64,7 @@ module _ (bs : List ℕ) (at k : ℕ) (e : k ≡ get_or bs at 0) where
   unfolding token_from
   valid-whole w s p = rw (← e, s, p)
 
-  pub valid-none : k ≡ 0 → false ≡ valid (standing bs at)
+  pub valid-none : k ≡ 0 → not (eqb k 0) ≡ valid (standing bs at)
   unfolding token_from
   valid-none s = rw (← e, s)
 
@@ -85,35 +72,31 @@ module _ (bs : List ℕ) (at k : ℕ) (e : k ≡ get_or bs at 0) where
   unfolding token_from
   valid-sign a b c d = rw (← e, ne_eqb k 0xf0 a, ne_eqb k 0xf1 b, ne_eqb k 0xf2 c, lt-ltb 0 k (omega (arith, d)))
 
-  -- ---- what is stored
+  -- ---- the token
 
-  pub word-symbol : (w : ℕ) → k ≡ 0xf0 → w < 65536 → w ≡ two_of (drop (at + 1) bs) → w ≡ word_of (standing bs at)
+  pub symbol-stands : (w : ℕ) → k ≡ 0xf0 → w < 65536 → w ≡ two_of (drop (at + 1) bs) → Symbol w ≡ standing bs at
   unfolding token_from
-  word-symbol w s l p = rw (← e, s, ← p) (sym (mod-eq_of_lt l))
+  symbol-stands w s l p = rw (← e, s, ← p) (ap Symbol (sym (mod-eq_of_lt l)))
 
-  pub word-whole : (w : ℕ) → k ≡ 0xf2 → w ≡ four_of (drop (at + 1) bs) → w ≡ word_of (standing bs at)
+  pub number-stands : (x : Float) → k ≡ 0xf1 → x ≡ real_of (standing bs at) → Number x ≡ standing bs at
   unfolding token_from
-  word-whole w s p = rw (← e, s, p)
+  number-stands x s p = ap Number p ∙ rw (← e, s)
 
-  word_else : (a b : Bool) → (k ≡ 0xf0 → ⊥) → (k ≡ 0xf2 → ⊥) → eqb k 0xf1 ≡ b → 0 ≡ word_of (standing bs at)
+  pub whole-stands : (w : ℕ) → k ≡ 0xf2 → w ≡ four_of (drop (at + 1) bs) → Whole w ≡ standing bs at
   unfolding token_from
-  word_else a true p q r = rw (← e, ne_eqb k 0xf0 p, r)
-  word_else a false p q r = rw (← e, ne_eqb k 0xf0 p, r, ne_eqb k 0xf2 q)
+  whole-stands w s p = rw (← e, s, p)
 
-  pub word_none : (k ≡ 0xf0 → ⊥) → (k ≡ 0xf2 → ⊥) → 0 ≡ word_of (standing bs at)
-  word_none p q = word_else true (eqb k 0xf1) p q refl
+  pub sign-stands : (k ≡ 0xf0 → ⊥) → (k ≡ 0xf1 → ⊥) → (k ≡ 0xf2 → ⊥) → Sign k ≡ standing bs at
+  unfolding token_from
+  sign-stands a b c = rw (← e, ne_eqb k 0xf0 a, ne_eqb k 0xf1 b, ne_eqb k 0xf2 c)
 
-  pub real-number : (w : ℕ) (c : Checked) (x : Float) → k ≡ 0xf1 → w ≡ four_of (drop (at + 1) bs) → c ≡ checked (finite_bits w) w → c ≡ Value x
+  pub real-number : (w : ℕ) (c : Option Float) (x : Float) → valid (standing bs at) ≡ true → k ≡ 0xf1 → w ≡ four_of (drop (at + 1) bs) → c ≡ checked (finite_bits w) w → x ≡ unwrap_or c zero_f
       → x ≡ real_of (standing bs at)
-  unfolding token_from
-  real-number w c x s p q r = rw (← e, s, ← p) (sym (checked-in (finite_bits w) w x (sym q ∙ r)).1)
-
-  pub real-lost : (w : ℕ) (c : Checked) → valid (standing bs at) ≡ true → k ≡ 0xf1 → w ≡ four_of (drop (at + 1) bs) → c ≡ checked (finite_bits w) w → c ≡ Outside
-      → zero_f ≡ real_of (standing bs at)
-  real-lost w c l s p q r =
-      let f = finite-no w c q r in
-      let g = valid-number w false s p f in
-      absurd (let z : ◌≡◌ {A = ℕ} 0 1 = cc (g, l) in omega arith)
+  unfolding token_from checked
+  real-number w c x l s p q r =
+      let f = valid-number w (finite_bits w) s p refl ∙ l in
+      let y = r ∙ ap (λ (o : Option Float). unwrap_or o zero_f) (q ∙ ap (λ (b : Bool). checked b w) f) in
+      rw (← e, s, ← p) y
 
   real-else : (a b : Bool) → (k ≡ 0xf1 → ⊥) → eqb k 0xf0 ≡ a → eqb k 0xf2 ≡ b → zero_f ≡ real_of (standing bs at)
   unfolding token_from

@@ -1,4 +1,4 @@
--- The second pass: the tokens go into the arrays one by one.
+-- The second pass: the tokens go into the array one by one.
 use Prim.Native.Nat.{ℕ, suc, ◌+◌, ◌-◌, ◌≤◌, ◌<◌}
 use native.Mathlib.Omega.{arith}
 use native.Mathlib.Decide.{dec_lt}
@@ -11,17 +11,14 @@ use lib.Seq.{drop-cons, take-suc, set_at, take_all, length-take-le}
 use lib.Dec.{eqb}
 use lib.Ieee.{Float}
 use borrow.Author.Tests.{eqb-true, eqb-false}
-use Rattle.base_answer.specs.declared.Answer.TheVariants.{Taken}
-use Rattle.orchestra_tokens.specs.inside.Token.{zero_f}
+use Rattle.std.specs.Prelude.{Ok}
 use Rattle.orchestra_tokens.specs.Encoding.{valid}
 use Rattle.orchestra_tokens.specs.inside.Scanning.{none, some, more, tokens_after, tokens_of, tokens_in}
-use Rattle.orchestra_tokens.specs.Measures.{kind_of}
-use Rattle.orchestra_tokens.specs.inside.Passes.{standing, found, scanned}
-use Rattle.orchestra_tokens.specs.inside.Reading.{word_of, real_of, padded, stored, judged}
+use Rattle.orchestra_tokens.specs.inside.Passes.{standing, scanned}
+use Rattle.orchestra_tokens.specs.inside.Reading.{padded, stored, judged}
 use Rattle.orchestra_tokens.specs.declared.Token.{Token}
 use Rattle.orchestra_tokens.specs.declared.Token.TheVariants.{Sign}
 use Rattle.orchestra_tokens.proofs.RoundTrip.{impossible, with_first, with_rest}
-use Rattle.orchestra_lexer.proofs.Standing.{kind-is}
 use Rattle.orchestra_lexer.proofs.Judging.{Took, took}
 use Rattle.orchestra_lexer.proofs.Passing.{left-next, left-bad, left_end, left-none}
 
@@ -72,33 +69,28 @@ module _ {A : Type 0} where
       let l : length (xs ++ v ∷ []) ≡ suc n = length-append xs (v ∷ []) ∙ omega arith in
       rw (e, l, drop-cons r n d (rw length-replicate h), set_at xs (get_or r n d) (drop (suc n) r) v n e, append_assoc xs (v ∷ []) (drop (suc n) r))
 
-  map_next : (f : Token → A) (ts : List Token) (n : ℕ) → n < length ts → map f (take (n + 1) ts) ≡ map f (take n ts) ++ f (get_or ts n (Sign 0)) ∷ []
-  map_next f ts n h = rw (add-one n, take-suc ts n (Sign 0) h, map-append f)
-
-  -- the array with the next token's part put in
-  pub put-token : (f : Token → A) (d : A) (ts : List Token) (n : ℕ) (v : A) → n < length ts → n < 2048 → v ≡ f (get_or ts n (Sign 0))
-      → set (padded d (map f (take n ts))) n v ≡ padded d (map f (take (n + 1) ts))
-  put-token f d ts n v h k e =
-      rw (e, map_next f ts n h) (put_next d (map f (take n ts)) n (f (get_or ts n (Sign 0))) (length-map (take n ts) f ∙ length-take-le n ts (omega arith)) k)
-
   pub length-padded : (d : A) (xs : List A) → length xs ≤ 2048 → length (padded d xs) ≡ 2048
   length-padded d xs h = length-append xs (drop (length xs) (replicate 2048 d)) ∙ rw (length-drop, length-replicate) (omega arith)
 
+-- the array with the next token put in
+put-token : (ts : List Token) (n : ℕ) (t : Token) → n < length ts → n < 2048 → t ≡ get_or ts n (Sign 0)
+    → set (padded (Sign 0) (take n ts)) n t ≡ padded (Sign 0) (take (n + 1) ts)
+put-token ts n t h k e =
+    rw (e, add-one n, take-suc ts n (Sign 0) h) (put_next (Sign 0) (take n ts) n (get_or ts n (Sign 0)) (length-take-le n ts (omega arith)) k)
+
 -- ---- the loop
 
-pub record Filled (bs : List ℕ) (count : ℕ) (ks ws : List ℕ) (xs : List Float) (at n : ℕ) : Type 0 where
+pub record Filled (bs : List ℕ) (count : ℕ) (us : List Token) (at n : ℕ) : Type 0 where
   pub took-all : Took bs count
   pub within : n ≤ count
   pub inside : at < length bs
   pub left : tokens_after 0 (drop at bs) ≡ some (drop n (tokens_in (tokens_of bs)))
-  pub kinds : ks ≡ padded 0 (map kind_of (take n (tokens_in (tokens_of bs))))
-  pub words : ws ≡ padded 0 (map word_of (take n (tokens_in (tokens_of bs))))
-  pub reals : xs ≡ padded zero_f (map real_of (take n (tokens_in (tokens_of bs))))
+  pub tokens : us ≡ padded (Sign 0) (take n (tokens_in (tokens_of bs)))
 
-pub starts : (bs : List ℕ) (count : ℕ) → scanned bs ≡ found Taken count → Filled bs count (replicate 2048 0) (replicate 2048 0) (replicate 2048 zero_f) 0 0
-starts bs count e = let t = took bs count e in record { took-all = t; within = omega arith; inside = some-inside bs 0 (tokens_in (tokens_of bs)) t.some_is; left = t.some_is; kinds = refl; words = refl; reals = refl }
+pub starts : (bs : List ℕ) (count : ℕ) → scanned bs ≡ Ok count → Filled bs count (replicate 2048 (Sign 0)) 0 0
+starts bs count e = let t = took bs count e in record { took-all = t; within = omega arith; inside = some-inside bs 0 (tokens_in (tokens_of bs)) t.some_is; left = t.some_is; tokens = refl }
 
-module _ {bs : List ℕ} {count : ℕ} {ks ws : List ℕ} {xs : List Float} {at n : ℕ} (i : Filled bs count ks ws xs at n) where
+module _ {bs : List ℕ} {count : ℕ} {us : List Token} {at n : ℕ} (i : Filled bs count us at n) where
   abbrev all : List Token
   all = tokens_in (tokens_of bs)
 
@@ -114,9 +106,8 @@ module _ {bs : List ℕ} {count : ℕ} {ks ws : List ℕ} {xs : List Float} {at 
   pub room-left : n < count → n < 2048
   room-left lt = omega (arith, i.took-all.room, i.took-all.count-is)
 
-  pub again : {k w m : ℕ} {x : Float} → n < count → k ≡ get_or bs at 0 → w ≡ word_of (standing bs at) → x ≡ real_of (standing bs at) → m ≡ more k
-      → Filled bs count (set ks n k) (set ws n w) (set xs n x) (at + 1 + m) (n + 1)
-  again {k = k} {w = w} {m = m} {x = x} lt e f g r =
+  pub again : {k m : ℕ} {t : Token} → n < count → t ≡ standing bs at → k ≡ get_or bs at 0 → m ≡ more k → Filled bs count (set us n t) (at + 1 + m) (n + 1)
+  again {k = k} {m = m} {t = u} lt g e r =
       let s = here lt in
       let t = s.first in
       let h : n < length all = omega (arith, i.took-all.count-is) in
@@ -128,22 +119,17 @@ module _ {bs : List ℕ} {count : ℕ} {ks ws : List ℕ} {xs : List Float} {at 
         within = omega arith;
         inside = some-inside bs (at + 1 + m) (drop (n + 1) all) l;
         left = l;
-        kinds = ap (λ l. set l n k) i.kinds ∙ put-token kind_of 0 all n k h b (sym (kind-is bs at k e) ∙ ap kind_of t);
-        words = ap (λ l. set l n w) i.words ∙ put-token word_of 0 all n w h b (f ∙ ap word_of t);
-        reals = ap (λ l. set l n x) i.reals ∙ put-token real_of zero_f all n x h b (g ∙ ap real_of t);
+        tokens = ap (λ l. set l n u) i.tokens ∙ put-token all n u h b (g ∙ t);
       }
 
-  pub ends : count ≤ n → record { answer = Taken; count = count; kinds = ks; words = ws; reals = xs } ≡ judged (tokens_of bs)
+  pub ends : count ≤ n → judged (tokens_of bs) ≡ Ok (record { count = count; tokens = us })
   ends le =
       let c = i.took-all.count-is in
       let q = i.within in
       let e : take n all ≡ all = take_all n all (omega (arith, c, q)) in
-      let p : record { answer = Taken; count = count; kinds = ks; words = ws; reals = xs } ≡ stored Taken all =
+      let p : record { count = count; tokens = us } ≡ stored all =
       λ j. record {
-        answer = Taken;
         count = c j;
-        kinds = (i.kinds ∙ ap (λ l. padded 0 (map kind_of l)) e) j;
-        words = (i.words ∙ ap (λ l. padded 0 (map word_of l)) e) j;
-        reals = (i.reals ∙ ap (λ l. padded zero_f (map real_of l)) e) j;
+        tokens = (i.tokens ∙ ap (padded (Sign 0)) e) j;
       } in
-      p ∙ sym i.took-all.judged-is
+      i.took-all.judged-is ∙ ap Ok (sym p)

@@ -1,18 +1,16 @@
 // The reading of an orchestra's bytes: a first pass finds the tokens and measures them, a second stores them.
 #![tactic(auto)]
 
-ghost use Rattle.std.specs.Prelude.{◌≡◌, true, [], ◌<◌, ◌≤◌, ◌+◌, drop, length};
-ghost use Rattle.base_answer.specs.declared.Answer.TheVariants.{Taken};
+ghost use Rattle.std.specs.Prelude.{Ok, ◌≡◌, true, ◌<◌, ◌≤◌, ◌+◌, drop, length};
 ghost use Rattle.base_timebase.specs.Time.{finite_bits};
 ghost use Rattle.orchestra_tokens.specs.Measures.{longest};
 ghost use Rattle.orchestra_tokens.specs.Encoding.{valid};
 ghost use Rattle.orchestra_tokens.specs.inside.Scanning.{two_of, four_of, more as more_of, tokens_of};
-ghost use Rattle.orchestra_tokens.specs.inside.Passes.{standing, found, scanned};
-ghost use Rattle.orchestra_tokens.specs.inside.Reading.{word_of, real_of, stored, judged, read_of};
+ghost use Rattle.orchestra_tokens.specs.inside.Passes.{standing, scanned};
+ghost use Rattle.orchestra_tokens.specs.inside.Reading.{real_of, judged, read_of};
 
 use base_answer::Answer;
-use base_timebase::Checked;
-use orchestra_tokens::{Measure, NUMBER, SYMBOL, ScanResult, Tokens, WHOLE, byte_at};
+use orchestra_tokens::{Measure, NUMBER, SYMBOL, Token, Tokens, WHOLE, byte_at};
 
 // The byte that ends the tokens.
 const END: u8 = 0xff;
@@ -54,25 +52,17 @@ fn more(k: u8) -> usize
     ensures low { result ≤ 4 }
     ensures is { result ≡ more_of k }
 {
-    if k == SYMBOL {
-        return 2;
+    match k {
+        SYMBOL => 2,
+        NUMBER | WHOLE => 4,
+        _ => 0,
     }
-    if k == NUMBER {
-        return 4;
-    }
-    if k == WHOLE {
-        return 4;
-    }
-    0
 }
 
 fn is_finite(w: u32) -> bool
     ensures { result ≡ finite_bits w }
 {
-    match base_timebase::value_of(w) {
-        Checked::Value(_) => true,
-        Checked::Outside => false,
-    }
+    base_timebase::value_of(w).is_some()
 }
 
 // Whether the token that stands at `at` is listed and its number is in range.
@@ -80,23 +70,16 @@ fn is_valid(bytes: &[u8], at: usize) -> bool
     requires { at ≤ longest }
     ensures { result ≡ valid (standing bytes.now at) }
 {
-    let k = byte_at(bytes, at);
-    if k == SYMBOL {
-        return true;
+    match byte_at(bytes, at) {
+        SYMBOL => true,
+        NUMBER => is_finite(four_at(bytes, at + 1)),
+        WHOLE => four_at(bytes, at + 1) < WHOLE_LIMIT,
+        k => k != 0 && k <= orchestra_signs::SIGNS,
     }
-    if k == NUMBER {
-        return is_finite(four_at(bytes, at + 1));
-    }
-    if k == WHOLE {
-        return four_at(bytes, at + 1) < WHOLE_LIMIT;
-    }
-    if k == 0 {
-        return false;
-    }
-    k <= orchestra_signs::SIGNS
 }
 
-fn scan(bytes: &[u8]) -> ScanResult
+// How many tokens there are.
+fn scan(bytes: &[u8]) -> Result<usize, Answer>
     requires { length bytes.now ≤ longest }
     ensures { result ≡ scanned bytes.now }
 {
@@ -112,100 +95,61 @@ fn scan(bytes: &[u8]) -> ScanResult
         if k == END {
             return orchestra_tokens::closed(m, bytes.len() - at);
         }
-        let listed = is_valid(bytes, at);
-        if !listed {
-            return orchestra_tokens::bad();
+        if !is_valid(bytes, at) {
+            return Err(Answer::BadToken);
         }
         m = orchestra_tokens::next(m, k);
         at = at + 1 + more(k);
     }
-    orchestra_tokens::bad()
+    Err(Answer::BadToken)
 }
 
-// The word and the float of the token that stands at `at`.
-fn word_from(bytes: &[u8], at: usize) -> u32
-    requires { at ≤ longest }
-    ensures { result ≡ word_of (standing bytes.now at) }
-{
-    let k = byte_at(bytes, at);
-    if k == SYMBOL {
-        return two_at(bytes, at + 1);
-    }
-    if k == WHOLE {
-        return four_at(bytes, at + 1);
-    }
-    0
-}
-
+// The float of the token that stands at `at`.
 fn real_from(bytes: &[u8], at: usize) -> f32
     requires { (at ≤ longest) × (valid (standing bytes.now at) ≡ true) }
     ensures { result ≡ real_of (standing bytes.now at) }
 {
     let k = byte_at(bytes, at);
     if k == NUMBER {
-        match base_timebase::value_of(four_at(bytes, at + 1)) {
-            Checked::Value(x) => {
-                return x;
-            }
-            Checked::Outside => {
-                return 0.0;
-            }
-        }
+        return base_timebase::value_of(four_at(bytes, at + 1)).unwrap_or(0.0);
     }
     0.0
 }
 
-fn refused(a: Answer) -> Tokens
-    ensures { result ≡ stored a [] }
+// The token that stands at `at`.
+fn token_from(bytes: &[u8], at: usize) -> Token
+    requires { (at ≤ longest) × (valid (standing bytes.now at) ≡ true) }
+    ensures { result ≡ standing bytes.now at }
 {
-    Tokens {
-        answer: a,
-        count: 0,
-        kinds: [0; 2048],
-        words: [0; 2048],
-        reals: [0.0; 2048],
+    match byte_at(bytes, at) {
+        SYMBOL => Token::Symbol(two_at(bytes, at + 1) as u16),
+        NUMBER => Token::Number(real_from(bytes, at)),
+        WHOLE => Token::Whole(four_at(bytes, at + 1)),
+        k => Token::Sign(k),
     }
 }
 
 // The second pass, over bytes that the first one took.
 fn store(bytes: &[u8], count: usize) -> Tokens
-    requires { (length bytes.now ≤ longest) × (scanned bytes.now ≡ found Taken count) }
-    ensures { result ≡ judged (tokens_of bytes.now) }
+    requires { (length bytes.now ≤ longest) × (scanned bytes.now ≡ Ok count) }
+    ensures { judged (tokens_of bytes.now) ≡ Ok result }
 {
-    let mut kinds: [u8; 2048] = [0; 2048];
-    let mut words: [u32; 2048] = [0; 2048];
-    let mut reals: [f32; 2048] = [0.0; 2048];
+    let mut tokens = [Token::Sign(0); 2048];
     let mut at: usize = 0;
-    let mut n: usize = 0;
-    while n < count {
-        let k = byte_at(bytes, at);
-        kinds[n] = k;
-        words[n] = word_from(bytes, at);
-        reals[n] = real_from(bytes, at);
-        at = at + 1 + more(k);
-        n += 1;
+    for n in 0..count {
+        tokens[n] = token_from(bytes, at);
+        at = at + 1 + more(byte_at(bytes, at));
     }
-    Tokens {
-        answer: Answer::Taken,
-        count: count,
-        kinds: kinds,
-        words: words,
-        reals: reals,
-    }
+    Tokens { count, tokens }
 }
 
 // The tokens of an orchestra's bytes, or why they are refused.
-pub fn read(bytes: &[u8]) -> Tokens
+pub fn read(bytes: &[u8]) -> Result<Tokens, Answer>
     ensures { result ≡ read_of bytes.now }
 {
     if MOST_BYTES < bytes.len() {
-        return refused(Answer::TooLarge);
+        return Err(Answer::TooLarge);
     }
-    let f = scan(bytes);
-    let a = f.answer;
-    let count = f.count;
-    if base_answer::is_taken(a) {
-        return store(bytes, count);
-    }
-    refused(a)
+    let count = scan(bytes)?;
+    Ok(store(bytes, count))
 }

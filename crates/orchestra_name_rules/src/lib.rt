@@ -19,12 +19,10 @@ fn seek(table: &[u16], n: usize, s: u16) -> usize
     requires { n ≤ length table.now }
     ensures { result ≡ seek_in (take n table.now) s }
 {
-    let mut i: usize = 0;
-    while i < n {
+    for i in 0..n {
         if table[i] == s {
             return i;
         }
-        i += 1;
     }
     n
 }
@@ -41,26 +39,18 @@ fn free(table: &[u16], n: usize, most: usize, s: u16) -> bool
     requires { n ≤ length table.now }
     ensures { result ≡ (ltb n most && not (has s (take n table.now))) }
 {
-    if n < most {
-        return n <= seek(table, n, s);
-    }
-    false
+    n < most && n <= seek(table, n, s)
 }
 
 fn rate_of_kind(k: u8) -> u16
     ensures low { result ≤ 2 }
     ensures is { result ≡ speed_of_kind k }
 {
-    if k == orchestra_syntax::FIELD {
-        return orchestra_syntax::I_RATE;
+    match k {
+        orchestra_syntax::FIELD | orchestra_signs::IVAR => orchestra_syntax::I_RATE,
+        orchestra_signs::ASIG => orchestra_syntax::A_RATE,
+        _ => orchestra_syntax::K_RATE,
     }
-    if k == orchestra_signs::IVAR {
-        return orchestra_syntax::I_RATE;
-    }
-    if k == orchestra_signs::ASIG {
-        return orchestra_syntax::A_RATE;
-    }
-    orchestra_syntax::K_RATE
 }
 
 // A name by its place; 0 where there is none.

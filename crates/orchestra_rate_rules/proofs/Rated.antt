@@ -1,6 +1,6 @@
 -- The ways through the functions of the rates' pass.
 use Prim.Native.Nat.{ℕ, ◌+◌, ◌-◌, ◌≤◌, ◌<◌, max}
-use mathlib.Core.Path.{◌≡◌, sym, ap, ◌∙◌}
+use mathlib.Core.Path.{◌≡◌, refl, sym, ap, ◌∙◌}
 use mathlib.Core.Bool.{Bool, true, false, ◌&&◌}
 use lib.Dec.{leb}
 use borrow.Author.Tests.{lt-ltb, le-ltb, le-leb, lt-leb}
@@ -43,32 +43,22 @@ module _ (o n : ℕ) (q : Rates) {a : OpClass} (act : a ≡ op_class_of o) where
   abbrev Valid : Bool → Type 0
   Valid b = b ≡ rates_valid (op_class_of o) n q
 
-  pub l-value : a ≡ Value → Valid true
-  l-value f = rw (sym act ∙ f)
-
-  pub l-name : a ≡ Name → Valid true
-  l-name f = rw (sym act ∙ f)
-
   pub l-store : {b : Bool} {r : ℕ} → a ≡ Store → r ≡ rate_of n → b ≡ (leb q.fastest r && leb (guard q) r) → Valid b
   l-store f e d = rw (sym act ∙ f, ← e) d
 
-  pub l-output : a ≡ Output → Valid true
-  l-output f = rw (sym act ∙ f)
-
-  pub l-if : a ≡ If → Valid true
-  l-if f = rw (sym act ∙ f)
-
-  pub l-else : a ≡ Else → Valid true
-  l-else f = rw (sym act ∙ f)
-
-  pub l-end : a ≡ End → Valid true
-  l-end f = rw (sym act ∙ f)
-
-  pub l-declare : a ≡ Declare → Valid true
-  l-declare f = rw (sym act ∙ f)
-
-  pub l-instr : a ≡ Instr → Valid true
-  l-instr f = rw (sym act ∙ f)
+  pub l-other : (a ≡ Store → ⊥) → Valid true
+  l-other f = rw (sym act) (go a f)
+    where
+      go : (b : OpClass) → (b ≡ Store → ⊥) → true ≡ rates_valid b n q
+      go Value f = refl
+      go Name f = refl
+      go Store f = absurd (f refl)
+      go Output f = refl
+      go If f = refl
+      go Else f = refl
+      go End f = refl
+      go Declare f = refl
+      go Instr f = refl
 
   abbrev After : Rates → Type 0
   After r = r ≡ rates_after (op_class_of o) n q

@@ -66,8 +66,8 @@ fn left(q: Rates) -> Rates
 {
     Rates {
         fastest: q.fastest,
-        kdeep: base_numbers::one_less(q.kdeep),
-        adeep: base_numbers::one_less(q.adeep),
+        kdeep: q.kdeep.saturating_sub(1),
+        adeep: q.adeep.saturating_sub(1),
     }
 }
 
@@ -85,25 +85,15 @@ fn ended(q: Rates, m: u16) -> Rates
 fn assigns(q: Rates, r: u16) -> bool
     ensures { result ≡ (leb q.fastest r && leb (guard_of q) r) }
 {
-    if q.fastest <= r {
-        return guard(q) <= r;
-    }
-    false
+    q.fastest <= r && guard(q) <= r
 }
 
 pub fn rate_valid(op: u8, arg: u16, q: Rates) -> bool
     ensures { result ≡ rates_valid (op_class_of op) arg q }
 {
     match orchestra_syntax::op_class(op) {
-        OpClass::Value => true,
-        OpClass::Name => true,
         OpClass::Store => assigns(q, orchestra_syntax::rate_of(arg)),
-        OpClass::Output => true,
-        OpClass::If => true,
-        OpClass::Else => true,
-        OpClass::End => true,
-        OpClass::Declare => true,
-        OpClass::Instr => true,
+        _ => true,
     }
 }
 
@@ -113,16 +103,10 @@ pub fn rates_after(op: u8, arg: u16, q: Rates) -> Rates
 {
     match orchestra_syntax::op_class(op) {
         OpClass::Value => q,
-        OpClass::Name => {
-            let m = faster(q.fastest, orchestra_syntax::rate_of(arg));
-            ended(q, m)
-        }
+        OpClass::Name => ended(q, faster(q.fastest, orchestra_syntax::rate_of(arg))),
         OpClass::Store => ended(q, I_RATE),
         OpClass::Output => ended(q, I_RATE),
-        OpClass::If => {
-            let m = faster(guard(q), q.fastest);
-            entered(m, q)
-        }
+        OpClass::If => entered(faster(guard(q), q.fastest), q),
         OpClass::Else => q,
         OpClass::End => left(q),
         OpClass::Declare => q,

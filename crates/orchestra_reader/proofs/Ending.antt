@@ -1,7 +1,7 @@
 -- The ways through the reading of a whole orchestra.
 use Prim.Native.Nat.{ℕ, suc, ◌+◌, ◌≤◌}
 use native.Mathlib.Omega.{arith}
-use mathlib.Core.Path.{◌≡◌, refl, sym, ap, ◌∙◌}
+use mathlib.Core.Path.{◌≡◌, refl, sym, ap, ◌∙◌, subst}
 use mathlib.Core.Bool.{Bool, true, false, cond, ◌&&◌}
 use mathlib.Core.List.{List, [], ◌∷◌, ◌++◌, map}
 use lib.ListN.{length, take, drop, replicate, length-map, length-append, length-replicate, length-drop}
@@ -10,24 +10,25 @@ use lib.Dec.{ltb, leb}
 use lib.Ieee.{Float}
 use borrow.Author.Tests.{leb-true}
 use Rattle.base_laws.proofs.Choice.{both_true}
+use Rattle.std.specs.Prelude.{Result, Ok, Err}
 use Rattle.base_answer.specs.Numbers.{is_taken}
 use Rattle.base_answer.specs.declared.Answer.{Answer}
 use Rattle.base_answer.specs.declared.Answer.TheVariants.{Taken, BadToken, BadGrammar, BadNames, BadRates, TooLarge}
 use Rattle.orchestra_tokens.specs.declared.Token.{Token}
+use Rattle.orchestra_tokens.specs.declared.Token.TheVariants.{Sign}
 use Rattle.orchestra_tokens.specs.declared.Tokens.{Tokens}
-use Rattle.orchestra_tokens.specs.inside.Token.{toks}
 use Rattle.orchestra_tokens.specs.inside.Scanning.{Scanned as Encoded, none, some, tokens_of}
 use Rattle.orchestra_tokens.specs.Measures.{longest, measured, brackets_within, stretches_within}
 use Rattle.orchestra_tokens.specs.inside.Reading.{stored as stored·tokens, judged, read_of as tokens·of}
-use Rattle.orchestra_tokens.proofs.RoundTrip.{impossible as never, tokens_valid, stored-tokens}
+use Rattle.orchestra_tokens.proofs.RoundTrip.{impossible as never, stored-tokens}
 use Rattle.orchestra_syntax.specs.Tree.{Instrument}
 use Rattle.orchestra_syntax.specs.inside.Program.{zero_f, program, op_class_of}
 use Rattle.orchestra_syntax.specs.Names.{Named}
 use Rattle.orchestra_expressions.specs.Reader.{Res, no, ok}
-use Rattle.orchestra_expressions.specs.declared.ParseState.{ParseState}
-use Rattle.orchestra_expressions.specs.declared.ParseState.TheVariants.{Next, Refused}
-use Rattle.orchestra_expressions.specs.Areas.{Areas, areas}
+use Rattle.std.specs.Prelude.{Some, None}
+use Rattle.orchestra_expressions.specs.Areas.{ParseState, Areas, areas}
 use Rattle.orchestra_expressions.proofs.ReaderSteps.{by_arm, All, some as took}
+use Rattle.orchestra_expressions.proofs.Moves.{same_out}
 use Rattle.orchestra_expressions.proofs.Runs.{took_of}
 use Rattle.orchestra_syntax.specs.Grammar.{Orchestra}
 use Rattle.orchestra_grammar.specs.Reader.{orchestra, step_instruments}
@@ -100,11 +101,11 @@ program-short : {is : List Instrument} {ts : List Token} → Orchestra is ts →
 program-short {ts = ts} d = omega (arith, (took_of (whole-took step_instruments steady-instruments ts) (complete d)).room)
 
 module _ {ts : List Token} {m n : Areas} {g : ParseState} where
-  pub parsed-fits : {at out : ℕ} → Reads ts m g n → g ≡ Next at out → length ts ≤ 2048 → out ≤ 2048
-  parsed-fits {out = out} (read is d e f) h le = let z : out ≡ length (program is) = let y = sym h ∙ e in cc in omega (arith, program-short d)
+  pub parsed-fits : {at out : ℕ} → Reads ts m g n → g ≡ Some (at, out) → length ts ≤ 2048 → out ≤ 2048
+  parsed-fits {out = out} (read is d e f) h le = let z : out ≡ length (program is) = same_out h e in omega (arith, program-short d)
   parsed-fits (unread c k e f) h le = never (let z = sym h ∙ e in cc)
 
-  pub parsed-not : {r : OrchestraRead} → Reads ts m g n → g ≡ Refused → r ≡ refused BadGrammar → r ≡ by_grammar (orchestra ts)
+  pub parsed-not : {r : OrchestraRead} → Reads ts m g n → g ≡ None → r ≡ refused BadGrammar → r ≡ by_grammar (orchestra ts)
   parsed-not (read is d e f) h k = never (let z = sym h ∙ e in cc)
   parsed-not {r} (unread c none·so e f) h k = go (orchestra ts) (sound ts)
     where
@@ -113,11 +114,11 @@ module _ {ts : List Token} {m n : Areas} {g : ParseState} where
       go (ok c q) (took s) = absurd (none·so s.tree s.derives)
 
 pub parsed-is : {ts : List Token} {g : ParseState} {os ns : List ℕ} {vs : List Float} {at out : ℕ} {r : OrchestraRead}
-    → Reads ts (areas (replicate 2048 0) (replicate 2048 0) (replicate 2048 zero_f)) g (areas os ns vs) → g ≡ Next at out → length ts ≤ 2048
+    → Reads ts (areas (replicate 2048 0) (replicate 2048 0) (replicate 2048 zero_f)) g (areas os ns vs) → g ≡ Some (at, out) → length ts ≤ 2048
     → r ≡ finished_in os ns vs out → r ≡ by_grammar (orchestra ts)
 parsed-is {ts} {os = os} {ns = ns} {vs = vs} {out = out} {r = r} (read is d e f) h le k =
     let c = program is in
-    let z : out ≡ length c = let y = sym h ∙ e in cc in
+    let z : out ≡ length c = same_out h e in
     let s = program-short d in
     let o : os ≡ padded 2048 0 (ops_of c) = ap (λ (m : Areas). m.ops) f ∙ front 0 (ops_of c) (rw length-map (omega arith)) in
     let a : ns ≡ padded 2048 0 (args_of c) = ap (λ (m : Areas). m.args) f ∙ front 0 (args_of c) (rw length-map (omega arith)) in
@@ -130,43 +131,46 @@ parsed-is (unread c k e f) h le r = never (let z = sym h ∙ e in cc)
 -- what the tokens of taken bytes lead to
 pub record Encoded·so (bs : List ℕ) (t : Tokens) : Type 0 where
   pub few : t.count ≤ 2048
-  pub cells : length t.kinds ≡ 2048
-  pub means : by_grammar (orchestra (toks (take t.count t.kinds) t.words t.reals)) ≡ read_of bs
+  pub cells : length t.tokens ≡ 2048
+  pub means : by_grammar (orchestra (take t.count t.tokens)) ≡ read_of bs
 
-data View (bs : List ℕ) : Tokens → Type 0 where
-  encoded : (ts : List Token) → length ts ≤ 2048 → tokens_of bs ≡ some ts → read_of bs ≡ by_grammar (orchestra ts) → View bs (stored·tokens Taken ts)
-  not·encoded : (a : Answer) → is_taken a ≡ false → read_of bs ≡ refused a → View bs (stored·tokens a [])
+data View (bs : List ℕ) : Result Tokens Answer → Type 0 where
+  encoded : (ts : List Token) → length ts ≤ 2048 → tokens_of bs ≡ some ts → read_of bs ≡ by_grammar (orchestra ts) → View bs (Ok (stored·tokens ts))
+  not·encoded : (a : Answer) → read_of bs ≡ refused a → View bs (Err a)
 
 few-tokens : (ts : List Token) → measured ts ≡ true → length ts ≤ 2048
 few-tokens ts e = leb-true (length ts) 2048 (both_true (leb (length ts) 2048) (brackets_within 0 ts && stretches_within 0 ts) e).0
 
 view : (bs : List ℕ) → View bs (tokens·of bs)
 unfolding tokens·of read_of
-view bs = by_arm (View bs) (ltb longest (length bs)) _ _ (λ e. not·encoded TooLarge refl (rw e)) (λ e. by-tokens e (tokens_of bs) refl)
+view bs = by_arm (View bs) (ltb longest (length bs)) _ _ (λ e. not·encoded TooLarge (rw e)) (λ e. by-tokens e (tokens_of bs) refl)
   where
     by-tokens : ltb longest (length bs) ≡ false → (g : Encoded) → tokens_of bs ≡ g → View bs (judged g)
-    by-tokens l none e = not·encoded BadToken refl (rw (l, e))
-    by-tokens l (some ts) e = by_arm (View bs) (measured ts) _ _ (λ m. encoded ts (few-tokens ts m) e (rw (l, e, m))) (λ m. not·encoded TooLarge refl (rw (l, e, m)))
+    by-tokens l none e = not·encoded BadToken (rw (l, e))
+    by-tokens l (some ts) e = by_arm (View bs) (measured ts) _ _ (λ m. encoded ts (few-tokens ts m) e (rw (l, e, m))) (λ m. not·encoded TooLarge (rw (l, e, m)))
 
-length-padded : (d : ℕ) (xs : List ℕ) → length xs ≤ 2048 → length (xs ++ drop (length xs) (replicate 2048 d)) ≡ 2048
+length-padded : {A : Type 0} (d : A) (xs : List A) → length xs ≤ 2048 → length (xs ++ drop (length xs) (replicate 2048 d)) ≡ 2048
 length-padded d xs le = omega (arith, length-append xs (drop (length xs) (replicate 2048 d)), length-drop (length xs) (replicate 2048 d), length-replicate 2048 d)
 
 module _ (bs : List ℕ) where
-  viewed : {t : Tokens} → View bs t → is_taken t.answer ≡ true → Encoded·so bs t
-  viewed (encoded ts le e f) h = record {
+  stored·so : (ts : List Token) → length ts ≤ 2048 → read_of bs ≡ by_grammar (orchestra ts) → Encoded·so bs (stored·tokens ts)
+  stored·so ts le f = record {
     few = le;
-    cells = length-padded 0 (map _ ts) (rw length-map le);
-    means = ap (λ l. by_grammar (orchestra l)) (stored-tokens ts (tokens_valid ts bs e)) ∙ sym f;
+    cells = length-padded (Sign 0) ts le;
+    means = ap (λ l. by_grammar (orchestra l)) (stored-tokens ts) ∙ sym f;
   }
-  viewed (not·encoded a n f) h = never (let z = sym n ∙ h in cc)
 
-  viewed-not : {t : Tokens} → View bs t → is_taken t.answer ≡ false → refused t.answer ≡ read_of bs
-  viewed-not (encoded ts le e f) h = never (cc)
-  viewed-not (not·encoded a n f) h = sym f
+  viewed : {r : Result Tokens Answer} (t : Tokens) → View bs r → r ≡ Ok t → Encoded·so bs t
+  viewed t (encoded ts le e f) h = let z : stored·tokens ts ≡ t = cc in subst (Encoded·so bs) z (stored·so ts le f)
+  viewed t (not·encoded a f) h = never (cc)
 
-  module _ {t : Tokens} (e : t ≡ tokens·of bs) {b : Bool} (f : b ≡ is_taken t.answer) where
-    pub tokens-taken : b ≡ true → Encoded·so bs t
-    tokens-taken g = viewed (rw e (view bs)) (sym f ∙ g)
+  viewed-not : {r : Result Tokens Answer} (a : Answer) → View bs r → r ≡ Err a → refused a ≡ read_of bs
+  viewed-not a (encoded ts le e f) h = never (cc)
+  viewed-not a (not·encoded b f) h = let z : b ≡ a = cc in ap refused (sym z) ∙ sym f
 
-    pub tokens-not : {r : OrchestraRead} → b ≡ false → r ≡ refused t.answer → r ≡ read_of bs
-    tokens-not g k = k ∙ viewed-not {t = t} (rw e (view bs)) (sym f ∙ g)
+  module _ {r : Result Tokens Answer} (e : r ≡ tokens·of bs) where
+    pub tokens-taken : {t : Tokens} → r ≡ Ok t → Encoded·so bs t
+    tokens-taken {t} g = viewed t (rw e (view bs)) g
+
+    pub tokens-not : {a : Answer} {o : OrchestraRead} → r ≡ Err a → o ≡ refused a → o ≡ read_of bs
+    tokens-not {a} g k = k ∙ viewed-not a (rw e (view bs)) g

@@ -29,10 +29,10 @@ module _ (os ns : List ℕ) {b : Bool} (e : b ≡ names_pass os ns) where
     both-kept k = (rw (← e, f, rates-are, k), rw (← e, f, g))
 
 -- the first cells of an array
-pub cells : (n : ℕ) (l : List ℕ) → n ≤ 2048 → length l ≡ 2048 → n ≡ length (take n l)
+pub cells : {A : Type 0} (n : ℕ) (l : List A) → n ≤ 2048 → length l ≡ 2048 → n ≡ length (take n l)
 cells n l le e = sym (length-take-le n l (omega arith))
 
-pub few-cells : (n : ℕ) (l : List ℕ) → n ≤ 2048 → length l ≡ 2048 → length (take n l) ≤ 2048
+pub few-cells : {A : Type 0} (n : ℕ) (l : List A) → n ≤ 2048 → length l ≡ 2048 → length (take n l) ≤ 2048
 few-cells n l le e = omega (arith, length-take-le n l (omega arith))
 
 pub kept-so : (os ns : List ℕ) (vs : List Float) (n : ℕ) {s : Starts} → s ≡ starts_in (take 8 (starts_from 0 (take n os)))

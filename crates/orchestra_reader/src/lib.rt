@@ -2,13 +2,12 @@
 #![tactic(auto)]
 
 ghost use Rattle.std.specs.Prelude.{◌≡◌, ◌≤◌, length, take};
-ghost use Rattle.orchestra_tokens.specs.inside.Token.{toks};
 ghost use Rattle.orchestra_grammar.specs.Reader.{orchestra};
 ghost use Rattle.orchestra_reader.specs.inside.Reading.{refused, starts_from, by_grammar, read_of};
 ghost use Rattle.orchestra_reader.specs.inside.Arrays.{starting, starts_in, marked_at, Fits, judgement, placed_if, kept_in, finished_in};
 
 use base_answer::Answer;
-use orchestra_expressions::ParseState;
+use orchestra_tokens::Token;
 
 // How many instruments there are at most.
 const MOST_INSTRUMENTS: usize = 8;
@@ -25,6 +24,7 @@ pub struct PostfixProgram {
 }
 
 // What reading an orchestra gives: the answer, and its program. On refusal a blank program.
+// Kept: a refusal's program is promised to be blank (`RefusedBlank`), which a Result would drop.
 #[derive(Clone, Copy)]
 pub struct OrchestraRead {
     pub answer: Answer,
@@ -74,15 +74,10 @@ fn starts_of(ops: &[u8]) -> Starts
 {
     let mut places = [0u16; 8];
     let mut count: usize = 0;
-    let mut pc: usize = 0;
-    while pc < ops.len() {
+    for pc in 0..ops.len() {
         count = with_start(&mut places, count, ops[pc], pc as u16);
-        pc += 1;
     }
-    Starts {
-        count: count,
-        places: places,
-    }
+    Starts { count, places }
 }
 
 // The name rules, then the rate rules. Where the first are kept, names are put by their places.
@@ -113,11 +108,11 @@ fn accepted(ops: [u8; 2048], args: [u16; 2048], vals: [f32; 2048], length: usize
         answer: Answer::Taken,
         program: PostfixProgram {
             count: s.count,
-            heads: heads,
-            length: length,
-            ops: ops,
-            args: args,
-            vals: vals,
+            heads,
+            length,
+            ops,
+            args,
+            vals,
         },
     }
 }
@@ -137,16 +132,16 @@ fn finished(ops: [u8; 2048], args: [u16; 2048], vals: [f32; 2048], length: usize
 }
 
 // The grammar, then the rules, of tokens within the measures.
-fn parsed(kinds: &[u8], words: &[u32], reals: &[f32]) -> OrchestraRead
-    requires { length kinds.now ≤ 2048 }
-    ensures { result ≡ by_grammar (orchestra (toks kinds.now words.now reals.now)) }
+fn parsed(tokens: &[Token]) -> OrchestraRead
+    requires { length tokens.now ≤ 2048 }
+    ensures { result ≡ by_grammar (orchestra tokens.now) }
 {
     let mut ops = [0u8; 2048];
     let mut args = [0u16; 2048];
     let mut vals = [0.0f32; 2048];
-    match orchestra_parser::orchestra(kinds, words, reals, &mut ops, &mut args, &mut vals) {
-        ParseState::Next(_, length) => finished(ops, args, vals, length),
-        ParseState::Refused => refused(Answer::BadGrammar),
+    match orchestra_parser::orchestra(tokens, &mut ops, &mut args, &mut vals) {
+        Some((_, length)) => finished(ops, args, vals, length),
+        None => refused(Answer::BadGrammar),
     }
 }
 
@@ -154,15 +149,8 @@ fn parsed(kinds: &[u8], words: &[u32], reals: &[f32]) -> OrchestraRead
 pub fn read(bytes: &[u8]) -> OrchestraRead
     ensures { result ≡ read_of bytes.now }
 {
-    let t = orchestra_lexer::read(bytes);
-    let a = t.answer;
-    if base_answer::is_taken(a) {
-        let count = t.count;
-        let kinds = t.kinds;
-        let words = t.words;
-        let reals = t.reals;
-        parsed(&kinds[..count], &words, &reals)
-    } else {
-        refused(a)
+    match orchestra_lexer::read(bytes) {
+        Ok(t) => parsed(&t.tokens[..t.count]),
+        Err(a) => refused(a),
     }
 }

@@ -18,8 +18,7 @@ pub fn obeys_name_rules(ops: &[u8], args: &[u16]) -> bool
     let mut kinds = [0u8; 16];
     let mut heads: usize = 0;
     let mut count: usize = 0;
-    let mut pc: usize = 0;
-    while pc < ops.len() {
+    for pc in 0..ops.len() {
         if args.len() <= pc {
             return true;
         }
@@ -32,7 +31,6 @@ pub fn obeys_name_rules(ops: &[u8], args: &[u16]) -> bool
         }
         heads = orchestra_name_rules::titles_after(act, arg, &mut titles, heads);
         count = orchestra_name_rules::names_after(act, op, arg, &mut symbols, &mut kinds, count);
-        pc += 1;
     }
     true
 }
@@ -44,8 +42,7 @@ pub fn place_names(ops: &[u8], args: &mut [u16])
     let mut symbols = [0u16; 16];
     let mut kinds = [0u8; 16];
     let mut count: usize = 0;
-    let mut pc: usize = 0;
-    while pc < ops.len() {
+    for pc in 0..ops.len() {
         if args.len() <= pc {
             return;
         }
@@ -54,7 +51,6 @@ pub fn place_names(ops: &[u8], args: &mut [u16])
         let act = orchestra_syntax::op_class(op);
         args[pc] = orchestra_name_rules::placed(act, arg, &symbols, &kinds, count);
         count = orchestra_name_rules::names_after(act, op, arg, &mut symbols, &mut kinds, count);
-        pc += 1;
     }
 }
 
@@ -67,8 +63,7 @@ pub fn obeys_rate_rules(ops: &[u8], args: &[u16]) -> bool
         kdeep: 0,
         adeep: 0,
     };
-    let mut pc: usize = 0;
-    while pc < ops.len() {
+    for pc in 0..ops.len() {
         if args.len() <= pc {
             return true;
         }
@@ -79,7 +74,6 @@ pub fn obeys_rate_rules(ops: &[u8], args: &[u16]) -> bool
             return false;
         }
         q = orchestra_rate_rules::rates_after(op, arg, q);
-        pc += 1;
     }
     true
 }

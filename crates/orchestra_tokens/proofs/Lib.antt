@@ -1,3 +1,2 @@
-mod HeldTokens
 mod Counting
 pub mod RoundTrip

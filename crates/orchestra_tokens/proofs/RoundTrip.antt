@@ -16,11 +16,11 @@ use lib.Ieee.Scale.{finite}
 use borrow.Author.Tests.{ltb-true, leb-true, eqb-true, ne_eqb}
 use Rattle.base_timebase.proofs.RangesAndTicks.{finite-no-nan}
 use Rattle.base_laws.proofs.Choice.{both_true}
-use Rattle.orchestra_tokens.specs.inside.Token.{zero_f, token_of, toks}
+use Rattle.orchestra_tokens.specs.inside.Token.{token_of}
 use Rattle.orchestra_tokens.specs.Encoding.{valid, all_valid, two, four, encoded, bytes_of, Bytes, Encodes, OneDecoding}
 use Rattle.orchestra_tokens.specs.inside.Scanning.{more, token_from, Scanned, none, some, with, ended, tokens_after, tokens_of, EveryScan}
 use Rattle.orchestra_tokens.specs.Measures.{kind_of}
-use Rattle.orchestra_tokens.specs.inside.Reading.{word_of, real_of, padded}
+use Rattle.orchestra_tokens.specs.inside.Reading.{padded}
 use Rattle.orchestra_tokens.specs.declared.Token.{Token}
 use Rattle.orchestra_tokens.specs.declared.Token.TheVariants.{Number, Symbol, Whole, Sign}
 
@@ -240,23 +240,6 @@ one-decoding bs ts us s u = let z = sym (encoded-found bs ts s) ∙ encoded-foun
 
 -- ---- what is stored
 
-stored_one : (t : Token) → valid t ≡ true → token_of (kind_of t) (word_of t) (real_of t) ≡ t
-stored_one (Number x) e = refl
-stored_one (Symbol s) e = ap Symbol (mod-eq_of_lt (ltb-true s 65536 e))
-stored_one (Whole w) e = refl
-stored_one (Sign k) e =
-    let hi = leb-true k 36 (both_true (ltb 0 k) (leb k 36) e).1 in
-    rw (ne_eqb k 0xf0 (λ q. omega arith), ne_eqb k 0xf1 (λ q. omega arith), ne_eqb k 0xf2 (λ q. omega arith))
-
-stored-all : (ts : List Token) (ws : List ℕ) (xs : List Float) → all_valid ts ≡ true → toks (map kind_of ts) (map word_of ts ++ ws) (map real_of ts ++ xs) ≡ ts
-unfolding toks all_valid
-stored-all [] ws xs e = refl
-stored-all (t ∷ ts) ws xs e =
-    rw (stored_one t (both_true (valid t) (all_valid ts) e).0) (ap (λ l. t ∷ l) (stored-all ts ws xs (both_true (valid t) (all_valid ts) e).1))
-
--- the three arrays hold the tokens that were put in
-pub stored-tokens : (ts : List Token) → all_valid ts ≡ true
-    → toks (take (length ts) (padded 0 (map kind_of ts))) (padded 0 (map word_of ts)) (padded zero_f (map real_of ts)) ≡ ts
-stored-tokens ts e =
-    let k = take_at (map kind_of ts) (drop (length (map kind_of ts)) (replicate 2048 0)) (length ts) (length-map ts kind_of) in
-    rw k (stored-all ts (drop (length (map word_of ts)) (replicate 2048 0)) (drop (length (map real_of ts)) (replicate 2048 zero_f)) e)
+-- the array holds the tokens that were put in
+pub stored-tokens : (ts : List Token) → take (length ts) (padded (Sign 0) ts) ≡ ts
+stored-tokens ts = take_at ts (drop (length ts) (replicate 2048 (Sign 0))) (length ts) refl

@@ -16,18 +16,15 @@ use Rattle.code_program.specs.declared.Program.{Program}
 use Rattle.player_start.specs.declared.Start.{Start}
 use Rattle.panel.specs.declared.Core.{Core}
 use Rattle.panel.specs.declared.Panel.{Panel}
-use Rattle.panel.specs.declared.CoreEntranceResult.{CoreEntranceResult}
-use Rattle.panel.specs.declared.CoreBurstResult.{CoreBurstResult}
-use Rattle.panel.specs.declared.CoreResult.{CoreResult}
-use Rattle.panel.specs.declared.EntranceResult.{EntranceResult}
-use Rattle.panel.specs.declared.BurstResult.{BurstResult}
-use Rattle.panel.specs.declared.PanelResult.{PanelResult}
+use Rattle.base_answer.specs.declared.AnsweredLine.{AnsweredLine}
+use Rattle.base_answer.specs.declared.AnsweredUnits.{AnsweredUnits}
+use Rattle.base_answer.specs.declared.Answered.{Answered}
 
 -- ---- a core
 
 -- the instruments of the accepted orchestra
 abbrev pub instruments_of : Core → List Instrument
-instruments_of c = take c.count c.table
+instruments_of c = take c.instruments.count c.instruments.table
 
 -- what its notes do, by the code and the numbers that it is lent
 abbrev pub voices_with : List ℕ → List Float → Core → Voices VoiceState
@@ -42,11 +39,11 @@ settings_in c = playing.settings_in (settings_now c.settings c.chosen)
 
 -- the core in another state: its settings, its chosen instrument and its instruments stay
 abbrev pub in_state : Core → State → Core
-in_state c s = record { state = s; settings = c.settings; chosen = c.chosen; table = c.table; count = c.count }
+in_state c s = record { state = s; settings = c.settings; chosen = c.chosen; instruments = c.instruments }
 
 -- the core with other settings in use
 abbrev pub in_settings : Core → InUse → Core
-in_settings c k = record { state = c.state; settings = k; chosen = c.chosen; table = c.table; count = c.count }
+in_settings c k = record { state = c.state; settings = k; chosen = c.chosen; instruments = c.instruments }
 
 -- ---- a panel: a core, with the code and the numbers that it is lent
 
@@ -54,7 +51,7 @@ abbrev pub panel_of : Core → List ℕ → List Float → Panel
 panel_of c code vals = record { core = c; code = code; vals = vals }
 
 abbrev pub program_of : Panel → Program
-program_of p = record { table = p.core.table; count = p.core.count; code = p.code; vals = p.vals }
+program_of p = record { table = p.core.instruments.table; count = p.core.instruments.count; code = p.code; vals = p.vals }
 
 -- a program's instruments, and what their notes do
 abbrev pub table_of : Program → List Instrument
@@ -95,14 +92,14 @@ ended_of p =
 abbrev pub panel_at : Start → Panel
 panel_at s =
     let g = s.program in
-    panel_of (record { state = s.state; settings = s.settings; chosen = s.chosen; table = g.table; count = g.count }) g.code g.vals
+    panel_of (record { state = s.state; settings = s.settings; chosen = s.chosen; instruments = record { table = g.table; count = g.count } }) g.code g.vals
 
 -- what a call on its core leaves of a panel
-abbrev pub entrance_on : Panel → CoreEntranceResult → EntranceResult
-entrance_on p r = record { panel = with_core p r.core; answer = r.answer; line = r.line }
+abbrev pub entrance_on : Panel → AnsweredLine Core → AnsweredLine Panel
+entrance_on p r = record { left = with_core p r.left; answer = r.answer; line = r.line }
 
-abbrev pub burst_on : Panel → CoreBurstResult → BurstResult
-burst_on p r = record { panel = with_core p r.core; answer = r.answer; units = r.units }
+abbrev pub burst_on : Panel → AnsweredUnits Core → AnsweredUnits Panel
+burst_on p r = record { left = with_core p r.left; answer = r.answer; units = r.units }
 
-abbrev pub result_on : Panel → CoreResult → PanelResult
-result_on p r = record { panel = with_core p r.core; answer = r.answer }
+abbrev pub result_on : Panel → Answered Core → Answered Panel
+result_on p r = record { left = with_core p r.left; answer = r.answer }

@@ -12,7 +12,7 @@ use Rattle.player_model.specs.Lists.{each}
 use Rattle.player_model.specs.Calls.{Entrance, unit, must_be_timed, has_time, reads, Call, submit, burst, keyboard, cycle, change, undo, After, after_all, answers_all}
 use Rattle.player_model.proofs.Lists.{cond-false}
 use Rattle.entrance_admission.specs.Submission.{line_admitted, admitted_all, submitted_in}
-use Rattle.entrance_admission.specs.declared.AdmissionResult.{AdmissionResult}
+use Rattle.base_answer.specs.declared.AnsweredLine.{AnsweredLine}
 use Rattle.player_calls.specs.OnState as on_state
 use Rattle.panel.specs.State.{program_of, table_of, with_queue}
 use Rattle.panel.specs.Calls.{submitted_of, submit_of}
@@ -27,9 +27,9 @@ line-alike true table q l h = cond-false _ _ (ap not h)
 line-alike false table q l h = refl
 
 -- a timed line into the waiting lines, whoever reads it
-entered : Panel → Line → AdmissionResult
+entered : Panel → Line → AnsweredLine Queue
 entered p l =
-    cond p.core.state.playing.ended (record { queue = p.core.state.queue; answer = answer.Ended; line = 0 })
+    cond p.core.state.playing.ended (record { left = p.core.state.queue; answer = answer.Ended; line = 0 })
     (admitted_all false (table_of (program_of p)) p.core.state.queue p.core.state.queue 0 (l ∷ []))
 
 by-entrance : (p : Panel) (d : Entrance) (a : List ℕ) (l : Line) → has_time l.when ≡ true → (reads d a).answer ≡ answer.Taken → (reads d a).lines ≡ l ∷ []
@@ -40,14 +40,14 @@ by-entrance p d a l h t q = rw (t, q, line-alike (must_be_timed d) (table_of (pr
 -- what every entrance leaves that reads it alone
 record Enters (p : Panel) (l : Line) (a : After Panel) : Type 0 where
   told : last_answer a.answers ≡ record { number = number_of (entered p l).answer; line = (entered p l).line }
-  left : a.player ≡ with_queue p (entered p l).queue
+  left : a.player ≡ with_queue p (entered p l).left
 
 bring-enters : (p : Panel) (d : Entrance) (handed : List ℕ) (l : Line) → has_time l.when ≡ true → (reads d handed).answer ≡ answer.Taken → (reads d handed).lines ≡ l ∷ []
     → Enters p l (after_of p (submit d handed))
 unfolding after_of core_after submit_of submitted_of on_state.submitted_of with_queue
 bring-enters p d handed l h t q =
     let e = by-entrance p d handed l h t q in
-    record { told = ap (λ (x : AdmissionResult). record { number = number_of x.answer; line = x.line }) e; left = ap (λ (x : AdmissionResult). with_queue p x.queue) e }
+    record { told = ap (λ (x : AnsweredLine Queue). record { number = number_of x.answer; line = x.line }) e; left = ap (λ (x : AnsweredLine Queue). with_queue p x.left) e }
 
 -- of a burst of one unit, what its unit leaves
 one_unit : (p : Panel) (u : List ℕ) (area : List ℕ) (l : Line) → Enters p l (after_of p (submit unit u)) → Enters p l (as_units p area (u ∷ []))

@@ -11,8 +11,8 @@ use borrow.Author.Tests.{le-leb, lt-leb, eqb-true}
 use Rattle.settings_records.specs.Changes as records
 use Rattle.settings_records.specs.Changes.{changing}
 use Rattle.settings_records.specs.declared.InUse.{InUse}
-use Rattle.settings_records.specs.declared.Found.{Found}
-use Rattle.settings_records.specs.declared.Changed.{Changed}
+use Rattle.settings_records.specs.Form.{Found}
+use Rattle.base_answer.specs.declared.Answered.{Answered}
 use Rattle.settings_records.proofs.Changing.{other-length, used-fault, new-fault, left-over, no-room, goes_in, undo-length, undo-fault, undo-nothing, undo-taken}
 use Rattle.settings_records.specs.Form.{ParsesRecords}
 use Rattle.settings_records.specs.inside.Reading.{records_in}
@@ -109,7 +109,7 @@ pub record Past (p : Panel) (u : List ℕ) (number : ℕ) (q : Panel) : Type 0 w
   pub has : program_of q ≡ program_of p
   pub long : length q.core.state.queue.lines ≡ 64
 
-pub past-unit : (p : Panel) → length p.core.state.queue.lines ≡ 64 → (u : List ℕ) → Past p u (number_of (at_unit p u).answer) (at_unit p u).panel
+pub past-unit : (p : Panel) → length p.core.state.queue.lines ≡ 64 → (u : List ℕ) → Past p u (number_of (at_unit p u).answer) (at_unit p u).left
 unfolding after_of core_after first-number behind with_queue
 past-unit p long u = go (brings p unit u)
   where
@@ -134,7 +134,7 @@ in-turn-given is (u ∷ us) p r long _ (next {number = number} {line = line} {gi
     let y = past-unit p long u in
     let a : unit_answer (number_of (at_unit p u).answer) ≡ record { number = number; line = line } = cc (unit-line p u) in
     let own_is = y.is-own ∙ ap (λ (x : Answer). with_lines (own p) (cond (eqb x.number 0) (reads unit u).lines [])) a in
-    let others = in-turn-given is us (at_unit p u).panel (rw y.has r) y.long given (subst⁻¹ (λ (h : History VoiceState). InTurn is h us given) own_is rest) in
+    let others = in-turn-given is us (at_unit p u).left (rw y.has r) y.long given (subst⁻¹ (λ (h : History VoiceState). InTurn is h us given) own_is rest) in
     λ i. a i ∷ others i
 
 at-burst-given : (is : List Instrument) (p : Panel) → StandsFor is (program_of p) → length p.core.state.queue.lines ≡ 64
@@ -153,8 +153,8 @@ pub change-number : (k : InUse) (area handed : List ℕ) {f : Found} → f ≡ c
 unfolding records.change_of
 change-number k area handed {f} e =
     by-test (is_taken (changing k.count area handed).answer)
-    (λ t. ap (λ (x : Changed). number_of x.answer) (cond-true _ _ t) ∙ sym (ap (λ (x : Found). number_of x.answer) e ∙ eqb-true (number_of (changing k.count area handed).answer) 0 t))
-    (λ t. ap (λ (x : Changed). number_of x.answer) (cond-false _ _ t) ∙ sym (ap (λ (x : Found). number_of x.answer) e))
+    (λ t. ap (λ (x : Answered InUse). number_of x.answer) (cond-true _ _ t) ∙ sym (ap (λ (x : Found). number_of x.answer) e ∙ eqb-true (number_of (changing k.count area handed).answer) 0 t))
+    (λ t. ap (λ (x : Answered InUse). number_of x.answer) (cond-false _ _ t) ∙ sym (ap (λ (x : Found). number_of x.answer) e))
 
 module _ (is : List Instrument) (p : Panel) (area : List ℕ) where
   abbrev k : InUse
@@ -174,11 +174,11 @@ module _ (is : List Instrument) (p : Panel) (area : List ℕ) where
 
   open-change : (handed : List ℕ) {f : Found} → p.core.state.playing.ended ≡ false → f ≡ changing k.count area handed → (after_of p (change area handed)).answers ≡ one (number_of f.answer) 0
   unfolding after_of core_after change_of changed_in
-  open-change handed e q = ap (λ (x : Changed). one (number_of x.answer) 0) (cond-false _ _ e) ∙ ap (λ (n : ℕ). one n 0) (change-number k area handed q)
+  open-change handed e q = ap (λ (x : Answered InUse). one (number_of x.answer) 0) (cond-false _ _ e) ∙ ap (λ (n : ℕ). one n 0) (change-number k area handed q)
 
   over-change : (handed : List ℕ) → p.core.state.playing.ended ≡ true → (after_of p (change area handed)).answers ≡ one 9 0
   unfolding after_of core_after change_of changed_in
-  over-change handed e = ap (λ (x : Changed). one (number_of x.answer) 0) (cond-true _ _ e)
+  over-change handed e = ap (λ (x : Answered InUse). one (number_of x.answer) 0) (cond-true _ _ e)
 
   not-change : (handed : List ℕ) (n : ℕ) → NotReached is (own p) area n → (after_of p (change area handed)).answers ≡ one n 0
   not-change handed _ (set_over e) = over-change handed e
@@ -198,13 +198,13 @@ module _ (is : List Instrument) (p : Panel) (area : List ℕ) where
       open-change handed s.goes_on
       (goes_in k.count area handed s.whole (in_use s.valid) refl refl (sym (read-meaning handed _ x)) refl refl (omega arith) (omega (arith, m)))
 
-  open-undo : {c : Changed} → p.core.state.playing.ended ≡ false → c ≡ records.undo_of k area → (after_of p (undo area)).answers ≡ one (number_of c.answer) 0
+  open-undo : {c : Answered InUse} → p.core.state.playing.ended ≡ false → c ≡ records.undo_of k area → (after_of p (undo area)).answers ≡ one (number_of c.answer) 0
   unfolding after_of core_after undo_of undone_in
-  open-undo e q = ap (λ (x : Changed). one (number_of x.answer) 0) (cond-false _ _ e ∙ sym q)
+  open-undo e q = ap (λ (x : Answered InUse). one (number_of x.answer) 0) (cond-false _ _ e ∙ sym q)
 
   over-undo : p.core.state.playing.ended ≡ true → (after_of p (undo area)).answers ≡ one 9 0
   unfolding after_of core_after undo_of undone_in
-  over-undo e = ap (λ (x : Changed). one (number_of x.answer) 0) (cond-true _ _ e)
+  over-undo e = ap (λ (x : Answered InUse). one (number_of x.answer) 0) (cond-true _ _ e)
 
   not-undo : (n : ℕ) → NotReached is (own p) area n → (after_of p (undo area)).answers ≡ one n 0
   not-undo _ (set_over e) = over-undo e

@@ -24,7 +24,7 @@ use Rattle.player_queue.specs.Admission.{waiting_in}
 use Rattle.player_queue.specs.declared.Queue.{Queue}
 use Rattle.code_program.specs.declared.Instrument.{Instrument}
 use Rattle.entrance_admission.specs.Submission.{line_admitted, admitted_all, submitted_in}
-use Rattle.entrance_admission.specs.declared.AdmissionResult.{AdmissionResult}
+use Rattle.base_answer.specs.declared.AnsweredLine.{AnsweredLine}
 use Rattle.entrance_burst.specs.Singly.{singly_in, burst_submitted_in, area_in}
 use Rattle.player_calls.specs.OnState as on_state
 use Rattle.player_calls.specs.OnState.{burst_submitted_of}
@@ -32,13 +32,12 @@ use Rattle.panel.specs.State.{instruments_of, program_of, table_of, with_state, 
 use Rattle.panel.specs.Calls.{submitted_of, submit_of, receive_of, area_after}
 use Rattle.panel.specs.declared.Core.{Core}
 use Rattle.panel.specs.declared.Panel.{Panel}
-use Rattle.panel.specs.declared.EntranceResult.{EntranceResult}
 use Rattle.panel_claims.specs.Claims.{unit_answer, core_after, after_of, panel, unchanged, as_units, BurstAsUnits, answered_units, AnsweredUnits}
 use Rattle.panel_claims.proofs.Entrances.{Behind, behind_more, Brings, takes, refuses, brings}
 
 -- ---- a unit's answer is about its only line
 
-abbrev pub at_unit : Panel → List ℕ → EntranceResult
+abbrev pub at_unit : Panel → List ℕ → AnsweredLine Panel
 at_unit p u = entrance_on p (submit_of p.core unit u)
 
 alone-line : (ended : Bool) (table : List Instrument) (q : Queue) (r : LineRead) → (submitted_in ended false table q (single r)).line ≡ 0
@@ -46,7 +45,7 @@ unfolding submitted_in admitted_all
 alone-line true table q r = refl
 alone-line false table q r =
     by-test (is_taken r.answer)
-    (λ e. rw e (either_way (λ (x : AdmissionResult). x.line ≡ 0) (is_taken (line_admitted false table q r.line).answer) refl refl)) (λ e. rw e)
+    (λ e. rw e (either_way (λ (x : AnsweredLine Queue). x.line ≡ 0) (is_taken (line_admitted false table q r.line).answer) refl refl)) (λ e. rw e)
 
 pub unit-line : (p : Panel) (u : List ℕ) → (at_unit p u).line ≡ 0
 unfolding submit_of submitted_of on_state.submitted_of
@@ -62,7 +61,7 @@ unfoldable pub singly : Panel → List (List ℕ) → Singly
 singly p [] = record { panel = p; numbers = [] }
 singly p (u ∷ us) =
     let r = at_unit p u in
-    let rest = singly r.panel us in
+    let rest = singly r.left us in
     record { panel = rest.panel; numbers = number_of r.answer ∷ rest.numbers }
 
 -- they change nothing but the waiting lines
@@ -76,18 +75,18 @@ unfolding singly singly_in submit_of submitted_of on_state.submitted_of with_que
 singly-is [] p = refl
 singly-is (u ∷ us) p =
     let r = submitted_in p.core.state.playing.ended (must_be_timed unit) (table_of (program_of p)) p.core.state.queue (reads unit u) in
-    ap (λ (x : Singly). record { panel = x.panel; numbers = number_of r.answer ∷ x.numbers }) (singly-is us (with_queue p r.queue))
+    ap (λ (x : Singly). record { panel = x.panel; numbers = number_of r.answer ∷ x.numbers }) (singly-is us (with_queue p r.left))
 
 pub singly-player : (us : List (List ℕ)) (p : Panel) → (singly p us).panel ≡ after_all panel p (each (submit unit) us)
 unfolding singly each after_all after_of core_after
 singly-player [] p = refl
-singly-player (u ∷ us) p = singly-player us (at_unit p u).panel
+singly-player (u ∷ us) p = singly-player us (at_unit p u).left
 
 pub singly-answers : (us : List (List ℕ)) (p : Panel) → each unit_answer (singly p us).numbers ≡ answers_all panel p (each (submit unit) us)
 unfolding singly each answers_all after_of core_after
 singly-answers [] p = refl
 singly-answers (u ∷ us) p =
-    λ i. record { number = number_of (at_unit p u).answer; line = sym (unit-line p u) i } ∷ singly-answers us (at_unit p u).panel i
+    λ i. record { number = number_of (at_unit p u).answer; line = sym (unit-line p u) i } ∷ singly-answers us (at_unit p u).left i
 
 numbers-back : (ns : List ℕ) → each (λ (a : Answer). a.number) (each unit_answer ns) ≡ ns
 unfolding each
@@ -97,7 +96,7 @@ numbers-back (n ∷ ns) = ap (λ (l : List ℕ). n ∷ l) (numbers-back ns)
 pub length-singly : (us : List (List ℕ)) (p : Panel) → length (singly p us).numbers ≡ length us
 unfolding singly
 length-singly [] p = refl
-length-singly (u ∷ us) p = ap suc (length-singly us (at_unit p u).panel)
+length-singly (u ∷ us) p = ap suc (length-singly us (at_unit p u).left)
 
 -- ---- what the call leaves, by what its bytes are
 
@@ -105,7 +104,7 @@ pub left : Panel → List ℕ → Burst → After Panel
 left p area b =
     let r = burst_submitted_of (table_of (program_of p)) p.core.state (length area) b in
     let a = area_in p.core.state.playing.ended (table_of (program_of p)) p.core.state.queue area b in
-    record { player = with_state p r.state; answers = one (number_of r.answer) 0 ++ each unit_answer (take r.units a); buffers = only_answers a }
+    record { player = with_state p r.left; answers = one (number_of r.answer) 0 ++ each unit_answer (take r.units a); buffers = only_answers a }
 
 pub left_is : (p : Panel) (bytes area : List ℕ) (b : Burst) → burst_of bytes ≡ b → after_of p (burst bytes area) ≡ left p area b
 unfolding after_of core_after receive_of area_after left

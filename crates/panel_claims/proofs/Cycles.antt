@@ -31,11 +31,12 @@ use Rattle.player_state.specs.declared.Playing.{Playing}
 use Rattle.player_state.specs.States.{queue_after}
 use Rattle.player_cycle.specs.OneCycle as one_cycle
 use Rattle.player_cycle.specs.CycleCall.{cycled_of, block_left}
-use Rattle.player_calls.specs.declared.CallResult.{CallResult}
+use Rattle.base_answer.specs.declared.Answered.{Answered}
 use Rattle.panel.specs.State.{program_of, voices_of, player_state_of, settings_in, with_state, ended_of}
 use Rattle.panel.specs.Calls.{cycle_of, block_after}
 use Rattle.panel.specs.declared.Panel.{Panel}
 use Rattle.panel_claims.specs.Claims.{core_after, after_of, reached_of}
+use Rattle.player_state.specs.declared.State.{State}
 
 -- ---- what is laid over an array is read back
 
@@ -119,15 +120,15 @@ cycles p b = go (eqb (length b) samples) p.core.state.playing.ended (ends_by (du
     sound : List ℤ
     sound = block_of (voices_of (program_of p)) (settings_in p.core) (due_of (player_state_of p)) (player_state_of p).plays
 
-    out : Bool → Bool → Bool → CallResult
+    out : Bool → Bool → Bool → Answered State
     out w e d =
         cond w
-        (cond e (record { state = p.core.state; answer = answer.Ended })
-        (cond d (record { state = (ended_of p).core.state; answer = answer.Ended }) (record { state = (played_of p).core.state; answer = answer.Taken })))
-        (record { state = p.core.state; answer = answer.BlockLength })
+        (cond e (record { left = p.core.state; answer = answer.Ended })
+        (cond d (record { left = (ended_of p).core.state; answer = answer.Ended }) (record { left = (played_of p).core.state; answer = answer.Taken })))
+        (record { left = p.core.state; answer = answer.BlockLength })
 
     go : (w e d : Bool) → eqb (length b) samples ≡ w → p.core.state.playing.ended ≡ e → ends_by (due_of (player_state_of p)) (player_state_of p).plays ≡ d
-        → Cycles p b (record { player = with_state p (out w e d).state; answers = one (number_of (out w e d).answer) 0; buffers = only_block (cond (is_taken (out w e d).answer) sound b) })
+        → Cycles p b (record { player = with_state p (out w e d).left; answers = one (number_of (out w e d).answer) 0; buffers = only_block (cond (is_taken (out w e d).answer) sound b) })
     go true true d hw he hd = over-before hw he refl
     go true false true hw he hd = ends hw he hd refl
     go true false false hw he hd = plays hw he hd refl

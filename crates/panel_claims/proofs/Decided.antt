@@ -12,7 +12,6 @@ use Rattle.base_answer.specs.Numbers.{number_of, is_taken}
 use Rattle.settings_records.specs.Form as settings
 use Rattle.settings_records.specs.inside.Reading.{found_in, records_in}
 use Rattle.settings_records.specs.Changes.{area_bytes}
-use Rattle.settings_records.specs.declared.Found as settings-found
 use Rattle.settings_records.proofs.Walk.{found-fits}
 use Rattle.settings_records.proofs.Meaning.{every-record}
 use Rattle.settings_records.proofs.Areas.{content-refused, all-valid, first-fault}
@@ -122,7 +121,7 @@ module _ {S : Type 0} (is : List Instrument) (h : History S) where
 -- a change and an undo
 module _ {S : Type 0} (is : List Instrument) (h : History S) (area : List ℕ) where
   -- 9, 8 and the records in use, or what then is asked
-  abbrev found-there : settings-found.Found
+  abbrev found-there : settings.Found
   found-there = records_in h.set.count area
 
   reached-so : {P : ℕ → ℕ → Type 0} → ((n : ℕ) → NotReached is h area n → P n 0) → (Stand is h area found-there.size → Found is h P) → Found is h P

@@ -23,14 +23,14 @@ use Rattle.panel.specs.Calls.{submitted_of, submit_of, play_keys_of, changed_in,
 use Rattle.panel.specs.Calls as calls
 use Rattle.panel.specs.declared.Core.{Core}
 use Rattle.panel.specs.declared.Panel.{Panel}
-use Rattle.panel.specs.declared.EntranceResult.{EntranceResult}
+use Rattle.base_answer.specs.declared.AnsweredLine.{AnsweredLine}
 use Rattle.panel_claims.specs.Claims.{core_after, after_of, panel, ended_burst, ended_after, AsEnded}
 use Rattle.panel_claims.specs.Core.{LentCall, lent_from, CoreStaysEnded}
 use Rattle.panel_claims.proofs.Bursts.{at_unit, Singly, singly, left, left_is, left-fault, left-short, left-taken}
 use Rattle.panel_claims.proofs.Cycles.{Cycles, off, over-before, ends, plays, cycles}
 
 -- a unit on a panel that has ended
-unit-over : (p : Panel) (u : List ℕ) → p.core.state.playing.ended ≡ true → at_unit p u ≡ record { panel = p; answer = Ended; line = 0 }
+unit-over : (p : Panel) (u : List ℕ) → p.core.state.playing.ended ≡ true → at_unit p u ≡ record { left = p; answer = Ended; line = 0 }
 unfolding submit_of submitted_of on_state.submitted_of submitted_in
 unit-over p u e = rw e
 
@@ -39,7 +39,7 @@ units-over : (us : List (List ℕ)) (p : Panel) → p.core.state.playing.ended �
 unfolding singly each
 units-over [] p e = refl
 units-over (u ∷ us) p e =
-    ap (λ (r : EntranceResult). record { panel = (singly r.panel us).panel; numbers = number_of r.answer ∷ (singly r.panel us).numbers }) (unit-over p u e)
+    ap (λ (r : AnsweredLine Panel). record { panel = (singly r.left us).panel; numbers = number_of r.answer ∷ (singly r.left us).numbers }) (unit-over p u e)
     ∙ ap (λ (x : Singly). record { panel = x.panel; numbers = 9 ∷ x.numbers }) (units-over us p e)
 
 burst-ended : (p : Panel) (bytes area : List ℕ) → p.core.state.playing.ended ≡ true → after_of p (burst bytes area) ≡ ended_after p (burst bytes area)

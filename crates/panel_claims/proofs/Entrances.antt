@@ -12,15 +12,15 @@ use Rattle.score_line.specs.declared.Line.{Line}
 use Rattle.score_reader.specs.Score.{Score}
 use Rattle.player_queue.specs.Admission.{admitted, pushed, waiting_in}
 use Rattle.player_queue.specs.declared.Queue.{Queue}
-use Rattle.player_queue.specs.declared.Admitted.{Admitted}
-use Rattle.code_program.specs.declared.FieldCount.{FieldCount}
+use Rattle.base_answer.specs.declared.Answered.{Answered}
+use Rattle.std.specs.Prelude.{Option}
 use Rattle.player_queue.proofs.Admission.{taken-pushed, taken-room, waiting-pushed, length-pushed}
 use Rattle.code_program.specs.InstrumentTable.{field_count_in}
 use Rattle.code_program.specs.declared.Instrument.{Instrument}
 use Rattle.player_model.specs.Calls.{Entrance, must_be_timed, has_time, reads, submit, one, no_buffers, After}
 use Rattle.player_model.proofs.Lists.{by-test, either_way}
 use Rattle.entrance_admission.specs.Submission.{line_admitted, admitted_all, submitted_in}
-use Rattle.entrance_admission.specs.declared.AdmissionResult.{AdmissionResult}
+use Rattle.base_answer.specs.declared.AnsweredLine.{AnsweredLine}
 use Rattle.player_calls.specs.OnState as on_state
 use Rattle.panel.specs.State.{program_of, table_of, with_queue}
 use Rattle.panel.specs.Calls.{submitted_of, submit_of}
@@ -42,7 +42,7 @@ behind_more {q} {ls} {ms} x y =
     record { waits = cc (x.waits, y.waits, append_assoc (waiting_in q) ls ms); long = y.long; ran = y.ran ∙ x.ran; last = y.last ∙ x.last; counted = λ e. y.counted (x.counted e) }
 
 module _ (timed : Bool) (table : List Instrument) where
-  admits : (q : Queue) (l : Line) (f : FieldCount) → length q.lines ≡ 64 → is_taken (admitted q l f).answer ≡ true → Behind q (l ∷ []) (admitted q l f).queue
+  admits : (q : Queue) (l : Line) (f : Option ℕ) → length q.lines ≡ 64 → is_taken (admitted q l f).answer ≡ true → Behind q (l ∷ []) (admitted q l f).left
   unfolding pushed
   admits q l f long t =
       let waits = waiting-pushed q l f long (taken-room q l f t) in
@@ -55,25 +55,25 @@ module _ (timed : Bool) (table : List Instrument) where
         counted = λ e. omega (arith, e, ap length waits, length-append (waiting_in q) (l ∷ []));
       })
 
-  line-took : (q : Queue) (l : Line) → length q.lines ≡ 64 → is_taken (line_admitted timed table q l).answer ≡ true → Behind q (l ∷ []) (line_admitted timed table q l).queue
+  line-took : (q : Queue) (l : Line) → length q.lines ≡ 64 → is_taken (line_admitted timed table q l).answer ≡ true → Behind q (l ∷ []) (line_admitted timed table q l).left
   unfolding line_admitted
   line-took q l long =
-      either_way (λ (a : Admitted). is_taken a.answer ≡ true → Behind q (l ∷ []) a.queue) (timed && not (has_time l.when))
+      either_way (λ (a : Answered Queue). is_taken a.answer ≡ true → Behind q (l ∷ []) a.left) (timed && not (has_time l.when))
       (λ t. absurd (false≢true t)) (admits q l (field_count_in table l.event) long)
 
   -- what pushed lines leave: they all wait behind the others, or the old queue stays
-  pub data Went (old q : Queue) (ls : List Line) (r : AdmissionResult) : Type 0 where
-    in_all : is_taken r.answer ≡ true → (length q.lines ≡ 64 → Behind q ls r.queue) → Went old q ls r
-    in-none : is_taken r.answer ≡ false → r.queue ≡ old → Went old q ls r
+  pub data Went (old q : Queue) (ls : List Line) (r : AnsweredLine Queue) : Type 0 where
+    in_all : is_taken r.answer ≡ true → (length q.lines ≡ 64 → Behind q ls r.left) → Went old q ls r
+    in-none : is_taken r.answer ≡ false → r.left ≡ old → Went old q ls r
 
   all_lines : (old q : Queue) (i : ℕ) (ls : List Line) → Went old q ls (admitted_all timed table old q i ls)
   unfolding admitted_all
   all_lines old q i [] = in_all refl (λ long. record { waits = sym (append-nil (waiting_in q)); long = long; ran = refl; last = refl; counted = λ e. e })
   all_lines old q i (l ∷ ls) =
       let a = line_admitted timed table q l in
-      by-test (is_taken a.answer) (λ e. rw e (go a (λ long. line-took q l long e) (all_lines old a.queue (i + 1) ls))) (λ e. rw e (in-none e refl))
+      by-test (is_taken a.answer) (λ e. rw e (go a (λ long. line-took q l long e) (all_lines old a.left (i + 1) ls))) (λ e. rw e (in-none e refl))
     where
-      go : (a : Admitted) {r : AdmissionResult} → (length q.lines ≡ 64 → Behind q (l ∷ []) a.queue) → Went old a.queue ls r → Went old q (l ∷ ls) r
+      go : (a : Answered Queue) {r : AnsweredLine Queue} → (length q.lines ≡ 64 → Behind q (l ∷ []) a.left) → Went old a.left ls r → Went old q (l ∷ ls) r
       go a first (in_all t rest) = in_all t (λ long. behind_more (first long) (rest (first long).long))
       go a first (in-none t s) = in-none t s
 
@@ -92,12 +92,12 @@ pub brings : (p : Panel) (d : Entrance) (handed : List ℕ) → Brings p (reads 
 unfolding after_of core_after submit_of submitted_of on_state.submitted_of submitted_in with_queue
 brings p d handed = go p.core.state.playing.ended refl
   where
-    left : AdmissionResult → After Panel
-    left r = record { player = with_queue p r.queue; answers = one (number_of r.answer) r.line; buffers = no_buffers }
+    left : AnsweredLine Queue → After Panel
+    left r = record { player = with_queue p r.left; answers = one (number_of r.answer) r.line; buffers = no_buffers }
 
-    by_lines : p.core.state.playing.ended ≡ false → (r : AdmissionResult) → Went (must_be_timed d) (table_of (program_of p)) p.core.state.queue p.core.state.queue (reads d handed).lines r
+    by_lines : p.core.state.playing.ended ≡ false → (r : AnsweredLine Queue) → Went (must_be_timed d) (table_of (program_of p)) p.core.state.queue p.core.state.queue (reads d handed).lines r
         → Brings p (reads d handed).lines (left r)
-    by_lines e r (in_all t f) = takes r.line r.queue e f (λ i. record { player = with_queue p r.queue; answers = one (eqb-true (number_of r.answer) 0 t i) r.line; buffers = no_buffers })
+    by_lines e r (in_all t f) = takes r.line r.left e f (λ i. record { player = with_queue p r.left; answers = one (eqb-true (number_of r.answer) 0 t i) r.line; buffers = no_buffers })
     by_lines e r (in-none t s) = refuses (number_of r.answer) r.line t (λ i. record { player = with_queue p (s i); answers = one (number_of r.answer) r.line; buffers = no_buffers })
 
     go : (b : Bool) → p.core.state.playing.ended ≡ b

@@ -19,7 +19,7 @@ use Rattle.player_model.proofs.Lists.{by-test}
 use Rattle.player_model.specs.History.{nowhere, at}
 use Rattle.player_queue.specs.Waiting.{is_late}
 use Rattle.player_queue.specs.Admission.{too_many, unfit_event}
-use Rattle.code_program.specs.declared.FieldCount.TheVariants.{Count, NoSuch}
+use Rattle.std.specs.Prelude.{Some, None}
 use Rattle.panel_claims.specs.Verdict.{HasFields, here, there, Playable, too_late}
 
 pub data Judged (P : Type 0) : Bool → Type 0 where
@@ -39,7 +39,7 @@ behind-it q f (here r h) = q r
 behind-it q f (there r h) = f h
 
 fields-judged : (is : List Instrument) (name n : ℕ)
-    → Judged (HasFields name n is) (too_many (cond (has name (map title_of is)) (Count (length (instrument_of is name).fields)) NoSuch) n)
+    → Judged (HasFields name n is) (too_many (cond (has name (map title_of is)) (Some (length (instrument_of is name).fields)) None) n)
 unfolding has instrument_of
 fields-judged [] name n = no-so nobody
 fields-judged (i ∷ is) name n =

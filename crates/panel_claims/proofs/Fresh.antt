@@ -11,10 +11,10 @@ use Rattle.settings_records.specs.Form as settings
 use Rattle.settings_records.specs.Form.{Valid}
 use Rattle.settings_records.specs.inside.Reading.{found_in, walked}
 use Rattle.settings_records.specs.Changes.{area_bytes, none_in_use, laid_at, change_of}
-use Rattle.settings_records.specs.declared.Found.{Found}
+use Rattle.settings_records.specs.Form.{Found}
 use Rattle.settings_records.specs.declared.Setting.{Setting}
 use Rattle.settings_records.specs.declared.InUse.{InUse}
-use Rattle.settings_records.specs.declared.Changed.{Changed}
+use Rattle.base_answer.specs.declared.Answered.{Answered}
 use Rattle.settings_records.proofs.Walk.{found-fits}
 use Rattle.settings_records.proofs.Changing.{change-joins, other-length, left-over, new-fault}
 use Rattle.settings_records.proofs.Meaning.{every-record, one-meaning as read-meaning}
@@ -157,12 +157,12 @@ out u law taken there =
     let c = change_of none_in_use u.area u.first in
     let r = load_of u.orchestra in
     cond law
-    (cond taken (cond there (start_of r.program c.settings u.chosen false r.answer) (refused_start r.program NoInstrument)) (refused_start r.program r.answer))
-    (refused_start (load_of []).program c.answer)
+    (cond taken (cond there (start_of r.left c.left u.chosen false r.answer) (refused_start r.left NoInstrument)) (refused_start r.left r.answer))
+    (refused_start (load_of []).left c.answer)
 
 -- a record that is whole and valid is taken at a fresh start, and no other
 module _ (u : Setup) where
-  abbrev first-of : Changed
+  abbrev first-of : Answered InUse
   first-of = change_of none_in_use u.area u.first
 
   is-record-so : is_taken first-of.answer ≡ true → settings.IsRecord u.first (found_in u.first).setting
@@ -258,19 +258,19 @@ module _ (u : Setup) (bytes : Bytes u.orchestra) where
       tree_of : (is : List Instrument) × orchestra.Accepted os is
       tree_of = taken-only os bytes (taken_is t)
 
-      program-stands : StandsFor tree_of.0 (load_of os).program
+      program-stands : StandsFor tree_of.0 (load_of os).left
       program-stands = (loaded os tree_of.0 tree_of.1).stands
 
-      taken-first : has_chosen (load_of os).program u.chosen ≡ true → First (checks u) (number_of (load_of os).answer)
+      taken-first : has_chosen (load_of os).left u.chosen ≡ true → First (checks u) (number_of (load_of os).answer)
       taken-first c =
           rw (taken_is t)
-          (there-so u law tree_of.0 tree_of.1 (there-chosen tree_of.0 (load_of os).program program-stands u.chosen c))
+          (there-so u law tree_of.0 tree_of.1 (there-chosen tree_of.0 (load_of os).left program-stands u.chosen c))
 
-      absent-first : has_chosen (load_of os).program u.chosen ≡ false → First (checks u) 4
+      absent-first : has_chosen (load_of os).left u.chosen ≡ false → First (checks u) 4
       absent-first c =
-          absent-so u law tree_of.0 tree_of.1 (λ s. true≢false (sym (chosen-there tree_of.0 (load_of os).program program-stands u.chosen s) ∙ c))
+          absent-so u law tree_of.0 tree_of.1 (λ s. true≢false (sym (chosen-there tree_of.0 (load_of os).left program-stands u.chosen s) ∙ c))
 
-  number_is : (a t c : Bool) → is_taken (first-of u).answer ≡ a → is_taken (load_of os).answer ≡ t → has_chosen (load_of os).program u.chosen ≡ c
+  number_is : (a t c : Bool) → is_taken (first-of u).answer ≡ a → is_taken (load_of os).answer ≡ t → has_chosen (load_of os).left u.chosen ≡ c
       → First (checks u) (number_of (out u a t c).answer)
   unfolding out start_of
   number_is true true true l q r = taken-first (passed-so u l) q r
@@ -280,25 +280,25 @@ module _ (u : Setup) (bytes : Bytes u.orchestra) where
 
   number : First (checks u) (number_of (fresh_by u).answer)
   unfolding fresh_of starting_of out
-  number = number_is (is_taken (first-of u).answer) (is_taken (load_of os).answer) (has_chosen (load_of os).program u.chosen) refl refl refl
+  number = number_is (is_taken (first-of u).answer) (is_taken (load_of os).answer) (has_chosen (load_of os).left u.chosen) refl refl refl
 
-  begun-holds : player_state_of (panel_at (start_of (load_of os).program (first-of u).settings u.chosen false (load_of os).answer)) ≡ plain_start (starting_tempo (first-of u).settings) []
+  begun-holds : player_state_of (panel_at (start_of (load_of os).left (first-of u).left u.chosen false (load_of os).answer)) ≡ plain_start (starting_tempo (first-of u).left) []
   unfolding start_of plain_start each no_messages
   begun-holds = refl
 
   -- the panel where it is 0
-  begun-is : is_taken (first-of u).answer ≡ true → (load_of os).answer ≡ Taken → has_chosen (load_of os).program u.chosen ≡ true
-      → Begun u (panel_at (start_of (load_of os).program (first-of u).settings u.chosen false (load_of os).answer))
+  begun-is : is_taken (first-of u).answer ≡ true → (load_of os).answer ≡ Taken → has_chosen (load_of os).left u.chosen ≡ true
+      → Begun u (panel_at (start_of (load_of os).left (first-of u).left u.chosen false (load_of os).answer))
   unfolding start_of
   begun-is l e c =
       let x = taken-only os bytes e in
       let r = (loaded os x.0 x.1).stands in
-      let k : (first-of u).settings ≡ first_in_use u = change-sets none_in_use u.area u.first l in
+      let k : (first-of u).left ≡ first_in_use u = change-sets none_in_use u.area u.first l in
       record {
         tree = x.0;
         accepted = x.1;
         stands = r;
-        there = there-chosen x.0 (load_of os).program r u.chosen c;
+        there = there-chosen x.0 (load_of os).left r u.chosen c;
         setting = (found_in u.first).setting;
         first = is-record-so u l;
         set = k;
@@ -310,7 +310,7 @@ module _ (u : Setup) (bytes : Bytes u.orchestra) where
   Kinds : Start → Type 0
   Kinds s = (s.answer ≡ Taken → Begun u (panel_at s)) × ((s.answer ≡ Taken → ⊥) → display_of (panel_at s).core ≡ nothing)
 
-  kinds-is : (a t c : Bool) → is_taken (first-of u).answer ≡ a → is_taken (load_of os).answer ≡ t → has_chosen (load_of os).program u.chosen ≡ c → Kinds (out u a t c)
+  kinds-is : (a t c : Bool) → is_taken (first-of u).answer ≡ a → is_taken (load_of os).answer ≡ t → has_chosen (load_of os).left u.chosen ≡ c → Kinds (out u a t c)
   unfolding out Kinds start_of no_messages
   kinds-is true true true l e r = ((λ q. begun-is l q r), λ n. absurd (n (taken_is e)))
   kinds-is true true false l e r = ((λ q. absurd (true≢false (sym (ap is_taken q)))), λ n. refl)
@@ -326,11 +326,11 @@ module _ (u : Setup) (bytes : Bytes u.orchestra) where
 
   start-taken : is_taken (starting_of u.orchestra u.area u.first u.chosen).answer ≡ true → (starting_of u.orchestra u.area u.first u.chosen).answer ≡ Taken
   unfolding starting_of out
-  start-taken = start-taken-is (is_taken (first-of u).answer) (is_taken (load_of os).answer) (has_chosen (load_of os).program u.chosen) refl refl
+  start-taken = start-taken-is (is_taken (first-of u).answer) (is_taken (load_of os).answer) (has_chosen (load_of os).left u.chosen) refl refl
 
   kinds : Kinds (starting_of u.orchestra u.area u.first u.chosen)
   unfolding starting_of out
-  kinds = kinds-is (is_taken (first-of u).answer) (is_taken (load_of os).answer) (has_chosen (load_of os).program u.chosen) refl refl refl
+  kinds = kinds-is (is_taken (first-of u).answer) (is_taken (load_of os).answer) (has_chosen (load_of os).left u.chosen) refl refl refl
 
 -- a start has ended, or its settings are those of the first record, which is valid
 pub data Kind (u : Setup) (s : Start) : Type 0 where
@@ -339,7 +339,7 @@ pub data Kind (u : Setup) (s : Start) : Type 0 where
 
 pub start-kind : (u : Setup) → Kind u (starting_of u.orchestra u.area u.first u.chosen)
 unfolding starting_of out start_of
-start-kind u = go (is_taken (first-of u).answer) (is_taken (load_of u.orchestra).answer) (has_chosen (load_of u.orchestra).program u.chosen) refl
+start-kind u = go (is_taken (first-of u).answer) (is_taken (load_of u.orchestra).answer) (has_chosen (load_of u.orchestra).left u.chosen) refl
   where
     go : (a t c : Bool) → is_taken (first-of u).answer ≡ a → Kind u (out u a t c)
     go true true true l = starts (change-sets none_in_use u.area u.first l) (change-valid none_in_use u.area u.first l)
@@ -374,7 +374,7 @@ fresh-verdict u bytes =
       only = λ n f. first_one (number u bytes) f;
       begun = (kinds u bytes).0;
       written = λ t. area-written u t;
-      no_panel = λ n cs. all-ended cs 0 none_yet (fresh_by u).panel (ap (λ (d : Display). d.ended) ((kinds u bytes).1 n));
+      no_panel = λ n cs. all-ended cs 0 none_yet (fresh_by u).left (ap (λ (d : Display). d.ended) ((kinds u bytes).1 n));
       shown = (kinds u bytes).1;
       unwritten = λ n. area-unwritten u bytes n;
     }

@@ -20,14 +20,14 @@ use Rattle.player_model.specs.Calls.{keyboard, one, no_buffers, After}
 use Rattle.player_model.proofs.Loops.{length_over}
 use Rattle.midi_queue.specs.Keyboard.{most_messages, messages_in, behind, enqueued_in}
 use Rattle.midi_queue.specs.declared.MessageQueue.{MessageQueue}
-use Rattle.midi_queue.specs.declared.QueueResult.{QueueResult}
-use Rattle.player_calls.specs.OnState as on_state
-use Rattle.player_calls.specs.OnState.{keyboard_call_of}
-use Rattle.player_calls.specs.declared.CallResult.{CallResult}
+use Rattle.std.specs.Prelude.{Result, Ok, Err}
+use Rattle.player_calls.specs.OnState.{keyboard_call_of, with_keys}
+use Rattle.base_answer.specs.declared.Answered.{Answered}
 use Rattle.panel.specs.State.{with_state, with_messages}
 use Rattle.panel.specs.Calls.{play_keys_of}
 use Rattle.panel.specs.declared.Panel.{Panel}
 use Rattle.panel_claims.specs.Claims.{core_after, after_of, TakesKeys, TakenKeys}
+use Rattle.player_state.specs.declared.State.{State}
 
 -- ---- note messages behind those that wait
 
@@ -61,14 +61,14 @@ presses p bytes = by_end p.core.state.playing.ended refl
     w : MessageQueue
     w = p.core.state.messages
 
-    out : Bool → QueueResult → CallResult
-    out e r = cond e (record { state = p.core.state; answer = answer.Ended }) (record { state = on_state.with_messages p.core.state r.messages; answer = r.answer })
+    out : Bool → Result MessageQueue Answer → Answered State
+    out e r = cond e (record { left = p.core.state; answer = answer.Ended }) (with_keys p.core.state r)
 
-    left : Bool → QueueResult → After Panel
-    left e r = record { player = with_state p (out e r).state; answers = one (number_of (out e r).answer) 0; buffers = no_buffers }
+    left : Bool → Result MessageQueue Answer → After Panel
+    left e r = record { player = with_state p (out e r).left; answers = one (number_of (out e r).answer) 0; buffers = no_buffers }
 
     by-room : (ms : List NoteMessage) → p.core.state.playing.ended ≡ false → call_of bytes ≡ whole ms → (b : Bool) → leb (length (messages_in w) + length ms) most_messages ≡ b
-        → Presses p bytes (left false (cond b (record { messages = behind w ms; answer = answer.Taken }) (record { messages = w; answer = answer.NoRoom })))
+        → Presses p bytes (left false (cond b (Ok (behind w ms)) (Err answer.NoRoom)))
     by-room ms e q true l = keys-taken ms e q (leb-true (length (messages_in w) + length ms) most_messages l) refl
     by-room ms e q false l = keys-full ms e q (leb-false (length (messages_in w) + length ms) most_messages l) refl
 

@@ -433,7 +433,7 @@ placed_past u is cs = history_of (tree_voices is) u.chosen (first_in_use u) (tra
 
 module _ (u : Setup) (is : List Instrument) (g : Given u is) where
   abbrev program : Program
-  program = (load_of u.orchestra).program
+  program = (load_of u.orchestra).left
 
   pub stands : StandsFor is program
   stands = (loaded u.orchestra is g.accepted).stands

@@ -17,12 +17,12 @@ use Rattle.player_model.specs.History.{Reached, nowhere, at}
 use Rattle.player_model.proofs.Lists.{cond-true, cond-false}
 use Rattle.player_queue.specs.Waiting.{is_late}
 use Rattle.player_queue.specs.Admission.{unfit_event, pushed, admitted, waiting_in}
-use Rattle.code_program.specs.declared.FieldCount.{FieldCount}
+use Rattle.std.specs.Prelude.{Option}
 use Rattle.player_queue.specs.declared.Queue.{Queue}
-use Rattle.player_queue.specs.declared.Admitted.{Admitted}
+use Rattle.base_answer.specs.declared.Answered.{Answered}
 use Rattle.player_queue.proofs.Admission.{admit-unfit, admit-late, admit-taken, admit-full, waiting-pushed, length-pushed}
 use Rattle.entrance_admission.specs.Submission.{line_admitted, admitted_all}
-use Rattle.entrance_admission.specs.declared.AdmissionResult.{AdmissionResult}
+use Rattle.base_answer.specs.declared.AnsweredLine.{AnsweredLine}
 use Rattle.panel.specs.State.{table_of}
 use Rattle.code_program.specs.declared.Program.{Program}
 use Rattle.code_loader_claims.specs.Claims.{StandsFor}
@@ -30,7 +30,7 @@ use Rattle.panel_claims.specs.Verdict.{Playable, too_late, Fits, AllFit, Faulty,
 use Rattle.panel_claims.proofs.Fitting.{Judged, judged-no, judged-yes, event-judged, late-same, time-passes, time-fails}
 
 -- the answer of pushed lines
-abbrev pub told : AdmissionResult → List Answer
+abbrev pub told : AnsweredLine Queue → List Answer
 told r = one (number_of r.answer) r.line
 
 -- ---- one line on a queue
@@ -43,7 +43,7 @@ module _ (is : List Instrument) (g : Program) (r : StandsFor is g) (d : Entrance
     pub is-reached : cond q.ran (at q.last) nowhere ≡ reached
 
   module _ (q : Queue) (n : ℕ) (h : Has q n) (l : Line) where
-    f : FieldCount
+    f : Option ℕ
     f = field_count_in (table_of g) l.event
 
     judged : Judged (Playable is l.count l.event) (unfit_event f l.count l.event)
@@ -64,7 +64,7 @@ module _ (is : List Instrument) (g : Program) (r : StandsFor is g) (d : Entrance
     unfolding line_admitted f
     timely t = cond-false _ _ (time-passes (must_be_timed d) (has_time l.when) t)
 
-    fits-admits : Fits is d reached n l → line_admitted (must_be_timed d) (table_of g) q l ≡ record { queue = pushed q l; answer = answer.Taken }
+    fits-admits : Fits is d reached n l → line_admitted (must_be_timed d) (table_of g) q l ≡ record { left = pushed q l; answer = answer.Taken }
     fits-admits t = timely t.timed ∙ admit-taken q l f (judged-yes judged t.playable) (on-time false t.early) (room t.room)
 
     fits-has : Fits is d reached n l → Has (pushed q l) (suc n)
@@ -76,16 +76,16 @@ module _ (is : List Instrument) (g : Program) (r : StandsFor is g) (d : Entrance
           is-reached = h.is-reached;
         }
 
-    told-as : {a : Admitted} → line_admitted (must_be_timed d) (table_of g) q l ≡ a
+    told-as : {a : Answered Queue} → line_admitted (must_be_timed d) (table_of g) q l ≡ a
         → (number_of (line_admitted (must_be_timed d) (table_of g) q l).answer ≡ number_of a.answer)
         × (is_taken (line_admitted (must_be_timed d) (table_of g) q l).answer ≡ is_taken a.answer)
-    told-as e = (ap (λ (a : Admitted). number_of a.answer) e, ap (λ (a : Admitted). is_taken a.answer) e)
+    told-as e = (ap (λ (a : Answered Queue). number_of a.answer) e, ap (λ (a : Answered Queue). is_taken a.answer) e)
 
     faulty-admits : (number : ℕ) → Faulty is d reached n l number
         → (number_of (line_admitted (must_be_timed d) (table_of g) q l).answer ≡ number) × (is_taken (line_admitted (must_be_timed d) (table_of g) q l).answer ≡ false)
     unfolding line_admitted f
     faulty-admits number (untimed m t) =
-        told-as {a = record { queue = q; answer = answer.NoTime }} (cond-true _ _ (time-fails (must_be_timed d) (has_time l.when) m t))
+        told-as {a = record { left = q; answer = answer.NoTime }} (cond-true _ _ (time-fails (must_be_timed d) (has_time l.when) m t))
     faulty-admits number (unplayable t u) = told-as (timely t ∙ admit-unfit q l f (judged-no judged u))
     faulty-admits number (late t u w) = told-as (timely t ∙ admit-late q l f (judged-yes judged u) (on-time true w))
     faulty-admits number (full t u w x) = told-as (timely t ∙ admit-full q l f (judged-yes judged u) (on-time false w) (no-room x))
@@ -93,7 +93,7 @@ module _ (is : List Instrument) (g : Program) (r : StandsFor is g) (d : Entrance
   -- ---- all the lines of a call
 
   module _ (old : Queue) where
-    abbrev pushes : Queue → ℕ → List Line → AdmissionResult
+    abbrev pushes : Queue → ℕ → List Line → AnsweredLine Queue
     pushes q i ls = admitted_all (must_be_timed d) (table_of g) old q i ls
 
     step : (q : Queue) (n i : ℕ) (l : Line) (ls : List Line) → Has q n → Fits is d reached n l → pushes q i (l ∷ ls) ≡ pushes (pushed q l) (i + 1) ls

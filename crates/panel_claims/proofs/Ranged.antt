@@ -14,8 +14,7 @@ use Rattle.base_answer.specs.declared.Answer.TheVariants as answer
 use Rattle.base_bitstream.specs.Bits.{bits_of}
 use Rattle.base_bitstream.specs.Filling.{filled}
 use Rattle.base_bitstream.specs.Fields.{read_at}
-use Rattle.base_bitstream.specs.declared.FieldRead.{FieldRead}
-use Rattle.base_bitstream.specs.declared.FieldRead.TheVariants as gives
+use Rattle.std.specs.Prelude.{Option, Some, None}
 use Rattle.base_timebase.specs.Time.{cycle_in, tempo_bits}
 use Rattle.base_timebase.proofs.RangesAndTicks.{tempo-from-to, cycle-from-to}
 use Rattle.base_formats.specs.Format.{Source, bit_source, keypad_source, Read, got, refused, and_then, number_from}
@@ -157,13 +156,13 @@ unit-ranged : (bits : List Bool) → RangedRead (unit_of bits)
 unfolding unit_of opened line_at whole_line
 unit-ranged bits = go (read_at bits 0 2)
   where
-    go : (g : FieldRead) → RangedRead (opened bits g)
-    go (gives.Value k p) =
-        let r = line_at bits p in
-        either_way RangedRead (eqb k 0)
-        (alone-ranged (is_taken r.answer) (filled bits r.next) r (read-ranged (line_from (bit_source bits) p) (line-ranged (bit_source bits) p)))
+    go : (g : Option (ℕ × ℕ)) → RangedRead (opened bits g)
+    go (Some o) =
+        let r = line_at bits o.1 in
+        either_way RangedRead (eqb o.0 0)
+        (alone-ranged (is_taken r.answer) (filled bits r.next) r (read-ranged (line_from (bit_source bits) o.1) (line-ranged (bit_source bits) o.1)))
         (refused-ranged answer.NotCarried)
-    go gives.Short = refused-ranged answer.CutShort
+    go None = refused-ranged answer.CutShort
 
 LinesHold : Lines → Type 0
 LinesHold (all ls p) = AllRanged ls
@@ -194,9 +193,9 @@ score-ranged : (bits : List Bool) → AllRanged (score_of bits).lines
 unfolding score_of counted
 score-ranged bits = go (read_at bits 0 20)
   where
-    go : (g : FieldRead) → AllRanged (counted bits g).lines
-    go (gives.Value n p) = ended-ranged bits (lines_from bits n 0 p) (lines-ranged bits n 0 p)
-    go gives.Short = tt
+    go : (g : Option (ℕ × ℕ)) → AllRanged (counted bits g).lines
+    go (Some r) = ended-ranged bits (lines_from bits r.0 0 r.1) (lines-ranged bits r.0 0 r.1)
+    go None = tt
 
 judged-ranged : (i : ℕ) (ss : List Content) → LinesHold (judged_from i ss)
 unfolding judged_from line_content LinesHold

@@ -11,8 +11,7 @@ use Rattle.base_answer.specs.declared.Answer.TheVariants as answer
 use Rattle.base_bitstream.specs.Bits.{bits_of}
 use Rattle.base_bitstream.specs.Fields.{read_at}
 use Rattle.base_bitstream.specs.Filling.{filled}
-use Rattle.base_bitstream.specs.declared.FieldRead.{FieldRead}
-use Rattle.base_bitstream.specs.declared.FieldRead.TheVariants.{Value, Short}
+use Rattle.std.specs.Prelude.{Option, Some, None}
 use Rattle.base_formats.specs.Format.{bit_source, keypad_source, Read, got, refused}
 use Rattle.base_formats.specs.declared.Fault.{Fault}
 use Rattle.base_formats.specs.declared.Fault.TheVariants as fault
@@ -55,9 +54,9 @@ score-so bits = by_count (read_at bits 0 20)
         either_way ReadSo (filled bits p) (record { readable = read_whole; from-0 = λ e. refl }) (record { readable = read-left-over; from-0 = λ e. refl })
     by_lines (faulty-lines f i) = fault-so f i
 
-    by_count : (x : FieldRead) → ReadSo (counted bits x)
-    by_count (Value n p) = by_lines (lines_from bits n 0 p)
-    by_count Short = record { readable = read-cut; from-0 = λ e. refl }
+    by_count : (x : Option (ℕ × ℕ)) → ReadSo (counted bits x)
+    by_count (Some r) = by_lines (lines_from bits r.0 0 r.1)
+    by_count None = record { readable = read-cut; from-0 = λ e. refl }
 
 -- a text's answers are 18 and those of its lines; no 11
 text-so : (bytes : List ℕ) → ReadSo (text_of bytes)
@@ -85,12 +84,12 @@ unit-readable : (bits : List Bool) → Readable (unit_of bits).answer
 unfolding unit_of opened whole_line line_at refused_line
 unit-readable bits = go (read_at bits 0 2)
   where
-    go : (x : FieldRead) → Readable (opened bits x).answer
-    go (Value k p) =
-        let r = line_at bits p in
-        either_way (λ (x : LineRead). Readable x.answer) (eqb k 0)
-        (left_or (is_taken r.answer) (filled bits r.next) r (line-readable (line_from (bit_source bits) p))) read-not-carried
-    go Short = read-cut
+    go : (x : Option (ℕ × ℕ)) → Readable (opened bits x).answer
+    go (Some o) =
+        let r = line_at bits o.1 in
+        either_way (λ (x : LineRead). Readable x.answer) (eqb o.0 0)
+        (left_or (is_taken r.answer) (filled bits r.next) r (line-readable (line_from (bit_source bits) o.1))) read-not-carried
+    go None = read-cut
 
 pub reads_so : (d : Entrance) (handed : List ℕ) → ReadSo (reads d handed)
 unfolding keypad_line whole_run line_in_words

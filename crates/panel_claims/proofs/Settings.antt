@@ -11,8 +11,8 @@ use Rattle.settings_records.specs.Form.{Valid, Parses}
 use Rattle.settings_records.specs.inside.Reading.{found_in, records_in}
 use Rattle.settings_records.specs.Changes as records
 use Rattle.settings_records.specs.declared.InUse.{InUse}
-use Rattle.settings_records.specs.declared.Found.{Found}
-use Rattle.settings_records.specs.declared.Changed.{Changed}
+use Rattle.settings_records.specs.Form.{Found}
+use Rattle.base_answer.specs.declared.Answered.{Answered}
 use Rattle.settings_records.proofs.Changing.{change-joins}
 use Rattle.settings_records.proofs.Meaning.{every-record}
 use Rattle.settings_records.proofs.Areas.{all-valid}
@@ -39,12 +39,12 @@ pub data Sets (p : Panel) (c : Call) (left : List ℕ) (a : After Panel) : Type 
   set-refused : (n : ℕ) → eqb n 0 ≡ false → a ≡ unchanged p c n → Sets p c left a
 
 -- what is left of a panel for a result and an area
-abbrev after : Panel → Changed → List ℕ → After Panel
-after p r area = record { player = with_in_use p r.settings; answers = one (number_of r.answer) 0; buffers = only_settings area }
+abbrev after : Panel → Answered InUse → List ℕ → After Panel
+after p r area = record { player = with_in_use p r.left; answers = one (number_of r.answer) 0; buffers = only_settings area }
 
 -- what a call sets that is taken, and the area that it leaves
-record Taking (p : Panel) (c : Call) (left : List ℕ) (x : Changed) (y : List ℕ) : Type 0 where
-  settings : x.settings ≡ set_by p.core.settings c
+record Taking (p : Panel) (c : Call) (left : List ℕ) (x : Answered InUse) (y : List ℕ) : Type 0 where
+  settings : x.left ≡ set_by p.core.settings c
   area : y ≡ left
   valid : Valid (set_by p.core.settings c).last
 
@@ -52,12 +52,12 @@ module _ (p : Panel) (area : List ℕ) where
   abbrev ended : Bool
   ended = p.core.state.playing.ended
 
-  abbrev over : Changed
+  abbrev over : Answered InUse
   over = records.changed p.core.settings Ended
 
   -- 9 first; then x is the result, and z the area
-  sets-so : (c : Call) (left : List ℕ) (x : Changed) (y z : List ℕ) → buffers_of c ≡ only_settings area → (ended ≡ true → z ≡ area) → (ended ≡ false → z ≡ y)
-      → (is_taken x.answer ≡ true → Taking p c left x y) → (is_taken x.answer ≡ false → (x.settings ≡ p.core.settings) × (y ≡ area))
+  sets-so : (c : Call) (left : List ℕ) (x : Answered InUse) (y z : List ℕ) → buffers_of c ≡ only_settings area → (ended ≡ true → z ≡ area) → (ended ≡ false → z ≡ y)
+      → (is_taken x.answer ≡ true → Taking p c left x y) → (is_taken x.answer ≡ false → (x.left ≡ p.core.settings) × (y ≡ area))
       → Sets p c left (after p (cond ended over x) z)
   sets-so c left x y z b f g t r =
       by-test ended
@@ -97,14 +97,14 @@ module _ (p : Panel) (area : List ℕ) where
   change-zero : (handed : List ℕ) → is_zero (after_of p (change area handed)).answers ≡ true → is_taken (records.change_of p.core.settings area handed).answer ≡ true
   unfolding after_of core_after change_of changed_in
   change-zero handed t =
-      by-test p.core.state.playing.ended (λ e. absurd (true≢false (sym t ∙ ap (λ (x : Changed). is_taken x.answer) (cond-true _ _ e))))
-      (λ e. ap (λ (x : Changed). is_taken x.answer) (sym (cond-false _ _ e)) ∙ t)
+      by-test p.core.state.playing.ended (λ e. absurd (true≢false (sym t ∙ ap (λ (x : Answered InUse). is_taken x.answer) (cond-true _ _ e))))
+      (λ e. ap (λ (x : Answered InUse). is_taken x.answer) (sym (cond-false _ _ e)) ∙ t)
 
   undo-zero : is_zero (after_of p (undo area)).answers ≡ true → is_taken (records.undo_of p.core.settings area).answer ≡ true
   unfolding after_of core_after undo_of undone_in
   undo-zero t =
-      by-test p.core.state.playing.ended (λ e. absurd (true≢false (sym t ∙ ap (λ (x : Changed). is_taken x.answer) (cond-true _ _ e))))
-      (λ e. ap (λ (x : Changed). is_taken x.answer) (sym (cond-false _ _ e)) ∙ t)
+      by-test p.core.state.playing.ended (λ e. absurd (true≢false (sym t ∙ ap (λ (x : Answered InUse). is_taken x.answer) (cond-true _ _ e))))
+      (λ e. ap (λ (x : Answered InUse). is_taken x.answer) (sym (cond-false _ _ e)) ∙ t)
 
 -- what is left of a call that is answered 0
 so : {p : Panel} {c : Call} {left : List ℕ} → Sets p c left (after_of p c) → is_zero (after_of p c).answers ≡ true → after_of p c ≡ settings_set p (set_by p.core.settings c) left

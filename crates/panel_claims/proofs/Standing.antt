@@ -10,7 +10,7 @@ use Rattle.settings_records.specs.Changes as records
 use Rattle.settings_records.specs.Claims.{Step, Store, answer_to, after_step, after_steps, taken_of, standing, AsStanding}
 use Rattle.settings_records.specs.Claims as settings
 use Rattle.settings_records.specs.declared.InUse.{InUse}
-use Rattle.settings_records.specs.declared.Changed.{Changed}
+use Rattle.base_answer.specs.declared.Answered.{Answered}
 use Rattle.settings_records.proofs.Stack.{last-standing}
 use Rattle.player_model.specs.Calls.{Call, submit, burst, keyboard, cycle, change, undo, is_zero, Last, none, cycles_with, last_with, transition_of, trace_from, after_all}
 use Rattle.player_model.proofs.Lists.{by-test, either_way, cond-true, cond-false}
@@ -65,29 +65,29 @@ module _ (p : Panel) (area : List ℕ) where
   over-change : (handed : List ℕ) → p.core.state.playing.ended ≡ true → ((after_of p (change area handed)).player.core.settings ≡ p.core.settings) × ((after_of p (change area handed)).buffers.settings ≡ area)
       × (is_zero (after_of p (change area handed)).answers ≡ false)
   unfolding after_of core_after change_of changed_in area_in
-  over-change handed e = (ap (λ (x : Changed). x.settings) (cond-true _ _ e), cond-true _ _ e, ap (λ (x : Changed). is_taken x.answer) (cond-true _ _ e))
+  over-change handed e = (ap (λ (x : Answered InUse). x.left) (cond-true _ _ e), cond-true _ _ e, ap (λ (x : Answered InUse). is_taken x.answer) (cond-true _ _ e))
 
   open-change : (handed : List ℕ) → p.core.state.playing.ended ≡ false
       → (lent (after_of p (change area handed)).player.core.settings (after_of p (change area handed)).buffers.settings ≡ after_step (lent p.core.settings area) (settings.change handed))
       × (is_zero (after_of p (change area handed)).answers ≡ is_taken (answer_to (lent p.core.settings area) (settings.change handed)))
   unfolding after_of core_after change_of changed_in area_in
   open-change handed e = (
-    (λ i. lent (cond-false (records.changed p.core.settings Ended) (records.change_of p.core.settings area handed) e i).settings
+    (λ i. lent (cond-false (records.changed p.core.settings Ended) (records.change_of p.core.settings area handed) e i).left
         (cond-false area (records.area_changed p.core.settings.count area handed) e i)),
-    ap (λ (x : Changed). is_taken x.answer) (cond-false _ _ e),
+    ap (λ (x : Answered InUse). is_taken x.answer) (cond-false _ _ e),
   )
 
   over-undo : p.core.state.playing.ended ≡ true → ((after_of p (undo area)).player.core.settings ≡ p.core.settings) × (is_zero (after_of p (undo area)).answers ≡ false)
   unfolding after_of core_after undo_of undone_in
-  over-undo e = (ap (λ (x : Changed). x.settings) (cond-true _ _ e), ap (λ (x : Changed). is_taken x.answer) (cond-true _ _ e))
+  over-undo e = (ap (λ (x : Answered InUse). x.left) (cond-true _ _ e), ap (λ (x : Answered InUse). is_taken x.answer) (cond-true _ _ e))
 
   open-undo : p.core.state.playing.ended ≡ false
       → (lent (after_of p (undo area)).player.core.settings area ≡ after_step (lent p.core.settings area) settings.undo)
       × (is_zero (after_of p (undo area)).answers ≡ is_taken (answer_to (lent p.core.settings area) settings.undo))
   unfolding after_of core_after undo_of undone_in
   open-undo e = (
-    (λ i. lent (cond-false (records.changed p.core.settings Ended) (records.undo_of p.core.settings area) e i).settings area),
-    ap (λ (x : Changed). is_taken x.answer) (cond-false _ _ e),
+    (λ i. lent (cond-false (records.changed p.core.settings Ended) (records.undo_of p.core.settings area) e i).left area),
+    ap (λ (x : Answered InUse). is_taken x.answer) (cond-false _ _ e),
   )
 
 -- a call that sets nothing
@@ -152,7 +152,7 @@ goes (c ∷ cs) n z p area s =
         stepped (settings.undo) o.0 (ap (λ (b : Bool). cond b (settings.undo ∷ later (undo area)) (later (undo area))) o.1) g'))
 
 -- a fresh panel keeps what the first change leaves
-fresh_keeps : (u : Setup) (is : List Instrument) → Given u is → (fresh u).core.settings ≡ (records.change_of records.none_in_use u.area u.first).settings
+fresh_keeps : (u : Setup) (is : List Instrument) → Given u is → (fresh u).core.settings ≡ (records.change_of records.none_in_use u.area u.first).left
 fresh_keeps u is g = ap (λ (h : History VoiceState). h.set) (fresh-own u is g) ∙ sym (first_taken u is g).keeps
 
 fresh-answers : (u : Setup) (is : List Instrument) → Given u is → is_taken (starting_of u.orchestra u.area u.first u.chosen).answer ≡ true
@@ -161,7 +161,7 @@ fresh-answers u is g =
     ap (λ (s : Start). is_taken s.answer)
     (cond-true _ _ (first_taken u is g).taken
     ∙ cond-true _ _ (ap is_taken (loaded u.orchestra is g.accepted).taken)
-    ∙ cond-true _ _ (chosen-there is (load_of u.orchestra).program (stands u is g) u.chosen g.there))
+    ∙ cond-true _ _ (chosen-there is (load_of u.orchestra).left (stands u is g) u.chosen g.there))
     ∙ ap is_taken (loaded u.orchestra is g.accepted).taken
 
 area-is : (u : Setup) (is : List Instrument) → Given u is → area_by u ≡ records.area_changed 0 u.area u.first

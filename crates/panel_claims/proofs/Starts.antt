@@ -11,19 +11,20 @@ use mathlib.Core.List.{List}
 use Rattle.settings_records.specs.Form.{Valid, first, second, Parses, cut_length, cut_record, length_zero, other_version, wrong_length, bad_number, valid, found}
 use Rattle.settings_records.specs.inside.Reading.{found_in, walked}
 use Rattle.settings_records.specs.Changes.{area_bytes, none_in_use, changing, joining, change_of}
-use Rattle.settings_records.specs.declared.Found.{Found}
+use Rattle.settings_records.specs.Form.{Found}
 use Rattle.settings_records.specs.declared.Setting.{Setting}
-use Rattle.settings_records.specs.declared.Changed.{Changed}
+use Rattle.base_answer.specs.declared.Answered.{Answered}
 use Rattle.settings_records.proofs.Meaning.{one-meaning}
 use Rattle.settings_records.proofs.Sets.{change-sets, found-valid}
 use Rattle.player_model.proofs.Lists.{cond-true, cond-false}
 use Rattle.panel_claims.specs.Fresh.{Setup}
 use Rattle.panel_claims.specs.Claims.{Given, first_in_use}
+use Rattle.settings_records.specs.declared.InUse.{InUse}
 
 -- it is taken, and it is what is set
 pub record FirstTaken (u : Setup) : Type 0 where
   pub taken : is_taken (change_of none_in_use u.area u.first).answer ≡ true
-  pub keeps : (change_of none_in_use u.area u.first).settings ≡ first_in_use u
+  pub keeps : (change_of none_in_use u.area u.first).left ≡ first_in_use u
   pub valid : Valid (first_in_use u).last
 
 -- a record has at most eight bytes
@@ -46,7 +47,7 @@ whole-taken area handed set h f small =
     ∙ ap (joining 0 handed) f
     ∙ cond-false _ _ (le-ltb (length handed) (length handed) (omega arith))
     ∙ cond-false _ _ (le-ltb (area_bytes - 0) (length handed) (omega arith))) in
-    ap (λ (x : Changed). is_taken x.answer) (cond-true _ _ j)
+    ap (λ (x : Answered InUse). is_taken x.answer) (cond-true _ _ j)
 
 pub first_taken : (u : Setup) (is : List Instrument) → Given u is → FirstTaken u
 first_taken u is g = record { taken = taken; keeps = change-sets none_in_use u.area u.first taken; valid = found-valid u.first (ap (λ (x : Found). is_taken x.answer) f) }

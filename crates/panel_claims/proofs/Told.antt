@@ -9,7 +9,7 @@ use Rattle.code_loader_claims.specs.Claims.{StandsFor}
 use Rattle.code_program.specs.declared.Program.{Program}
 use Rattle.orchestra_syntax.specs.Tree.{Instrument}
 use Rattle.settings_records.specs.Changes.{in_use}
-use Rattle.settings_records.specs.declared.Found.{Found}
+use Rattle.settings_records.specs.Form.{Found}
 use Rattle.settings_records.specs.declared.InUse.{InUse}
 use Rattle.settings_records.proofs.Meaning.{one-meaning}
 use Rattle.player_model.specs.Lists.{All}
@@ -61,7 +61,7 @@ pub told-act : ToldAct
 unfolding ToldAct Agree
 told-act u is g cs =
     let ms = trace_from panel 0 none (fresh u) cs in
-    told-all (load_of u.orchestra).program u.chosen is (stands u is g) (settings u ms) cs 0 none (fresh u) (fresh-invariant u is g)
+    told-all (load_of u.orchestra).left u.chosen is (stands u is g) (settings u ms) cs 0 none (fresh u) (fresh-invariant u is g)
     (subst⁻¹ (λ (x : InUse). Agree u.chosen (settings u ms) 0 x ms) (ap (λ (h : History VoiceState). h.set) (fresh-own u is g))
     (λ n j q. ap (settings u ms) (let same : n ≡ j = omega (arith, q) in same)))
 

@@ -4,7 +4,7 @@ use mathlib.Core.Bool.{◌||◌, cond}
 use mathlib.Core.List.{List, [], ◌++◌}
 use Prim.Native.Nat.{ℕ, ◌<◌, ◌≤◌}
 use Rattle.settings_records.specs.Form.{ParsesRecords}
-use Rattle.settings_records.specs.declared.Found.{Found}
+use Rattle.settings_records.specs.Form.{Found}
 use Rattle.settings_records.specs.declared.InUse.{InUse}
 use lib.IntN.{ℤ}
 use lib.Dec.{eqb, ltb}

@@ -105,8 +105,8 @@ module _ (is : List Instrument) where
   units-fit (u ∷ us) p r long =
       let y = past-unit p long u in
       all_append (λ (l : Line). written.Fits is l l.event) (cond (eqb (number_of (at_unit p u).answer) 0) (reads unit u).lines [])
-      (taken-of us (singly (at_unit p u).panel us).numbers)
-      (rw append-nil at (bring-fits p r long unit u)) (units-fit us (at_unit p u).panel (rw y.has r) y.long)
+      (taken-of us (singly (at_unit p u).left us).numbers)
+      (rw append-nil at (bring-fits p r long unit u)) (units-fit us (at_unit p u).left (rw y.has r) y.long)
 
   burst-fits : (p : Panel) → StandsFor is (program_of p) → length p.core.state.queue.lines ≡ 64 → (bytes area : List ℕ)
       → AllTakable (taken_of (lines_of (burst bytes area)) (after_of p (burst bytes area)).answers)
@@ -128,7 +128,7 @@ module _ (is : List Instrument) where
 -- ---- every list of calls
 
 module _ (u : Setup) (is : List Instrument) (g : Given u is) where
-  all-fitting : (cs : List Call) (n : ℕ) (z : Last) (p : Panel) → Invariant (load_of u.orchestra).program u.chosen is (stands u is g) p
+  all-fitting : (cs : List Call) (n : ℕ) (z : Last) (p : Panel) → Invariant (load_of u.orchestra).left u.chosen is (stands u is g) p
       → AllTakable is (all_taken (trace_from panel n z p cs))
   unfolding trace_from all_taken after_all
   all-fitting [] n z p k = tt
@@ -136,7 +136,7 @@ module _ (u : Setup) (is : List Instrument) (g : Given u is) where
       let m = transition_of panel n z p c in
       all_append (λ (l : Line). written.Fits is l l.event) (taken_in m) (all_taken (trace_from panel (cycles_with m) (last_with m) (after_of p c).player cs))
       (call_fits is p (subst⁻¹ (StandsFor is) k.has (stands u is g)) k.long c)
-      (all-fitting cs (cycles_with m) (last_with m) (after_of p c).player (invariant-all (load_of u.orchestra).program u.chosen is (stands u is g) (c ∷ []) p k))
+      (all-fitting cs (cycles_with m) (last_with m) (after_of p c).player (invariant-all (load_of u.orchestra).left u.chosen is (stands u is g) (c ∷ []) p k))
 
 pub lines_fit : LinesFit
 unfolding LinesFit

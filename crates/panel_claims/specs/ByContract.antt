@@ -53,19 +53,19 @@ abbrev pub Leaves : Core → Call → After Core → Type 0
 Leaves c call after = (code : List ℕ) (vals : List Float) → core_after code vals c call ≡ after
 
 pub record CoreByContract : Type 0 where
-  pub load-score : Tells core-load-score.Learnt (λ κ a r e. Leaves a.0 (submit stick a.1.0.now) (with_answer r.core r.answer r.line no_buffers))
-  pub receive-unit : Tells core-receive-unit.Learnt (λ κ a r e. Leaves a.0 (submit unit a.1.0.now) (with_answer r.core r.answer r.line no_buffers))
-  pub enter-line : Tells core-enter-line.Learnt (λ κ a r e. Leaves a.0 (submit keypad a.1.0.now) (with_answer r.core r.answer r.line no_buffers))
-  pub load-text : Tells core-load-text.Learnt (λ κ a r e. Leaves a.0 (submit text a.1.0.now) (with_answer r.core r.answer r.line no_buffers))
+  pub load-score : Tells core-load-score.Learnt (λ κ a r e. Leaves a.0 (submit stick a.1.0.now) (with_answer r.left r.answer r.line no_buffers))
+  pub receive-unit : Tells core-receive-unit.Learnt (λ κ a r e. Leaves a.0 (submit unit a.1.0.now) (with_answer r.left r.answer r.line no_buffers))
+  pub enter-line : Tells core-enter-line.Learnt (λ κ a r e. Leaves a.0 (submit keypad a.1.0.now) (with_answer r.left r.answer r.line no_buffers))
+  pub load-text : Tells core-load-text.Learnt (λ κ a r e. Leaves a.0 (submit text a.1.0.now) (with_answer r.left r.answer r.line no_buffers))
   pub receive-burst : Tells core-receive-burst.Learnt
-      (λ κ a r e. Leaves a.0 (burst a.1.0.now a.1.1.0.now) (with_answers r.core r.answer r.units e.1.1.0.now)
+      (λ κ a r e. Leaves a.0 (burst a.1.0.now a.1.1.0.now) (with_answers r.left r.answer r.units e.1.1.0.now)
       × (r.units ≡ answered_units a.0 a.1.0.now a.1.1.0.now))
-  pub play-keys : Tells core-play-keys.Learnt (λ κ a r e. Leaves a.0 (keyboard a.1.0.now) (with_answer r.core r.answer 0 no_buffers))
+  pub play-keys : Tells core-play-keys.Learnt (λ κ a r e. Leaves a.0 (keyboard a.1.0.now) (with_answer r.left r.answer 0 no_buffers))
   pub change : Tells core-change.Learnt
-      (λ κ a r e. Leaves a.0 (change a.1.0.now a.1.1.0.now) (with_answer r.core r.answer 0 (only_settings e.1.0.now)))
-  pub undo : Tells core-undo.Learnt (λ κ a r e. Leaves a.0 (undo a.1.0.now) (with_answer r.core r.answer 0 (only_settings a.1.0.now)))
+      (λ κ a r e. Leaves a.0 (change a.1.0.now a.1.1.0.now) (with_answer r.left r.answer 0 (only_settings e.1.0.now)))
+  pub undo : Tells core-undo.Learnt (λ κ a r e. Leaves a.0 (undo a.1.0.now) (with_answer r.left r.answer 0 (only_settings a.1.0.now)))
   pub cycle : Tells core-cycle.Learnt
-      (λ κ a r e. core_after a.1.0.now a.1.1.0.now a.0 (cycle a.1.1.1.0.now) ≡ with_answer r.core r.answer 0 (only_block e.1.1.1.0.now))
+      (λ κ a r e. core_after a.1.0.now a.1.1.0.now a.0 (cycle a.1.1.1.0.now) ≡ with_answer r.left r.answer 0 (only_block e.1.1.1.0.now))
   pub missed-notes : Tells core-missed-notes.Learnt (λ κ a r e. r ≡ (display_of a.0).missed)
   pub waiting-lines : Tells core-waiting-lines.Learnt (λ κ a r e. r ≡ (display_of a.0).lines)
   pub waiting-messages : Tells core-waiting-messages.Learnt (λ κ a r e. r ≡ (display_of a.0).messages)
@@ -76,18 +76,18 @@ pub record CoreByContract : Type 0 where
   pub records-in-use : Tells core-records-in-use.Learnt (λ κ a r e. r ≡ a.0.settings.count)
 
 pub record PanelByContract : Type 0 where
-  pub load-score : Tells panel-load-score.Learnt (λ κ a r e. after_of a.0 (submit stick a.1.0.now) ≡ with_answer r.panel r.answer r.line no_buffers)
-  pub receive-unit : Tells panel-receive-unit.Learnt (λ κ a r e. after_of a.0 (submit unit a.1.0.now) ≡ with_answer r.panel r.answer r.line no_buffers)
-  pub enter-line : Tells panel-enter-line.Learnt (λ κ a r e. after_of a.0 (submit keypad a.1.0.now) ≡ with_answer r.panel r.answer r.line no_buffers)
-  pub load-text : Tells panel-load-text.Learnt (λ κ a r e. after_of a.0 (submit text a.1.0.now) ≡ with_answer r.panel r.answer r.line no_buffers)
+  pub load-score : Tells panel-load-score.Learnt (λ κ a r e. after_of a.0 (submit stick a.1.0.now) ≡ with_answer r.left r.answer r.line no_buffers)
+  pub receive-unit : Tells panel-receive-unit.Learnt (λ κ a r e. after_of a.0 (submit unit a.1.0.now) ≡ with_answer r.left r.answer r.line no_buffers)
+  pub enter-line : Tells panel-enter-line.Learnt (λ κ a r e. after_of a.0 (submit keypad a.1.0.now) ≡ with_answer r.left r.answer r.line no_buffers)
+  pub load-text : Tells panel-load-text.Learnt (λ κ a r e. after_of a.0 (submit text a.1.0.now) ≡ with_answer r.left r.answer r.line no_buffers)
   pub receive-burst : Tells panel-receive-burst.Learnt
-      (λ κ a r e. (after_of a.0 (burst a.1.0.now a.1.1.0.now) ≡ with_answers r.panel r.answer r.units e.1.1.0.now)
+      (λ κ a r e. (after_of a.0 (burst a.1.0.now a.1.1.0.now) ≡ with_answers r.left r.answer r.units e.1.1.0.now)
       × (r.units ≡ answered_units a.0.core a.1.0.now a.1.1.0.now))
-  pub play-keys : Tells panel-play-keys.Learnt (λ κ a r e. after_of a.0 (keyboard a.1.0.now) ≡ with_answer r.panel r.answer 0 no_buffers)
+  pub play-keys : Tells panel-play-keys.Learnt (λ κ a r e. after_of a.0 (keyboard a.1.0.now) ≡ with_answer r.left r.answer 0 no_buffers)
   pub change : Tells panel-change.Learnt
-      (λ κ a r e. after_of a.0 (change a.1.0.now a.1.1.0.now) ≡ with_answer r.panel r.answer 0 (only_settings e.1.0.now))
-  pub undo : Tells panel-undo.Learnt (λ κ a r e. after_of a.0 (undo a.1.0.now) ≡ with_answer r.panel r.answer 0 (only_settings a.1.0.now))
-  pub cycle : Tells panel-cycle.Learnt (λ κ a r e. after_of a.0 (cycle a.1.0.now) ≡ with_answer r.panel r.answer 0 (only_block e.1.0.now))
+      (λ κ a r e. after_of a.0 (change a.1.0.now a.1.1.0.now) ≡ with_answer r.left r.answer 0 (only_settings e.1.0.now))
+  pub undo : Tells panel-undo.Learnt (λ κ a r e. after_of a.0 (undo a.1.0.now) ≡ with_answer r.left r.answer 0 (only_settings a.1.0.now))
+  pub cycle : Tells panel-cycle.Learnt (λ κ a r e. after_of a.0 (cycle a.1.0.now) ≡ with_answer r.left r.answer 0 (only_block e.1.0.now))
   pub missed-notes : Tells panel-missed-notes.Learnt (λ κ a r e. r ≡ (display_of a.0.core).missed)
   pub waiting-lines : Tells panel-waiting-lines.Learnt (λ κ a r e. r ≡ (display_of a.0.core).lines)
   pub waiting-messages : Tells panel-waiting-messages.Learnt (λ κ a r e. r ≡ (display_of a.0.core).messages)

@@ -39,7 +39,7 @@ use Rattle.panel.specs.State.{program_of, player_state_of, with_core, with_in_us
 use Rattle.panel.specs.Calls.{fresh_of, area_fresh, submit_of, receive_of, area_after, play_keys_of, change_of, area_changed, undo_of, cycle_of, block_after}
 use Rattle.panel.specs.declared.Core.{Core}
 use Rattle.panel.specs.declared.Panel.{Panel}
-use Rattle.panel.specs.declared.Fresh.{Fresh}
+use Rattle.base_answer.specs.declared.Answered.{Answered as AnsweredCall}
 use Rattle.panel_claims.specs.Verdict.{Verdict}
 use Rattle.panel_claims.specs.Fresh.{Setup, First, checks}
 
@@ -59,12 +59,12 @@ with_answers p a count area = record { player = p; answers = one (number_of a) 0
 -- what a call leaves of a core that is lent this code and these numbers, by its result and what it was lent (`CoreByContract`). Only a cycle
 -- reads the code.
 unfoldable pub core_after : List ℕ → List Float → Core → Call → After Core
-core_after code vals c (submit d handed) = let r = submit_of c d handed in with_answer r.core r.answer r.line no_buffers
-core_after code vals c (burst bytes area) = let r = receive_of c bytes (length area) in with_answers r.core r.answer r.units (area_after c bytes area)
-core_after code vals c (keyboard bytes) = let r = play_keys_of c bytes in with_answer r.core r.answer 0 no_buffers
-core_after code vals c (cycle b) = let r = cycle_of code vals c (length b) in with_answer r.core r.answer 0 (only_block (block_after code vals c b))
-core_after code vals c (change area handed) = let r = change_of c area handed in with_answer r.core r.answer 0 (only_settings (area_changed c area handed))
-core_after code vals c (undo area) = let r = undo_of c area in with_answer r.core r.answer 0 (only_settings area)
+core_after code vals c (submit d handed) = let r = submit_of c d handed in with_answer r.left r.answer r.line no_buffers
+core_after code vals c (burst bytes area) = let r = receive_of c bytes (length area) in with_answers r.left r.answer r.units (area_after c bytes area)
+core_after code vals c (keyboard bytes) = let r = play_keys_of c bytes in with_answer r.left r.answer 0 no_buffers
+core_after code vals c (cycle b) = let r = cycle_of code vals c (length b) in with_answer r.left r.answer 0 (only_block (block_after code vals c b))
+core_after code vals c (change area handed) = let r = change_of c area handed in with_answer r.left r.answer 0 (only_settings (area_changed c area handed))
+core_after code vals c (undo area) = let r = undo_of c area in with_answer r.left r.answer 0 (only_settings area)
 
 -- a call on a panel is the call on its core, lent the panel's own code
 unfoldable pub after_of : Panel → Call → After Panel
@@ -133,7 +133,7 @@ abbrev pub nothing : Display
 nothing = record { missed = 0; lines = 0; messages = 0; notes = 0; ended = true; position = 0 }
 
 -- a fresh start's answer, panel and area
-abbrev pub fresh_by : Setup → Fresh
+abbrev pub fresh_by : Setup → AnsweredCall Panel
 fresh_by u = fresh_of u.orchestra u.area u.first u.chosen
 
 abbrev pub area_by : Setup → List ℕ
@@ -145,10 +145,10 @@ area_by u = area_fresh u.orchestra u.area u.first u.chosen
 pub record FreshStart (u : Setup) : Type 1 where
   pub given : First (checks u) (number_of (fresh_by u).answer)
   pub only : (n : ℕ) → First (checks u) n → number_of (fresh_by u).answer ≡ n
-  pub begun : (fresh_by u).answer ≡ Taken → Begun u (fresh_by u).panel
+  pub begun : (fresh_by u).answer ≡ Taken → Begun u (fresh_by u).left
   pub written : (fresh_by u).answer ≡ Taken → area_by u ≡ laid_at 0 u.first u.area
-  pub no_panel : ((fresh_by u).answer ≡ Taken → ⊥) → (cs : List Call) → All AsEnded (trace panel (fresh_by u).panel cs)
-  pub shown : ((fresh_by u).answer ≡ Taken → ⊥) → display_of (fresh_by u).panel.core ≡ nothing
+  pub no_panel : ((fresh_by u).answer ≡ Taken → ⊥) → (cs : List Call) → All AsEnded (trace panel (fresh_by u).left cs)
+  pub shown : ((fresh_by u).answer ≡ Taken → ⊥) → display_of (fresh_by u).left.core ≡ nothing
   pub unwritten : ((fresh_by u).answer ≡ Taken → ⊥) → area_by u ≡ u.area
 
 abbrev pub FreshVerdict : Type 1
@@ -291,7 +291,7 @@ pub record Given (u : Setup) (is : List Instrument) : Type 0 where
   pub there : Some (λ (i : Instrument). i.name ≡ u.chosen) is
 
 abbrev pub fresh : Setup → Panel
-fresh u = (fresh_by u).panel
+fresh u = (fresh_by u).left
 
 -- the first record says what its bytes say
 abbrev pub FirstSets : Type 0

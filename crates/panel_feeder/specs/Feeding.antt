@@ -25,7 +25,7 @@ pub record PanelHanded : Type 0 where
 unfoldable pub handed_of : List ℕ → ℕ → ℕ → Panel → PanelHanded
 handed_of area position rank p =
     cond (leb (ticks_in_rank rank) position)
-    (let r = submit_of p.core keypad (line_words (line_in area (number_in rank))) in record { panel = with_core p r.core; answer = r.answer; more = is_taken r.answer })
+    (let r = submit_of p.core keypad (line_words (line_in area (number_in rank))) in record { panel = with_core p r.left; answer = r.answer; more = is_taken r.answer })
     (record { panel = p; answer = Taken; more = false })
 
 -- ---- all lines that are due

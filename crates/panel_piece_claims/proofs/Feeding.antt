@@ -102,10 +102,10 @@ module _ (u : Setup) (is : List Instrument) (g : Given u is) where
   start = starting_tempo (first_in_use u)
 
   abbrev pub K : Panel → Type 0
-  K p = Invariant (load_of u.orchestra).program u.chosen is (stands u is g) p
+  K p = Invariant (load_of u.orchestra).left u.chosen is (stands u is g) p
 
-  went : (k : ℕ) (z : Last) (p : Panel) → K p → (c : Call) → Step (load_of u.orchestra).program u.chosen is (stands u is g) k z p c
-  went k z p kept c = step (load_of u.orchestra).program u.chosen is (stands u is g) k z p kept c
+  went : (k : ℕ) (z : Last) (p : Panel) → K p → (c : Call) → Step (load_of u.orchestra).left u.chosen is (stands u is g) k z p c
+  went k z p kept c = step (load_of u.orchestra).left u.chosen is (stands u is g) k z p kept c
 
   -- ---- one line handed over
 
@@ -335,7 +335,7 @@ module _ (u : Setup) (is : List Instrument) (g : Given u is) where
       kept-all-of P h = either_way (All P) (player_state_of p).plays.ended h (all_filter (λ (l : Line). not (is_due (player_state_of p).plays.position l)) P rest h)
 
       module _ (b : List ℤ) (long : length b ≡ samples) (q : Panel) (kq : K q) (own_is : own q ≡ with_lines (own p) ls) (set_is : st k ≡ in_force u.chosen (own p).set) where
-        abbrev s : Step (load_of u.orchestra).program u.chosen is (stands u is g) k z q (cycle b)
+        abbrev s : Step (load_of u.orchestra).left u.chosen is (stands u is g) k z q (cycle b)
         s = went k z q kq (cycle b)
 
         abbrev m : Transition Panel

@@ -114,7 +114,7 @@ module _ (u : Setup) (is : List Instrument) (g : Given u is) where
     handed-due p k kept ok runs fit e =
         let z : number_of (submit_of p.core keypad (line_words (line_of area k))).answer ≡ 0 =
         ap first_number (zero-answered u is g 0 none p kept (line_of area k) ok runs fit.0) in
-        cond-true _ _ e ∙ (λ i. record { panel = with_core p (submit_of p.core keypad (line_words (line_of area k))).core; answer = (submit_of p.core keypad (line_words (line_of area k))).answer; more = eqb (z i) 0 })
+        cond-true _ _ e ∙ (λ i. record { panel = with_core p (submit_of p.core keypad (line_words (line_of area k))).left; answer = (submit_of p.core keypad (line_words (line_of area k))).answer; more = eqb (z i) 0 })
 
     feed-hands : (ks : List ℕ) (at : ℕ) (p : Panel) → Rising ks → All (Tells area position) ks → K u is g p → All (Valid is) (due ks)
         → All (λ (l : Line). (player_state_of p).plays.ended ≡ false) (due ks) → AllFit is keypad (own p).reached (length (own p).holds.waits) (due ks)

@@ -45,26 +45,20 @@ fn not_taken(rt: &HostRuntime, path: &[u8], line: usize, a: Answer) {
     report::refused_score(rt, path, line, a);
 }
 
-// A file that fills its buffer; one that could not be read was told before.
-fn not_read(rt: &HostRuntime, path: &[u8], length: usize) {
-    if length < usize::MAX {
+// The lines of a file's bytes into the area, and how many; none, and a message, where they are not taken. A file that fills
+// its buffer is too long.
+fn lines_in(rt: &HostRuntime, path: &[u8], bytes: &[u8], area: &mut [u32]) -> Option<usize> {
+    if bytes.len() >= BYTES {
         report::room(rt, path, BYTES, LINES);
+        return None;
     }
-}
-
-// The lines of a file's first n bytes into the area, and how many; a number past any, and a message, where they are not taken.
-fn lines_in(rt: &HostRuntime, path: &[u8], buffer: &[u8], n: usize, area: &mut [u32]) -> usize {
-    if n < buffer.len() {
-        let d = decoded(path, &buffer[..n], area);
-        let a = d.answer;
-        if base_answer::is_taken(a) {
-            return d.count;
-        }
-        not_taken(rt, path, d.line, a);
-        return usize::MAX;
+    let d = decoded(path, bytes, area);
+    let a = d.answer;
+    if base_answer::is_taken(a) {
+        return Some(d.count);
     }
-    not_read(rt, path, n);
-    usize::MAX
+    not_taken(rt, path, d.line, a);
+    None
 }
 
 // The piece, the first n ranks its order.
@@ -79,9 +73,16 @@ fn in_order<'a>(
     path: &[u8],
     out: &[u8],
 ) {
-    if n <= order.len() {
-        wav::recorded(rt, core, code, vals, area, &order[..n], path, out);
-    }
+    wav::recorded(
+        rt,
+        core,
+        code,
+        vals,
+        area,
+        &order[..n.min(order.len())],
+        path,
+        out,
+    );
 }
 
 fn bytes() -> [u8; BYTES] {
@@ -101,9 +102,14 @@ fn lines_of(
     path: &[u8],
     buffer: &mut [u8; BYTES],
     area: &mut [u32; WORDS],
-) -> usize {
-    let n = files::read(rt, path, buffer);
-    lines_in(rt, path, buffer, n, area)
+) -> Option<usize> {
+    match files::read(rt, path, buffer) {
+        Ok(bytes) => lines_in(rt, path, bytes, area),
+        Err(e) => {
+            report::fault(rt, path, &e);
+            None
+        }
+    }
 }
 
 // The lines put in order, and then the piece.
@@ -138,8 +144,7 @@ fn with_score<'a>(
 ) {
     let mut buffer = bytes();
     let mut area = words();
-    let n = lines_of(rt, path, &mut buffer, &mut area);
-    if n <= LINES {
+    if let Some(n) = lines_of(rt, path, &mut buffer, &mut area) {
         ordered(rt, core, code, vals, path, &area, n, out);
     }
 }
@@ -163,7 +168,7 @@ fn with_orchestra(
     );
     let a = f.answer;
     if base_answer::is_taken(a) {
-        let panel = f.panel;
+        let panel = f.left;
         let parted = Panel::split(panel);
         let core = parted.core;
         with_score(rt, core, &parted.code, &parted.vals, score, out);
@@ -175,9 +180,9 @@ fn with_orchestra(
 // An orchestra that fills the buffer is far longer than the panel takes, and is refused for its length.
 fn played(rt: &HostRuntime, ceiling: u32, orchestra: &[u8], score: &[u8], out: &[u8]) {
     let mut buffer = [0u8; ORCHESTRA];
-    let n = files::read(rt, orchestra, &mut buffer);
-    if n <= ORCHESTRA {
-        with_orchestra(rt, &buffer[..n], ceiling, orchestra, score, out);
+    match files::read(rt, orchestra, &mut buffer) {
+        Ok(bytes) => with_orchestra(rt, bytes, ceiling, orchestra, score, out),
+        Err(e) => report::fault(rt, orchestra, &e),
     }
 }
 
@@ -204,11 +209,7 @@ fn with_paths(rt: &HostRuntime, orchestra: &[u8]) {
 }
 
 fn main(rt: HostRuntime) {
-    if !program_io::has_argument(&rt, 3) {
-        report::usage(&rt);
-        return;
-    }
-    if program_io::has_argument(&rt, 6) {
+    if !program_io::has_argument(&rt, 3) || program_io::has_argument(&rt, 6) {
         report::usage(&rt);
         return;
     }

@@ -11,6 +11,7 @@ pub struct Piece {
     pub answer: Answer,
     pub line: usize,
     pub cycles: u32,
+    // Kept: no Option, since the count of missed notes decides whether it is told, and feeding alone can miss notes.
     pub first: u32,
     pub sum: u32,
     pub ended: bool,
@@ -19,7 +20,7 @@ pub struct Piece {
 
 pub fn begun(core: Core) -> Piece {
     Piece {
-        core: core,
+        core,
         at: 0,
         answer: Answer::Taken,
         line: 0,
@@ -33,33 +34,20 @@ pub fn begun(core: Core) -> Piece {
 
 // Nothing is left to feed, nothing waits and nothing sounds: only silence could follow.
 pub fn is_over(core: Core, at: usize, order: &[u64]) -> bool {
-    if at < order.len() {
-        return false;
-    }
-    if 0 < Core::waiting_lines(core) {
-        return false;
-    }
-    Core::sounding_notes(core) == 0
+    at >= order.len() && Core::waiting_lines(core) == 0 && Core::sounding_notes(core) == 0
 }
 
 // Asked first whether a line is due, so that feeding costs other cycles nothing.
-pub fn fed(p: Piece, area: &[u32], order: &[u64]) -> Piece {
+pub fn fed(mut p: Piece, area: &[u32], order: &[u64]) -> Piece {
     let core = p.core;
     if panel_feeder::next_due(order, p.at, Core::position_in_ticks(core)) {
         let f = panel_feeder::feed(core, area, order, p.at);
         let after = f.core;
         let a = f.answer;
-        return Piece {
-            core: after,
-            at: f.at,
-            answer: a,
-            line: f.line,
-            cycles: p.cycles,
-            first: p.first,
-            sum: p.sum,
-            ended: p.ended,
-            lost: p.lost,
-        };
+        p.core = after;
+        p.at = f.at;
+        p.answer = a;
+        p.line = f.line;
     }
     p
 }
@@ -67,10 +55,8 @@ pub fn fed(p: Piece, area: &[u32], order: &[u64]) -> Piece {
 fn counted(mut p: Piece, before: u64, block: &[i16]) -> Piece {
     let core = p.core;
     let n = p.cycles % 0xffff_ffff + 1;
-    if before == 0 {
-        if 0 < Core::missed_notes(core) {
-            p.first = n - 1;
-        }
+    if before == 0 && 0 < Core::missed_notes(core) {
+        p.first = n - 1;
     }
     p.cycles = n;
     p.sum = program_io::checked_sum(p.sum, block);
@@ -83,7 +69,7 @@ pub fn sounded<'a>(mut p: Piece, code: &'a [u64], vals: &'a [f32], block: &mut [
     let before = Core::missed_notes(old);
     let r = Core::cycle(old, code, vals, block);
     let a = r.answer;
-    let core = r.core;
+    let core = r.left;
     p.core = core;
     if base_answer::is_taken(a) {
         return counted(p, before, block);

@@ -40,10 +40,8 @@ fn about(rt: &HostRuntime, path: &[u8]) {
 
 // The system's words, without the number that stands behind them.
 fn words_of(text: &str) -> &str {
-    match text.split_once(" (os error ") {
-        Some((words, _)) => words,
-        None => text,
-    }
+    text.split_once(" (os error ")
+        .map_or(text, |(words, _)| words)
 }
 
 fn told(rt: &HostRuntime, text: &[u8]) {
@@ -100,19 +98,16 @@ pub fn room(rt: &HostRuntime, path: &[u8], bytes: usize, lines: usize) {
 
 // Where a reader has closed the pipe there is nothing to tell.
 pub fn unwritten(rt: &HostRuntime, e: &io::Error) {
-    if e.kind() == io::ErrorKind::BrokenPipe {
-        return;
+    if e.kind() != io::ErrorKind::BrokenPipe {
+        fault(rt, b"the sound cannot be written", e);
     }
-    fault(rt, b"the sound cannot be written", e);
 }
 
 // On a terminal, one line that is written over.
 pub fn progress(rt: &HostRuntime, cycles: u32) {
-    if cycles % CYCLES == 0 {
-        if rt.stderr().is_terminal() {
-            let seconds = cycles / CYCLES;
-            let _ = eprint!(rt; "\rplay: {seconds} s");
-        }
+    if cycles % CYCLES == 0 && rt.stderr().is_terminal() {
+        let seconds = cycles / CYCLES;
+        let _ = eprint!(rt; "\rplay: {seconds} s");
     }
 }
 

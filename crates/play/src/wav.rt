@@ -16,13 +16,11 @@ const CYCLES: u32 = 100;
 
 // Writes, and tells a fault.
 fn written(rt: &HostRuntime, to: &mut impl Write, bytes: &[u8]) -> bool {
-    match Write::write_all(to, bytes) {
-        Ok(()) => true,
-        Err(e) => {
-            report::unwritten(rt, &e);
-            false
-        }
+    let sent = Write::write_all(to, bytes);
+    if let Err(e) = &sent {
+        report::unwritten(rt, e);
     }
+    sent.is_ok()
 }
 
 // The 44 bytes in front of the samples: `whole` counts those behind it, `size` those of the samples.
@@ -85,8 +83,7 @@ fn all_cycles<'a>(
     most: u32,
 ) -> Piece {
     let mut p = start;
-    let mut left = most;
-    while left > 0 {
+    for _ in 0..most {
         if p.ended {
             return p;
         }
@@ -96,7 +93,6 @@ fn all_cycles<'a>(
             return p;
         }
         p = one_cycle(rt, p, code, vals, order, to);
-        left -= 1;
     }
     p
 }
@@ -157,10 +153,8 @@ fn summary(rt: &HostRuntime, to: &impl Print, p: Piece, out: &[u8]) {
 // The header again, with the number of bytes.
 fn is_sized(rt: &HostRuntime, mut file: File, cycles: u32) -> bool {
     let size = cycles % (MOST_CYCLES + 1) * 640;
-    if file.seek(SeekFrom::Start(0)).is_err() {
-        return false;
-    }
-    write_header(rt, &mut file, size % (UNKNOWN - 36) + 36, size)
+    file.seek(SeekFrom::Start(0)).is_ok()
+        && write_header(rt, &mut file, size % (UNKNOWN - 36) + 36, size)
 }
 
 // What is not whole is removed.
@@ -218,11 +212,9 @@ pub fn recorded<'a>(
     path: &[u8],
     out: &[u8],
 ) {
-    if out.len() == 1 {
-        if program_io::byte_at(out, 0) == b'-' {
-            to_output(rt, core, code, vals, area, order, path);
-            return;
-        }
+    if out == b"-".as_slice() {
+        to_output(rt, core, code, vals, area, order, path);
+    } else {
+        to_file(rt, core, code, vals, area, order, path, out);
     }
-    to_file(rt, core, code, vals, area, order, path, out);
 }

@@ -8,36 +8,12 @@ ghost use Rattle.entrance_readers.specs.Entrances.{score_in};
 ghost use Rattle.entrance_burst.specs.Singly.{area_in};
 ghost use Rattle.player_calls.specs.OnState.{start_state, submitted_of, burst_submitted_of, keyboard_call_of};
 
-use base_answer::Answer;
+use base_answer::{Answer, Answered, AnsweredLine, AnsweredUnits};
 use code_program::Instruments;
 use entrance_readers::EntranceRead;
 use note_pool::Notes;
-use note_state::{NoteEnd, NoteLabel, NoteOrigin};
 use player_queue::Queue;
 use player_state::{Playing, State};
-
-// What a call at any entrance leaves; `line` is the number of the line that a refusal is about.
-#[derive(Clone, Copy)]
-pub struct EntranceResult {
-    pub state: State,
-    pub answer: Answer,
-    pub line: usize,
-}
-
-// What a burst leaves; `units` is how many of its units were answered.
-#[derive(Clone, Copy)]
-pub struct BurstResult {
-    pub state: State,
-    pub answer: Answer,
-    pub units: usize,
-}
-
-// What a call at the keyboard, or a cycle, leaves.
-#[derive(Clone, Copy)]
-pub struct CallResult {
-    pub state: State,
-    pub answer: Answer,
-}
 
 // The state at a fresh start with a tempo; ended only where the start is refused.
 pub fn initial_state(tempo: f32, ended: bool) -> State
@@ -45,21 +21,7 @@ pub fn initial_state(tempo: f32, ended: bool) -> State
 {
     let line = score_line::blank_line();
     let silence = [0.0f32; 16];
-    let label = NoteLabel {
-        given: false,
-        symbol: 0,
-    };
-    let end = NoteEnd {
-        never: false,
-        at: 0,
-    };
-    let origin = NoteOrigin {
-        keyed: false,
-        channel: 0,
-        key: 0,
-        released: false,
-    };
-    let note = note_state::new_note(silence, label, 0, end, false, origin);
+    let note = note_state::new_note(silence, None, 0, Some(0), false, None);
     let messages = midi_queue::no_messages();
     let lines = [line; player_queue::MOST_LINES];
     let notes = [note; note_pool::MOST_NOTES];
@@ -85,19 +47,13 @@ pub fn initial_state(tempo: f32, ended: bool) -> State
 }
 
 // What was handed in at an entrance, read, into the waiting lines.
-pub fn submit(instruments: Instruments, mut s: State, h: EntranceRead) -> EntranceResult
+pub fn submit(instruments: Instruments, mut s: State, h: EntranceRead) -> AnsweredLine<State>
     ensures { result ≡ submitted_of (instruments_of instruments) s h.timed (score_in h) }
 {
     let q = s.queue;
-    let r = entrance_admission::submit(instruments, s.playing.ended, q, h);
-    let left = r.queue;
-    let given = r.answer;
-    s.queue = left;
-    EntranceResult {
-        state: s,
-        answer: given,
-        line: r.line,
-    }
+    let brought = entrance_admission::submit(instruments, s.playing.ended, q, h);
+    s.queue = brought.left;
+    brought.leaving(s)
 }
 
 // A burst of access units: each as if it came singly, in order, with its answer's number in the lent area; or a refusal, and nothing is
@@ -107,39 +63,34 @@ pub fn receive_burst(
     mut s: State,
     bytes: &[u8],
     answers: &mut [u8],
-) -> BurstResult
+) -> AnsweredUnits<State>
     ensures state { result ≡ burst_submitted_of (instruments_of instruments) s (length answers.old) (burst_of bytes.now) }
     ensures area { answers.new ≡ area_in s.playing.ended (instruments_of instruments) s.queue answers.old (burst_of bytes.now) }
 {
     let q = s.queue;
-    let r = entrance_burst::submit_burst(instruments, s.playing.ended, q, bytes, answers);
-    let sent = r.queue;
-    let given = r.answer;
-    s.queue = sent;
-    BurstResult {
-        state: s,
-        answer: given,
-        units: r.units,
-    }
+    let sent = entrance_burst::submit_burst(instruments, s.playing.ended, q, bytes, answers);
+    s.queue = sent.left;
+    sent.leaving(s)
 }
 
 // Bytes at the keyboard: all its note messages, or none of them.
-pub fn play_keys(mut s: State, bytes: &[u8]) -> CallResult
+pub fn play_keys(mut s: State, bytes: &[u8]) -> Answered<State>
     ensures { result ≡ keyboard_call_of s bytes.now }
 {
     if s.playing.ended {
-        return CallResult {
-            state: s,
+        return Answered {
+            left: s,
             answer: Answer::Ended,
         };
     }
-    let waiting = s.messages;
-    let r = midi_queue::enqueue(waiting, bytes);
-    let left = r.messages;
-    let given = r.answer;
-    s.messages = left;
-    CallResult {
-        state: s,
-        answer: given,
+    match midi_queue::enqueue(s.messages, bytes) {
+        Ok(messages) => {
+            s.messages = messages;
+            Answered {
+                left: s,
+                answer: Answer::Taken,
+            }
+        }
+        Err(answer) => Answered { left: s, answer },
     }
 }

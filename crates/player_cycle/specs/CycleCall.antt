@@ -7,17 +7,17 @@ use Rattle.player_model.specs.PlayerState.{Settings, due_of, block_of}
 use Rattle.voices_compiled.specs.Voices.{VoiceState}
 use Rattle.player_state.specs.States.{player_state_of, ends_now, stopped}
 use Rattle.player_state.specs.declared.State.{State}
-use Rattle.player_calls.specs.declared.CallResult.{CallResult}
+use Rattle.base_answer.specs.declared.Answered.{Answered}
 use Rattle.player_cycle.specs.OneCycle.{played_of}
 
 -- a cycle: 10, then 9, then steps 2 to 8
-unfoldable pub cycled_of : Voices VoiceState → Settings → State → ℕ → CallResult
+unfoldable pub cycled_of : Voices VoiceState → Settings → State → ℕ → Answered State
 cycled_of v x s lent =
     cond (eqb lent samples)
-    (cond s.playing.ended (record { state = s; answer = Ended })
-    (cond (ends_now s) (record { state = record { queue = s.queue; messages = s.messages; playing = stopped s.playing }; answer = Ended })
-    (record { state = played_of v x s; answer = Taken })))
-    (record { state = s; answer = BlockLength })
+    (cond s.playing.ended (record { left = s; answer = Ended })
+    (cond (ends_now s) (record { left = record { queue = s.queue; messages = s.messages; playing = stopped s.playing }; answer = Ended })
+    (record { left = played_of v x s; answer = Taken })))
+    (record { left = s; answer = BlockLength })
 
 -- the lent block afterwards: the cycle's samples where it answers 0, else as it was
 unfoldable pub block_left : Voices VoiceState → Settings → State → List ℤ → List ℤ

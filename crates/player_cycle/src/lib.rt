@@ -9,9 +9,8 @@ ghost use Rattle.player_state.specs.Playing.{settings_in};
 ghost use Rattle.player_cycle.specs.OneCycle.{state_after, block_after};
 ghost use Rattle.player_cycle.specs.CycleCall.{cycled_of, block_left};
 
-use base_answer::Answer;
+use base_answer::{Answer, Answered};
 use code_program::Instruments;
-use player_calls::CallResult;
 use player_state::{Settings, State};
 use player_steps::Due;
 
@@ -57,13 +56,10 @@ fn one_cycle<'a>(
 }
 
 // Nothing but an answer.
-fn unchanged(s: State, a: Answer) -> CallResult
-    ensures { result ≡ record { state = s; answer = a } }
+fn unchanged(s: State, a: Answer) -> Answered<State>
+    ensures { result ≡ record { left = s; answer = a } }
 {
-    CallResult {
-        state: s,
-        answer: a,
-    }
+    Answered { left: s, answer: a }
 }
 
 // The answer of a cycle that ran: 9 where it met the end.
@@ -81,7 +77,7 @@ pub fn cycle_call<'a>(
     s: State,
     settings: Settings,
     block: &mut [i16],
-) -> CallResult
+) -> Answered<State>
     ensures state { result ≡ cycled_of (voices (instruments_of instruments) code.now vals.now) (settings_in settings) s (length block.old) }
     ensures block { block.new ≡ block_left (voices (instruments_of instruments) code.now vals.now) (settings_in settings) s block.old }
 {
@@ -93,8 +89,8 @@ pub fn cycle_call<'a>(
         return unchanged(s, Answer::Ended);
     }
     let next = one_cycle(instruments, code, vals, s, settings, block);
-    CallResult {
-        state: next,
+    Answered {
+        left: next,
         answer: after(next.playing.ended),
     }
 }

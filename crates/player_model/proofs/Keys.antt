@@ -10,27 +10,33 @@ use lib.ListN.{length, take, length-append}
 use lib.Seq.{take-nil}
 use lib.Dec.{ltb, eqb}
 use borrow.Author.Tests.{le-ltb, ltb-false, eq-eqb, eqb-true, not-true}
+use Rattle.std.specs.Prelude.{Option, Some, None}
+use Rattle.std.specs.Option.{option_map_or}
 use Rattle.base_laws.proofs.Choice.{both_true}
 use Rattle.midi_messages.specs.declared.NoteMessage.{NoteMessage}
 use Rattle.player_model.specs.Lists.{fold, each, All}
 use Rattle.player_model.specs.Cycle.{Voices, Note, Started, release, is_held, release_oldest, joined_by, pressed, after_message, after_messages, goes_on}
-use Rattle.player_model.specs.Results.{Held, KeysRelease, NotesGo, note_ons, MessagesPlay, MessagesInOrder}
+use Rattle.player_model.specs.Results.{Held, KeysRelease, HasEnded, NotesGo, note_ons, MessagesPlay, MessagesInOrder}
 use Rattle.player_model.proofs.Lists.{by-test, either_way, cond-true, cond-false, fold-append}
 use Rattle.player_model.proofs.Results.{join-room, join-miss}
 
 module _ {S : Type 0} (v : Voices S) (channel key : ℕ) where
   is-held : (n : Note S) → Held v channel key n → is_held channel key n ≡ true
   unfolding is_held
-  is-held n h = rw (h.from_key, eq-eqb n.channel channel h.on_channel, eq-eqb n.key key h.of_key, h.unmarked)
+  is-held n h = rw (h.from_key, eq-eqb channel channel refl, eq-eqb key key refl, h.unmarked)
 
   not-held : (n : Note S) → (Held v channel key n → ⊥) → is_held channel key n ≡ false
   unfolding is_held
   not-held n f = by-test (is_held channel key n) (λ e.
-      let a = both_true (n.keyed && eqb n.channel channel && eqb n.key key) (not n.released) e in
-      let b = both_true (n.keyed && eqb n.channel channel) (eqb n.key key) a.0 in
-      let c = both_true n.keyed (eqb n.channel channel) b.0 in
-      absurd (f (record { from_key = c.0; on_channel = eqb-true n.channel channel c.1; of_key = eqb-true n.key key b.1; unmarked = not-true _ a.1 })))
+      let a = both_true (option_map_or (λ (k : ℕ × ℕ). eqb k.0 channel && eqb k.1 key) n.key false) (not n.released) e in
+      absurd (f (record { from_key = own n.key a.0; unmarked = not-true _ a.1 })))
       (λ e. e)
+    where
+      own : (o : Option (ℕ × ℕ)) → option_map_or (λ (k : ℕ × ℕ). eqb k.0 channel && eqb k.1 key) o false ≡ true → o ≡ Some (channel, key)
+      own None h = absurd (true≢false (sym h))
+      own (Some k) h =
+          let b = both_true (eqb k.0 channel) (eqb k.1 key) h in
+          λ i. Some (eqb-true k.0 channel b.0 i, eqb-true k.1 key b.1 i)
 
   marks-oldest : (before : List (Note S)) (n : Note S) (behind : List (Note S)) → All (λ (m : Note S). Held v channel key m → ⊥) before
       → Held v channel key n → release_oldest channel key (before ++ (n ∷ behind)) ≡ before ++ (release n ∷ behind)
@@ -55,17 +61,18 @@ module _ {S : Type 0} (v : Voices S) where
 
   pub notes-go : NotesGo v
   unfolding NotesGo goes_on
-  notes-go position n = (forth n.released n.endless, back n.released n.endless)
+  notes-go position n = (forth n.released n.end, back n.released n.end)
     where
-      forth : (r d : Bool) → (not r && (d || ltb position n.end)) ≡ false → (r ≡ true) ⊎ ((d ≡ false) × (n.end ≤ position))
-      forth true d h = inl refl
-      forth false true h = absurd (true≢false h)
-      forth false false h = inr (refl, ltb-false position n.end h)
+      forth : (r : Bool) (o : Option ℕ) → (not r && option_map_or (ltb position) o true) ≡ false → (r ≡ true) ⊎ HasEnded position o
+      forth true o h = inl refl
+      forth false None h = absurd (true≢false h)
+      forth false (Some e) h = inr (ltb-false position e h)
 
-      back : (r d : Bool) → (r ≡ true) ⊎ ((d ≡ false) × (n.end ≤ position)) → (not r && (d || ltb position n.end)) ≡ false
-      back true d h = refl
-      back false d (inl q) = absurd (true≢false (sym q))
-      back false d (inr q) = ap (λ (b : Bool). b || ltb position n.end) q.0 ∙ le-ltb position n.end q.1
+      back : (r : Bool) (o : Option ℕ) → (r ≡ true) ⊎ HasEnded position o → (not r && option_map_or (ltb position) o true) ≡ false
+      back true o h = refl
+      back false o (inl q) = absurd (true≢false (sym q))
+      back false None (inr q) = absurd q
+      back false (Some e) (inr q) = le-ltb position e q
 
   module _ (most chosen : ℕ) where
     record Plays (s : Started S) (ons : ℕ) (r : Started S) : Type 0 where

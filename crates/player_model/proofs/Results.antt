@@ -4,18 +4,20 @@ use mathlib.Core.Bool.{Bool, true, false, ◌&&◌, ◌||◌, cond, or-true, tru
 pub use mathlib.Core.Bool.{and-false}
 use mathlib.Core.Logic.{⊎_elim}
 use mathlib.Core.List.{List, [], ◌∷◌, ◌++◌, zip_with}
-use mathlib.Mathlib.Data.Bool.Basic.{or-eq-false-eq-eq-false-and-eq-false}
 use Prim.Native.Nat.{ℕ, ◌+◌, ◌-◌, ◌≤◌, ◌<◌}
 use native.Mathlib.Omega.{arith}
 use lib.ListN.{length, replicate, length-replicate}
 use lib.Dec.{ltb, eqb}
 use lib.Ieee.{Float, binary32, add, eq, of_bits}
 use borrow.Author.Tests.{lt-ltb, le-ltb, ltb-false}
+use Rattle.std.specs.Option.{option_map_or}
 use Rattle.base_timebase.specs.Time.{ticks_in, endless as without_end}
 use Rattle.score_line.specs.declared.Event.{Event}
 use Rattle.score_line.specs.declared.Event.TheVariants.{Instr, Control, End, Tempo}
 use Rattle.score_line.specs.declared.Line.{Line}
-use Rattle.player_model.specs.Lists.{fold, each, All, Some, here, later}
+use Rattle.std.specs.Prelude.{Some, None}
+use Rattle.player_model.specs.Lists.{fold, each, All, here, later}
+use Rattle.player_model.specs.Lists as lists
 use Rattle.player_model.specs.Cycle.{Voices, Note, Started, Rendered, with_state, is_end, any_end, tempo_from, last_tempo, samples, can_cut, cut_oldest, joined_by, born, controlled_by, control_event, controlled, pressed, run_from, run_all, goes_on}
 use Rattle.player_model.specs.Results.{EndFound, NoTempo, LastSets, HasPriority, NoPriority, NotesJoin, PriorityKept, controlled_state, controlled_all, ControlsSet, NotesEnd, with_outputs, Adding, outputs_of_notes, SamplesSum}
 use Rattle.player_model.proofs.Lists.{cond-true, cond-false, fold-append, each_same}
@@ -30,19 +32,19 @@ unfolding found fold
 found-stays [] = refl
 found-stays (l ∷ ls) = found-stays ls
 
-end-forth : (ls : List Line) → found false ls ≡ true → Some (λ (l : Line). l.event ≡ End) ls
+end-forth : (ls : List Line) → found false ls ≡ true → lists.Some (λ (l : Line). l.event ≡ End) ls
 unfolding found fold
 end-forth [] h = absurd (true≢false (sym h))
 end-forth (l ∷ ls) h = go l.event refl h (end-forth ls)
   where
-    go : (x : Event) → l.event ≡ x → found (is_end x) ls ≡ true → (found false ls ≡ true → Some (λ (l : Line). l.event ≡ End) ls)
-        → Some (λ (l : Line). l.event ≡ End) (l ∷ ls)
+    go : (x : Event) → l.event ≡ x → found (is_end x) ls ≡ true → (found false ls ≡ true → lists.Some (λ (l : Line). l.event ≡ End) ls)
+        → lists.Some (λ (l : Line). l.event ≡ End) (l ∷ ls)
     go (Instr label i d) e k r = later (r k)
     go (Control label x value) e k r = later (r k)
     go End e k r = here e
     go (Tempo t) e k r = later (r k)
 
-end_back : {ls : List Line} (b : Bool) → Some (λ (l : Line). l.event ≡ End) ls → found b ls ≡ true
+end_back : {ls : List Line} (b : Bool) → lists.Some (λ (l : Line). l.event ≡ End) ls → found b ls ≡ true
 unfolding found fold
 end_back b (here {x} {xs} e) = cc (or-true b, found-stays xs)
 end_back b (later {x} {xs} s) = end_back (b || is_end x.event) s
@@ -138,23 +140,23 @@ module _ {S : Type 0} (v : Voices S) where
       → controlled_all v ls (controlled_by v label x value n) ≡ controlled_all v (l ∷ ls) n
   unfolding fold controlled_by
   one_more l ls label x value e n =
-      go (n.labelled && eqb label n.label)
-      ∙ ap (λ (y : Event). with_state n (after (controlled_state v n.labelled n.label n.state y))) (sym e)
+      go (option_map_or (eqb label) n.label false)
+      ∙ ap (λ (y : Event). with_state n (after (controlled_state v n.label n.state y))) (sym e)
     where
       after : S → S
-      after s = fold (λ (s : S) (l : Line). controlled_state v n.labelled n.label s l.event) s ls
+      after s = fold (λ (s : S) (l : Line). controlled_state v n.label s l.event) s ls
 
       go : (b : Bool) → controlled_all v ls (cond b (with_state n (v.control x value n.state)) n)
           ≡ with_state n (after (cond b (v.control x value n.state) n.state))
       go true = refl
       go false = refl
 
-  passed-by : (l : Line) (ls : List Line) (y : Event) → l.event ≡ y → ((n : Note S) → controlled_state v n.labelled n.label n.state y ≡ n.state)
+  passed-by : (l : Line) (ls : List Line) (y : Event) → l.event ≡ y → ((n : Note S) → controlled_state v n.label n.state y ≡ n.state)
       → (n : Note S) → controlled_all v ls n ≡ controlled_all v (l ∷ ls) n
   unfolding fold
   passed-by l ls y e h n =
-      ap (λ (s : S). with_state n (fold (λ (s : S) (l : Line). controlled_state v n.labelled n.label s l.event) s ls))
-      (sym (ap (controlled_state v n.labelled n.label n.state) e ∙ h n))
+      ap (λ (s : S). with_state n (fold (λ (s : S) (l : Line). controlled_state v n.label s l.event) s ls))
+      (sym (ap (controlled_state v n.label n.state) e ∙ h n))
 
   controls : (due : List Line) (notes : List (Note S)) → controlled v notes due ≡ each (controlled_all v due) notes
   unfolding controlled fold each
@@ -177,9 +179,18 @@ module _ {S : Type 0} (v : Voices S) where
   pub notes-end : NotesEnd v
   unfolding NotesEnd goes_on born
   notes-end birth position l label i d s =
-      let e = birth + ticks_in d in
-      let or = or-eq-false-eq-eq-false-and-eq-false (eq d without_end) (ltb position e) in
-      (λ h. ((or.0 h).0, ltb-false position e (or.0 h).1), λ h. or.1 (h.0, le-ltb position e h.1))
+      (forth (eq d without_end), back (eq d without_end))
+    where
+      e : ℕ
+      e = birth + ticks_in d
+
+      forth : (b : Bool) → option_map_or (ltb position) (cond b None (Some e)) true ≡ false → (b ≡ false) × (e ≤ position)
+      forth true h = absurd (true≢false h)
+      forth false h = (refl, ltb-false position e h)
+
+      back : (b : Bool) → (b ≡ false) × (e ≤ position) → option_map_or (ltb position) (cond b None (Some e)) true ≡ false
+      back true h = h.0
+      back false h = le-ltb position e h.1
 
 -- ---- step 5
 

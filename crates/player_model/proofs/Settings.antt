@@ -13,7 +13,7 @@ use Rattle.score_line.specs.declared.Event.TheVariants.{Instr, Control, End, Tem
 use Rattle.score_line.specs.declared.Line.{Line}
 use Rattle.settings_records.specs.Changes.{in_use}
 use Rattle.settings_records.specs.declared.InUse.{InUse}
-use Rattle.settings_records.specs.declared.Found.{Found}
+use Rattle.settings_records.specs.Form.{Found}
 use Rattle.settings_records.proofs.Meaning.{one-meaning}
 use Rattle.settings_records.proofs.Areas.{one-meaning-records}
 use Rattle.player_model.specs.Lists.{All, filter}

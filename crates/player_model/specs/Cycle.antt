@@ -1,6 +1,7 @@
 -- Document 01, "One cycle, in order", over lists. What the notes do is a parameter, the voices, so that the panel and the plain
 -- player share this one definition.
-use Rattle.std.specs.Prelude.{Bool, true, false, not, ◌&&◌, ◌||◌, cond, List, [], ◌∷◌, ◌++◌, ℕ, ◌+◌, ℤ, length, replicate, take, ltb, leb, eqb, Float}
+use Rattle.std.specs.Prelude.{Bool, true, false, not, ◌&&◌, ◌||◌, cond, List, [], ◌∷◌, ◌++◌, ℕ, ◌+◌, ℤ, length, replicate, take, ltb, leb, eqb, Float, Option, Some, None}
+use Rattle.std.specs.Option.{option_map_or}
 use Rattle.std.specs.Float.{binary32}
 use Rattle.std.specs.Float.Ieee.{lt, eq, of_bits}
 use Rattle.base_timebase.specs.Time.{ticks_in, endless as without_end}
@@ -34,18 +35,14 @@ pub record Voices (S : Type 0) : Type 0 where
 
 -- a note that sounds
 pub record Note (S : Type 0) : Type 0 where
-  -- whether it has a label, and which; 0 where it has none
-  pub labelled : Bool
-  pub label : ℕ
-  -- whether it is without end; if not, the position of its birth plus the ticks of its duration
-  pub endless : Bool
-  pub end : ℕ
+  -- its label, if it has one
+  pub label : Option ℕ
+  -- where it ends, if it does: the position of its birth plus the ticks of its duration
+  pub end : Option ℕ
   -- whether its line had priority
   pub priority : Bool
-  -- whether it is from the keyboard, and then its channel and key, 0 where it is not; whether that key was released
-  pub keyed : Bool
-  pub channel : ℕ
-  pub key : ℕ
+  -- the channel and key that it is from, if it is from the keyboard; whether that key was released
+  pub key : Option (ℕ × ℕ)
   pub released : Bool
   pub state : S
 
@@ -117,13 +114,9 @@ pub record Rendered (S : Type 0) : Type 0 where
 abbrev pub samples : ℕ
 samples = 320
 
-abbrev pub is_labelled : Label → Bool
-is_labelled Unlabelled = false
-is_labelled (Labelled n) = true
-
-abbrev pub label_number : Label → ℕ
-label_number Unlabelled = 0
-label_number (Labelled n) = n
+abbrev pub label_number : Label → Option ℕ
+label_number Unlabelled = None
+label_number (Labelled n) = Some n
 
 -- step 6: every summed sample limited by the ceiling
 unfoldable pub limited : ℕ → List Float → List ℤ
@@ -133,13 +126,9 @@ module _ {S : Type 0} where
   abbrev pub with_state : Note S → S → Note S
   with_state n s =
       record {
-        labelled = n.labelled;
         label = n.label;
-        endless = n.endless;
         end = n.end;
         priority = n.priority;
-        keyed = n.keyed;
-        channel = n.channel;
         key = n.key;
         released = n.released;
         state = s;
@@ -149,13 +138,9 @@ module _ {S : Type 0} where
   abbrev pub release : Note S → Note S
   release n =
       record {
-        labelled = n.labelled;
         label = n.label;
-        endless = n.endless;
         end = n.end;
         priority = n.priority;
-        keyed = n.keyed;
-        channel = n.channel;
         key = n.key;
         released = true;
         state = n.state;
@@ -183,11 +168,11 @@ module _ {S : Type 0} where
 
   -- a note that goes on after a cycle at a position: it is not marked, and its end lies above the position
   unfoldable pub goes_on : ℕ → Note S → Bool
-  goes_on pos n = not n.released && (n.endless || ltb pos n.end)
+  goes_on pos n = not n.released && option_map_or (ltb pos) n.end true
 
   -- an unmarked note of a key of a channel
   unfoldable pub is_held : ℕ → ℕ → Note S → Bool
-  is_held channel key n = n.keyed && eqb n.channel channel && eqb n.key key && not n.released
+  is_held channel key n = option_map_or (λ (k : ℕ × ℕ). eqb k.0 channel && eqb k.1 key) n.key false && not n.released
 
   -- the oldest unmarked note of a key of a channel marked; the others stay
   unfoldable pub release_oldest : ℕ → ℕ → List (Note S) → List (Note S)
@@ -199,14 +184,10 @@ module _ {S : Type 0} (v : Voices S) where
   unfoldable pub born : ℕ → Line → Label → ℕ → Float → Note S
   born pos l label instrument duration =
       record {
-        labelled = is_labelled label;
         label = label_number label;
-        endless = eq duration without_end;
-        end = pos + ticks_in duration;
+        end = cond (eq duration without_end) None (Some (pos + ticks_in duration));
         priority = l.priority;
-        keyed = false;
-        channel = 0;
-        key = 0;
+        key = None;
         released = false;
         state = v.birth instrument (take l.count l.values);
       }
@@ -225,7 +206,7 @@ module _ {S : Type 0} (v : Voices S) where
   -- a control line's effect on one note: on a note with that label, and on no other
   unfoldable pub controlled_by : ℕ → ℕ → Float → Note S → Note S
   controlled_by label x value n =
-      cond (n.labelled && eqb label n.label) (with_state n (v.control x value n.state)) n
+      cond (option_map_or (eqb label) n.label false) (with_state n (v.control x value n.state)) n
 
   abbrev pub control_event : List (Note S) → Event → List (Note S)
   control_event ns (Instr label i d) = ns
@@ -241,14 +222,10 @@ module _ {S : Type 0} (v : Voices S) where
   unfoldable pub pressed : ℕ → NoteMessage → Note S
   pressed chosen m =
       record {
-        labelled = false;
-        label = 0;
-        endless = true;
-        end = 0;
+        label = None;
+        end = None;
         priority = false;
-        keyed = true;
-        channel = m.channel;
-        key = m.key;
+        key = Some (m.channel, m.key);
         released = false;
         state = v.birth chosen (frequency_of m.key ∷ normalized_velocity m.velocity ∷ []);
       }

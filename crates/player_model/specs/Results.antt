@@ -1,6 +1,7 @@
 -- What document 01 says of a cycle's steps as results. The definitions of a cycle go step by step; these statements say what comes of
 -- it, in other words, and a step that comes to something else keeps none of them.
-use Rattle.std.specs.Prelude.{◌≡◌, ◌↔◌, ◌⊎◌, Bool, true, false, not, ◌&&◌, cond, ℕ, zero, suc, ◌+◌, ◌-◌, ◌≤◌, ◌<◌, min, length, take, drop, replicate, eqb, Float}
+use Rattle.std.specs.Prelude.{◌≡◌, ◌↔◌, ◌⊎◌, Bool, true, false, not, ◌&&◌, cond, ℕ, zero, suc, ◌+◌, ◌-◌, ◌≤◌, ◌<◌, min, length, take, drop, replicate, eqb, Float, Option, Some, None}
+use Rattle.std.specs.Option.{option_map_or}
 use mathlib.Core.List.{List, [], ◌∷◌, ◌++◌, zip_with}
 use Rattle.std.specs.Float.{binary32}
 use Rattle.std.specs.Float.Ieee.{lt, eq, is_nan, add, of_bits}
@@ -14,7 +15,7 @@ use Rattle.score_line.specs.declared.Line.{Line}
 use Rattle.player_model.specs.Lists.{filter, fold, each, All}
 use Rattle.midi_messages.specs.declared.NoteMessage.{NoteMessage}
 use Rattle.player_model.specs.Cycle.{Voices, Note, Started, with_state, release, release_oldest, joined_by, ordered, any_end, last_tempo, samples, born, started, controlled, pressed, after_messages, run_all, goes_on}
-use Rattle.player_model.specs.Lists.{Some}
+use Rattle.player_model.specs.Lists as lists
 
 -- ---- the due lines, in order
 
@@ -66,7 +67,7 @@ OneOrder =
 -- ---- steps 1 and 2
 
 unfoldable pub EndFound : Type 0
-EndFound = (due : List Line) → (any_end due ≡ true) ↔ Some (λ (l : Line). l.event ≡ End) due
+EndFound = (due : List Line) → (any_end due ≡ true) ↔ lists.Some (λ (l : Line). l.event ≡ End) due
 
 abbrev pub NoTempo : Event → Type 0
 NoTempo (Instr label i d) = Unit {0}
@@ -81,6 +82,11 @@ pub record LastSets : Type 0 where
   pub none : (tempo : Float) (due : List Line) → All (λ (m : Line). NoTempo m.event) due → last_tempo tempo due ≡ tempo
 
 -- ---- steps 3, 4 and 7, a note at a time
+
+-- an end that is at most a position
+abbrev pub HasEnded : ℕ → Option ℕ → Type 0
+HasEnded position None = ⊥
+HasEnded position (Some end) = end ≤ position
 
 module _ {S : Type 0} (v : Voices S) where
   abbrev pub born_by : ℕ → Line → Event → List (Note S)
@@ -148,15 +154,15 @@ module _ {S : Type 0} (v : Voices S) where
   NotesStart = (most position : ℕ) (before : List (Note S)) (due : List Line) → EachStarts most position before due
 
   -- what a line makes of what a note with a label holds: a control line with that label sets, any other line leaves it
-  abbrev pub controlled_state : Bool → ℕ → S → Event → S
-  controlled_state labelled own s (Instr label i d) = s
-  controlled_state labelled own s (Control label x value) = cond (labelled && eqb label own) (v.control x value s) s
-  controlled_state labelled own s End = s
-  controlled_state labelled own s (Tempo t) = s
+  abbrev pub controlled_state : Option ℕ → S → Event → S
+  controlled_state own s (Instr label i d) = s
+  controlled_state own s (Control label x value) = cond (option_map_or (eqb label) own false) (v.control x value s) s
+  controlled_state own s End = s
+  controlled_state own s (Tempo t) = s
 
   abbrev pub controlled_all : List Line → Note S → Note S
   controlled_all due n =
-      with_state n (fold (λ (s : S) (l : Line). controlled_state n.labelled n.label s l.event) n.state due)
+      with_state n (fold (λ (s : S) (l : Line). controlled_state n.label s l.event) n.state due)
 
   -- Each control line in order sets the named imports ksig in every note with that label, and no other note and nothing else.
   unfoldable pub ControlsSet : Type 0
@@ -175,9 +181,7 @@ module _ {S : Type 0} (v : Voices S) where
 
   -- an unmarked note of a key of a channel
   pub record Held (channel key : ℕ) (n : Note S) : Type 0 where
-    pub from_key : n.keyed ≡ true
-    pub on_channel : n.channel ≡ channel
-    pub of_key : n.key ≡ key
+    pub from_key : n.key ≡ Some (channel, key)
     pub unmarked : n.released ≡ false
 
   -- A note-off marks the oldest such note, and no other note changes; where there is none no note does.
@@ -192,7 +196,7 @@ module _ {S : Type 0} (v : Voices S) where
   -- A note is removed at a position exactly when it is marked, or has an end that is at most the position.
   unfoldable pub NotesGo : Type 0
   NotesGo =
-      (position : ℕ) (n : Note S) → (goes_on position n ≡ false) ↔ ((n.released ≡ true) ⊎ ((n.endless ≡ false) × (n.end ≤ position)))
+      (position : ℕ) (n : Note S) → (goes_on position n ≡ false) ↔ ((n.released ≡ true) ⊎ HasEnded position n.end)
 
   -- how many of the messages are note-ons
   unfoldable pub note_ons : List NoteMessage → ℕ

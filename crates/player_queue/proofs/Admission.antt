@@ -16,40 +16,40 @@ use Rattle.score_line.specs.declared.Line.{Line}
 use Rattle.player_model.proofs.Lists.{cond-true, cond-false}
 use Rattle.player_queue.specs.Waiting.{is_late}
 use Rattle.player_queue.specs.Admission.{unfit_event, most_lines, admission, pushed, admitted, waiting_in}
-use Rattle.code_program.specs.declared.FieldCount.{FieldCount}
+use Rattle.std.specs.Prelude.{Option}
 use Rattle.player_queue.specs.declared.Queue.{Queue}
 
-module _ (q : Queue) (l : Line) (f : FieldCount) where
-  by_answer : (a : Answer) → admission q l f ≡ a → admitted q l f ≡ record { queue = cond (is_taken a) (pushed q l) q; answer = a }
+module _ (q : Queue) (l : Line) (f : Option ℕ) where
+  by_answer : (a : Answer) → admission q l f ≡ a → admitted q l f ≡ record { left = cond (is_taken a) (pushed q l) q; answer = a }
   unfolding admitted
-  by_answer a e = ap (λ (x : Answer). record { queue = cond (is_taken x) (pushed q l) q; answer = x }) e
+  by_answer a e = ap (λ (x : Answer). record { left = cond (is_taken x) (pushed q l) q; answer = x }) e
 
-  pub admit-unfit : unfit_event f l.count l.event ≡ true → admitted q l f ≡ record { queue = q; answer = NoInstrument }
+  pub admit-unfit : unfit_event f l.count l.event ≡ true → admitted q l f ≡ record { left = q; answer = NoInstrument }
   unfolding admission
   admit-unfit a = by_answer NoInstrument (cond-true _ _ a)
 
   pub admit-late : unfit_event f l.count l.event ≡ false → is_late q.ran q.last l.when ≡ true
-      → admitted q l f ≡ record { queue = q; answer = Late }
+      → admitted q l f ≡ record { left = q; answer = Late }
   unfolding admission
   admit-late a b = by_answer Late (cond-false _ _ a ∙ cond-true _ _ b)
 
   pub admit-taken : unfit_event f l.count l.event ≡ false → is_late q.ran q.last l.when ≡ false → q.count < 64
-      → admitted q l f ≡ record { queue = pushed q l; answer = Taken }
+      → admitted q l f ≡ record { left = pushed q l; answer = Taken }
   unfolding admission
   admit-taken a b c = by_answer Taken (cond-false _ _ a ∙ cond-false _ _ b ∙ cond-true _ _ (lt-ltb q.count 64 c))
 
   pub admit-full : unfit_event f l.count l.event ≡ false → is_late q.ran q.last l.when ≡ false → 64 ≤ q.count
-      → admitted q l f ≡ record { queue = q; answer = NoRoom }
+      → admitted q l f ≡ record { left = q; answer = NoRoom }
   unfolding admission
   admit-full a b c = by_answer NoRoom (cond-false _ _ a ∙ cond-false _ _ b ∙ cond-false _ _ (le-ltb q.count 64 c))
 
   -- a refusal changes nothing
-  pub refused-same : is_taken (admitted q l f).answer ≡ false → (admitted q l f).queue ≡ q
+  pub refused-same : is_taken (admitted q l f).answer ≡ false → (admitted q l f).left ≡ q
   unfolding admitted
   refused-same e = cond-false _ _ e
 
   -- a line that is taken waits behind the others
-  pub taken-pushed : is_taken (admitted q l f).answer ≡ true → (admitted q l f).queue ≡ pushed q l
+  pub taken-pushed : is_taken (admitted q l f).answer ≡ true → (admitted q l f).left ≡ pushed q l
   unfolding admitted
   taken-pushed e = cond-true _ _ e
 
@@ -72,7 +72,7 @@ module _ (q : Queue) (l : Line) (f : FieldCount) where
   length-pushed = length-set q.lines q.count l
 
   -- the waiting count never passes 64
-  pub count-within : q.count ≤ 64 → (admitted q l f).queue.count ≤ 64
+  pub count-within : q.count ≤ 64 → (admitted q l f).left.count ≤ 64
   unfolding admitted pushed
   count-within h = go (is_taken (admission q l f)) (taken-room)
     where

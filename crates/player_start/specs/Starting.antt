@@ -1,5 +1,6 @@
 -- What a panel starts with, for all bytes, areas, first records and choices.
 use Rattle.std.specs.Prelude.{Bool, true, false, cond, List, [], ℕ, take}
+use Rattle.std.specs.Option.{is_some}
 use Rattle.base_answer.specs.Numbers.{is_taken}
 use Rattle.base_answer.specs.declared.Answer.{Answer}
 use Rattle.base_answer.specs.declared.Answer.TheVariants.{NoInstrument}
@@ -14,7 +15,7 @@ use Rattle.player_start.specs.declared.Start.{Start}
 
 -- the chosen instrument is there
 unfoldable pub has_chosen : Program → ℕ → Bool
-has_chosen program chosen = (lookup_in chosen (take program.count program.table)).there
+has_chosen program chosen = is_some (lookup_in chosen (take program.count program.table))
 
 -- the state of every start, at the tempo of its settings, beside what this one fixes
 unfoldable pub start_of : Program → InUse → ℕ → Bool → Answer → Start
@@ -32,9 +33,9 @@ starting_of orchestra area first chosen =
     let r = loaded_from orchestra in
     cond (is_taken c.answer)
     (cond (is_taken r.answer)
-    (cond (has_chosen r.program chosen) (start_of r.program c.settings chosen false r.answer) (refused_start r.program NoInstrument))
-    (refused_start r.program r.answer))
-    (refused_start (loaded_from []).program c.answer)
+    (cond (has_chosen r.left chosen) (start_of r.left c.left chosen false r.answer) (refused_start r.left NoInstrument))
+    (refused_start r.left r.answer))
+    (refused_start (loaded_from []).left c.answer)
 
 -- the lent area afterwards
 unfoldable pub area_started : List ℕ → List ℕ → List ℕ → ℕ → List ℕ

@@ -36,20 +36,20 @@ fn begin(program: Program, settings: InUse, chosen: u16, ended: bool, answer: An
     let tempo = beats(settings.last.tempo);
     Start {
         state: player_calls::initial_state(tempo, ended),
-        settings: settings,
-        chosen: chosen,
-        program: program,
-        answer: answer,
+        settings,
+        chosen,
+        program,
+        answer,
     }
 }
 
 // The program of no orchestra, for a start whose orchestra is not looked at.
 fn empty_program() -> Program
-    ensures { result ≡ (loaded_from []).program }
+    ensures { result ≡ (loaded_from []).left }
 {
     let none = [0u8; 1];
     let read = code_loader::load(&none[..0]);
-    read.program
+    read.left
 }
 
 // A refused start is one that has ended: every call on it answers 9.
@@ -64,14 +64,11 @@ fn has_chosen(program: Program, chosen: u16) -> bool
     ensures { result ≡ has_chosen program chosen }
 {
     let table = program.table;
-    let f = code_program::find(
-        Instruments {
-            table: table,
-            count: program.count,
-        },
-        chosen,
-    );
-    f.there
+    let instruments = Instruments {
+        table,
+        count: program.count,
+    };
+    code_program::find(instruments, chosen).is_some()
 }
 
 // The start of an orchestra's bytes and a first settings record, which goes into the lent area, with the instrument that is chosen for the
@@ -86,7 +83,7 @@ pub fn fresh_start(orchestra: &[u8], area: &mut [u8], first: &[u8], chosen: u16)
         return refused(empty_program(), fault);
     }
     let read = code_loader::load(orchestra);
-    let program = read.program;
+    let program = read.left;
     let answer = read.answer;
     if !base_answer::is_taken(answer) {
         return refused(program, answer);
@@ -95,6 +92,5 @@ pub fn fresh_start(orchestra: &[u8], area: &mut [u8], first: &[u8], chosen: u16)
         return refused(program, Answer::NoInstrument);
     }
     let written = settings_records::change(settings_records::none_in_use(), area, first);
-    let settings = written.settings;
-    begin(program, settings, chosen, false, answer)
+    begin(program, written.left, chosen, false, answer)
 }

@@ -123,7 +123,7 @@ pub fn idle_cycle(mut s: State, ceiling: u16, block: &mut [i16]) -> State
     let position = s.playing.position;
     let step = base_timebase::ticks_per_cycle(s.playing.tempo);
     let next = position + step;
-    let waiting = base_numbers::at_most(s.queue.count, player_queue::MOST_LINES);
+    let waiting = s.queue.count.min(player_queue::MOST_LINES);
     s.queue.count = waiting;
     s.queue.ran = true;
     s.queue.last = position;

@@ -44,7 +44,7 @@ fn perform<'a>(
     ensures notes { result ≡ performed_of (voices (instruments_of instruments) code.now vals.now) (settings_in settings) (due_in due) p }
     ensures block { block.new ≡ limited settings.ceiling (rendered_of (voices (instruments_of instruments) code.now vals.now) (settings_in settings) (due_in due) (playing_state_of p)).mix block.old }
 {
-    let most = base_numbers::at_most(settings.notes as usize, note_pool::MOST_NOTES);
+    let most = (settings.notes as usize).min(note_pool::MOST_NOTES);
     let old = p.notes;
     let position = p.position;
     let acting = due.lines;

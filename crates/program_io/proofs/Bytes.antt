@@ -1,54 +1,37 @@
--- Numbers as bytes: a number in two halves, and whether two bytes hold it.
-use Rattle.std.proofs.Common.{◌≡◌, ℕ, ◌/◌, ◌%◌, ◌<◌, ◌≤◌, cond, [], ◌∷◌, ◌++◌, sym, ap, arith, le-ltb, lt-ltb}
-use Rattle.settings_records.specs.Form.{encoded, version_one}
-use Rattle.program_io.specs.Bytes.{big_endian, little_endian, in_two_bytes}
+-- Numbers as bytes, as std lays them.
+use Rattle.std.proofs.Common.{◌≡◌, ℕ, ◌/◌, ◌%◌, [], ◌∷◌, refl, arith, w16, w32, w64}
+use Rattle.std.specs.Int.{to_be_bytes, to_le_bytes}
+use Rattle.program_io.specs.Bytes.{big_endian, little_endian}
 
-pub big-half : {v : ℕ} → v < 65536 → big_endian 2 v ≡ (v / 256 ∷ []) ++ (v % 256 ∷ [])
+pub big-half : (v : ℕ) → to_be_bytes w16 v ≡ big_endian 2 v
 unfolding big_endian
-big-half {v} h = let e : v / 256 % 256 ≡ v / 256 = omega arith in ap (λ b. b ∷ v % 256 ∷ []) e
+big-half v = refl
 
-pub little-half : {v : ℕ} → v < 65536 → little_endian 2 v ≡ (v % 256 ∷ []) ++ (v / 256 ∷ [])
+pub little-half : (v : ℕ) → to_le_bytes w16 v ≡ little_endian 2 v
 unfolding little_endian
-little-half {v} h = let e : v / 256 % 256 ≡ v / 256 = omega arith in ap (λ b. v % 256 ∷ b ∷ []) e
+little-half v = refl
 
-pub big-word : (v : ℕ) → big_endian 4 v ≡ big_endian 2 (v / 65536) ++ big_endian 2 (v % 65536)
+pub big-word : (v : ℕ) → to_be_bytes w32 v ≡ big_endian 4 v
 unfolding big_endian
 big-word v =
-    let d : v / 256 / 256 / 256 % 256 ≡ v / 65536 / 256 % 256 = omega arith in
-    let e : v / 256 / 256 % 256 ≡ v / 65536 % 256 = omega arith in
-    let f : v / 256 % 256 ≡ v % 65536 / 256 % 256 = omega arith in
-    let g : v % 256 ≡ v % 65536 % 256 = omega arith in
-    λ i. d i ∷ e i ∷ f i ∷ g i ∷ []
+    let a : v / 16777216 % 256 ≡ v / 256 / 256 / 256 % 256 = omega arith in
+    let b : v / 65536 % 256 ≡ v / 256 / 256 % 256 = omega arith in
+    λ i. a i ∷ b i ∷ v / 256 % 256 ∷ v % 256 ∷ []
 
-pub little-word : (v : ℕ) → little_endian 4 v ≡ little_endian 2 (v % 65536) ++ little_endian 2 (v / 65536)
+pub little-word : (v : ℕ) → to_le_bytes w32 v ≡ little_endian 4 v
 unfolding little_endian
 little-word v =
-    let d : v / 256 / 256 / 256 % 256 ≡ v / 65536 / 256 % 256 = omega arith in
-    let e : v / 256 / 256 % 256 ≡ v / 65536 % 256 = omega arith in
-    let f : v / 256 % 256 ≡ v % 65536 / 256 % 256 = omega arith in
-    let g : v % 256 ≡ v % 65536 % 256 = omega arith in
-    λ i. g i ∷ f i ∷ e i ∷ d i ∷ []
+    let c : v / 65536 % 256 ≡ v / 256 / 256 % 256 = omega arith in
+    let d : v / 16777216 % 256 ≡ v / 256 / 256 / 256 % 256 = omega arith in
+    λ i. v % 256 ∷ v / 256 % 256 ∷ c i ∷ d i ∷ []
 
-pub big-long : (v : ℕ) → big_endian 8 v ≡ big_endian 4 (v / 4294967296) ++ big_endian 4 (v % 4294967296)
+pub big-long : (v : ℕ) → to_be_bytes w64 v ≡ big_endian 8 v
 unfolding big_endian
 big-long v =
-    let a : v / 256 / 256 / 256 / 256 / 256 / 256 / 256 % 256 ≡ v / 4294967296 / 256 / 256 / 256 % 256 = omega arith in
-    let b : v / 256 / 256 / 256 / 256 / 256 / 256 % 256 ≡ v / 4294967296 / 256 / 256 % 256 = omega arith in
-    let c : v / 256 / 256 / 256 / 256 / 256 % 256 ≡ v / 4294967296 / 256 % 256 = omega arith in
-    let d : v / 256 / 256 / 256 / 256 % 256 ≡ v / 4294967296 % 256 = omega arith in
-    let e : v / 256 / 256 / 256 % 256 ≡ v % 4294967296 / 256 / 256 / 256 % 256 = omega arith in
-    let f : v / 256 / 256 % 256 ≡ v % 4294967296 / 256 / 256 % 256 = omega arith in
-    let g : v / 256 % 256 ≡ v % 4294967296 / 256 % 256 = omega arith in
-    let h : v % 256 ≡ v % 4294967296 % 256 = omega arith in
-    λ i. a i ∷ b i ∷ c i ∷ d i ∷ e i ∷ f i ∷ g i ∷ h i ∷ []
-
-pub two-hold : {n : ℕ} → n < 65536 → n ≡ in_two_bytes n
-unfolding in_two_bytes
-two-hold {n} h = sym (ap (λ b. cond b n 0) (lt-ltb n 65536 h))
-
-pub more-than-two : {n : ℕ} → 65536 ≤ n → 0 ≡ in_two_bytes n
-unfolding in_two_bytes
-more-than-two {n} h = sym (ap (λ b. cond b n 0) (le-ltb n 65536 h))
-
-pub one-record : (n : ℕ) {c : ℕ} → c ≡ in_two_bytes n → (0 ∷ 4 ∷ 1 ∷ c / 256 ∷ c % 256 ∷ 16 ∷ []) ≡ encoded (version_one (in_two_bytes n) 16)
-one-record n e = ap (λ c. encoded (version_one c 16)) e
+    let a : v / 72057594037927936 % 256 ≡ v / 256 / 256 / 256 / 256 / 256 / 256 / 256 % 256 = omega arith in
+    let b : v / 281474976710656 % 256 ≡ v / 256 / 256 / 256 / 256 / 256 / 256 % 256 = omega arith in
+    let c : v / 1099511627776 % 256 ≡ v / 256 / 256 / 256 / 256 / 256 % 256 = omega arith in
+    let d : v / 4294967296 % 256 ≡ v / 256 / 256 / 256 / 256 % 256 = omega arith in
+    let e : v / 16777216 % 256 ≡ v / 256 / 256 / 256 % 256 = omega arith in
+    let f : v / 65536 % 256 ≡ v / 256 / 256 % 256 = omega arith in
+    λ i. a i ∷ b i ∷ c i ∷ d i ∷ e i ∷ f i ∷ v / 256 % 256 ∷ v % 256 ∷ []

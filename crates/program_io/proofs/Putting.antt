@@ -2,7 +2,7 @@
 use Rattle.std.proofs.Common.{◌≡◌, ℕ, zero, suc, ◌+◌, ◌-◌, ◌<◌, ◌≤◌, min, List, [], ◌∷◌, ◌++◌, length, get_or, take, set, sym, refl, ap, ◌∙◌, subst, append_assoc, append-nil, suc-le-suc, zero-le, add-one, arith, length-append, take_all, take-suc}
 use native.Mathlib.Nat.{min-eq_left, min-eq_right}
 use lib.Seq.{sets, length-sets, set_out}
-use Rattle.program_io.specs.Bytes.{joined, Put}
+use Rattle.program_io.specs.Bytes.{itself, joined, Put}
 
 either : {P : Type 0} (a b : ℕ) → (a ≤ b → P) → (b ≤ a → P) → P
 either zero b f g = f zero-le
@@ -122,14 +122,7 @@ module _ {A : Type 0} (f : A → List ℕ) (s : List A) (old : List ℕ) (at : �
   pub same_size : {new : List ℕ} {next i : ℕ} → Putting f s old at new next i → length new ≡ length old
   same_size {i = i} p = ap length p.done.laid ∙ length-sets old at (joined f (take i s))
 
--- a byte is its own byte
-abbrev pub itself : ℕ → List ℕ
-itself b = b ∷ []
-
-joined-itself : (s : List ℕ) → joined itself s ≡ s
+pub joined-itself : (s : List ℕ) → joined itself s ≡ s
 unfolding joined
 joined-itself [] = refl
 joined-itself (b ∷ s) = ap (λ l. b ∷ l) (joined-itself s)
-
-pub bytes-end : {s old new : List ℕ} {at next i : ℕ} → Putting itself s old at new next i → length s ≤ i → Put old at s new next
-bytes-end {s} {old} {new} {at} {next} p h = subst (λ l. Put old at l new next) (joined-itself s) (ends itself s old at p h)

@@ -1,17 +1,17 @@
 -- Words and digits read from a list of bytes.
-use Rattle.std.proofs.Common.{◌≡◌, ℕ, zero, suc, ◌+◌, ◌-◌, ◌*◌, ◌<◌, ◌≤◌, cond, ◌&&◌, ltb, List, [], ◌∷◌, ◌++◌, length, get_or, drop, set, sym, refl, ap, ◌∙◌, append_assoc, zero-le, add-one, arith, length-append, length-set, drop_of_length-le, drop-cons, le-ltb, lt-ltb, le-leb}
-use borrow.Author.Tests.{lt-leb}
+use Rattle.std.proofs.Common.{◌≡◌, ℕ, zero, suc, ◌+◌, ◌-◌, ◌*◌, ◌<◌, ◌≤◌, cond, ◌&&◌, Bool, true, false, ltb, w32, List, [], ◌∷◌, ◌++◌, length, get_or, drop, set, sym, refl, ap, ◌∙◌, append_assoc, zero-le, add-one, arith, length-append, length-set, drop_of_length-le, drop-cons, le-ltb, lt-ltb}
+use Rattle.std.specs.Int.{from_be_bytes}
 use lib.ListN.{get_or-eq_default}
 use lib.Seq.{set_at}
 use Rattle.program_io.specs.Bytes.{word_at, words_of}
 use Rattle.program_io.specs.Decimal.{is_digit, digits_after}
 
-pub word-is : (l : List ℕ) (at : ℕ) {a b c d x y z : ℕ} → a ≡ get_or l (at + 0) 0 → b ≡ get_or l (at + 1) 0 → c ≡ get_or l (at + 2) 0
-    → d ≡ get_or l (at + 3) 0 → x ≡ a * 256 + b → y ≡ x * 256 + c → z ≡ y * 256 + d → z ≡ word_at l at
+pub word-is : (l : List ℕ) (at : ℕ) {a b c d v : ℕ} → a ≡ get_or l at 0 → b ≡ get_or l (at + 1) 0 → c ≡ get_or l (at + 2) 0
+    → d ≡ get_or l (at + 3) 0 → v ≡ from_be_bytes w32 (a ∷ b ∷ c ∷ d ∷ []) → v ≡ word_at l at
 unfolding word_at
-word-is l at e f g h u v w =
-    let k = ap (λ n. get_or l n 0) (let t : at + 0 ≡ at = omega arith in t) in
-    w ∙ (λ i. (v ∙ (λ j. (u ∙ λ m. (e ∙ k) m * 256 + f m) j * 256 + g j)) i * 256 + h i)
+word-is l at {a} {b} {c} {d} e f g h w =
+    let k : a * 16777216 + b * 65536 + c * 256 + d ≡ ((a * 256 + b) * 256 + c) * 256 + d = omega arith in
+    w ∙ k ∙ (λ i. ((e i * 256 + f i) * 256 + g i) * 256 + h i)
 
 pub word-past : (l : List ℕ) (at : ℕ) → length l ≤ at → 0 ≡ word_at l at
 unfolding word_at
@@ -77,30 +77,23 @@ pub digits-end : {n i : ℕ} {text : List ℕ} → Digits text n i → length te
 unfolding digits_after
 digits-end {n} {i} {text} d h = sym (ap (digits_after n) (drop_of_length-le text h)) ∙ d.rest
 
-module _ {n i b : ℕ} {text : List ℕ} (d : Digits text n i) (h : i < length text) (r : b ≡ get_or text i 0) where
-  here : digits_after n (drop i text) ≡ cond (is_digit b && ltb n 100000000) (digits_after (n * 10 + (b - 48)) (drop (suc i) text)) 0
+module _ {n i : ℕ} {text : List ℕ} {r : Bool} (d : Digits text n i) (h : i < length text) (e : r ≡ is_digit (get_or text i 0)) where
+  here : digits_after n (drop i text) ≡ cond (r && ltb n 100000000) (digits_after (n * 10 + (get_or text i 0 - 48)) (drop (suc i) text)) 0
   unfolding digits_after
   here =
       ap (digits_after n) (drop-cons text i 0 h)
-      ∙ ap (λ x. cond (is_digit x && ltb n 100000000) (digits_after (n * 10 + (x - 48)) (drop (suc i) text)) 0) (sym r)
+      ∙ ap (λ x. cond (x && ltb n 100000000) (digits_after (n * 10 + (get_or text i 0 - 48)) (drop (suc i) text)) 0) (sym e)
 
-  pub low-stops : b < 48 → 0 ≡ digits_after 0 text
-  unfolding is_digit
-  low-stops l = sym (here ∙ rw (lt-leb 48 b l)) ∙ d.rest
+  pub other-stops : r ≡ false → 0 ≡ digits_after 0 text
+  other-stops f = sym (here ∙ rw f) ∙ d.rest
 
-  pub high-stops : 48 ≤ b → 57 < b → 0 ≡ digits_after 0 text
-  unfolding is_digit
-  high-stops l g = sym (here ∙ rw (le-leb 48 b l, lt-leb b 57 g)) ∙ d.rest
+  pub long-stops : r ≡ true → 99999999 < n → 0 ≡ digits_after 0 text
+  long-stops t m = sym (here ∙ rw (t, le-ltb n 100000000 (omega arith))) ∙ d.rest
 
-  pub long-stops : 48 ≤ b → b ≤ 57 → 99999999 < n → 0 ≡ digits_after 0 text
-  unfolding is_digit
-  long-stops l g m = sym (here ∙ rw (le-leb 48 b l, le-leb b 57 g, le-ltb n 100000000 (omega arith))) ∙ d.rest
-
-  pub digit-again : 48 ≤ b → b ≤ 57 → n ≤ 99999999 → Digits text (n * 10 + (b - 48)) (i + 1)
-  unfolding is_digit
-  digit-again l g m =
+  pub digit-again : r ≡ true → n ≤ 99999999 → Digits text (n * 10 + (get_or text i 0 - 48)) (i + 1)
+  digit-again t m =
       record {
         rest =
-            ap (λ k. digits_after (n * 10 + (b - 48)) (drop k text)) (add-one i)
-            ∙ sym (here ∙ rw (le-leb 48 b l, le-leb b 57 g, lt-ltb n 100000000 (omega arith))) ∙ d.rest;
+            ap (λ k. digits_after (n * 10 + (get_or text i 0 - 48)) (drop k text)) (add-one i)
+            ∙ sym (here ∙ rw (t, lt-ltb n 100000000 (omega arith))) ∙ d.rest;
       }

@@ -2,6 +2,10 @@
 use Rattle.std.specs.Prelude.{◌≡◌, ℕ, zero, suc, ◌+◌, ◌-◌, ◌*◌, ◌/◌, ◌%◌, min, cond, List, [], ◌∷◌, ◌++◌, length, ℤ, pos, negsuc, nat_lt, slice_index}
 use Rattle.std.proofs.lemmas.List.Edits.{sets}
 
+-- a byte as a list of its own
+abbrev pub itself : ℕ → List ℕ
+itself b = b ∷ []
+
 -- a number as n bytes, the most significant first, and the least significant first
 unfoldable pub big_endian : ℕ → ℕ → List ℕ
 big_endian zero v = []

@@ -5,294 +5,111 @@
 mod burst;
 mod calls;
 mod naming;
+mod port;
 mod record;
 mod settings;
 
-use calls::Session;
-use panel::{Fresh, Panel};
-use program_io::Port;
-use record::{Fault, Record};
-use settings::LONGEST;
-
-// The output, and how much of it is used before it goes out: no record writes more than the rest.
-const OUT: usize = 131072;
-
-const USED: usize = 32768;
-
-// How much of the input is taken in at once.
-const INPUT: usize = 65536;
+use base_answer::Answered;
+use panel::{Core, Panel};
+use port::Port;
+use record::{Kind, Record};
+use settings::Area;
 
 // The items of the longest record: two lists of names.
 const DATA: usize = 2097152;
 
-fn relieved(rt: &HostRuntime, p: Port, out: &[u8]) -> Port {
-    if p.used < USED {
-        return p;
+// The next record, behind what was written; nothing follows output that is lost, or a fault, which is told. Where standard
+// error takes nothing there is no other place to tell it.
+fn following(rt: &HostRuntime, port: &mut Port, data: &mut [u8]) -> Option<Record> {
+    port.relieve(rt);
+    if port.is_lost() {
+        return None;
     }
-    program_io::flushed(rt, p, out)
-}
-
-// Where standard error takes nothing there is no other place to tell it.
-fn told(rt: &HostRuntime, words: &str, at: u64) {
-    let _ = eprintln!(rt; "replay: {words}, in the record at byte {at}");
-}
-
-fn explained(rt: &HostRuntime, fault: Fault, at: u64) {
-    match fault {
-        Fault::Whole => {}
-        Fault::Unknown => told(rt, "unknown code", at),
-        Fault::Outside => told(rt, "a field outside its range", at),
-        Fault::Cut => told(rt, "the input is cut", at),
-        Fault::Unread => told(rt, "the input cannot be read", at),
+    let start = port.taken();
+    match record::read(rt, port, data) {
+        Ok(next) => next,
+        Err(fault) => {
+            let _ = eprintln!(rt; "replay: {fault}, in the record at byte {start}");
+            None
+        }
     }
 }
 
-// The next record. A fault is told, and then the input counts as ended.
-fn following(
-    rt: &HostRuntime,
-    p: Port,
-    input: &mut [u8],
-    out: &[u8],
-    data: &mut [u8; DATA],
-) -> Record {
-    let start = p.taken;
-    let mut r = record::read(rt, p, input, out, data);
-    let fault = r.fault;
-    if !record::is_whole(fault) {
-        explained(rt, fault, start);
-        r.ended = true;
-    }
-    r
-}
-
-// The same behind what was written; nothing follows output that is lost.
-fn behind(
-    rt: &HostRuntime,
-    p: Port,
-    input: &mut [u8],
-    out: &[u8],
-    data: &mut [u8; DATA],
-) -> Record {
-    let q = relieved(rt, p, out);
-    if q.lost {
-        return record::none(q);
-    }
-    following(rt, q, input, out, data)
-}
-
-// Where a piece is: its panel, the record that follows, and how long the settings area is.
-#[derive(Clone, Copy)]
-struct Progress {
-    session: Session,
-    record: Record,
-    length: usize,
-}
-
-// Whether a piece is over: the input ends, or another fresh start follows.
-fn is_over(r: Record) -> bool {
-    r.ended || r.code == b'F'
-}
-
-// One record on, lent the first bytes of `area`.
-fn carried_on<'a>(
-    rt: &HostRuntime,
-    at: Progress,
-    code: &'a [u64],
-    vals: &'a [f32],
-    area: &mut [u8],
-    input: &mut [u8],
-    out: &mut [u8],
-    data: &mut [u8; DATA],
-) -> Progress {
-    let r = at.record;
-    let s = at.session;
-    let mut p = r.port;
-    let done = calls::carry_out(s, code, vals, r, data, area, at.length, out, p.used);
-    let after = done.session;
-    p.used = done.used;
-    let following = behind(rt, p, input, out, data);
-    Progress {
-        session: after,
-        record: following,
-        length: settings::length_after(r.code, r.count, at.length),
-    }
-}
-
-// The records up to the next fresh start, on one panel. A proved loop has to end: it counts down from a number that no run uses up.
+// The records up to the next fresh start, which is the answer, on one panel or on none. A proved loop has to end: it counts to
+// a number that no run reaches.
 fn piece<'a>(
     rt: &HostRuntime,
-    first: Progress,
+    first: Option<Core>,
     code: &'a [u64],
     vals: &'a [f32],
-    area: &mut [u8; LONGEST],
-    input: &mut [u8],
-    out: &mut [u8],
-    data: &mut [u8; DATA],
-) -> Progress {
-    let mut at = first;
-    let mut left = u64::MAX;
-    while left > 0 {
-        let r = at.record;
-        if is_over(r) {
-            return at;
+    area: &mut Area,
+    port: &mut Port,
+    data: &mut [u8],
+) -> Option<Record> {
+    let mut core = first;
+    for _ in 0..u64::MAX {
+        let r = following(rt, port, data)?;
+        if r.kind == Kind::Fresh {
+            return Some(r);
         }
-        at = carried_on(rt, at, code, vals, area, input, out, data);
-        left -= 1;
+        core = calls::carry_out(core, code, vals, r, data, area, port);
     }
-    at
+    None
 }
 
-// A panel's code beside the records on it.
+// A panel's code beside the records on it; a refused start leaves no panel.
 fn with_panel(
     rt: &HostRuntime,
-    f: Fresh,
-    port: Port,
-    length: usize,
-    area: &mut [u8; LONGEST],
-    input: &mut [u8],
-    out: &mut [u8],
-    data: &mut [u8; DATA],
-) -> Progress {
+    f: Answered<Panel>,
+    area: &mut Area,
+    port: &mut Port,
+    data: &mut [u8],
+) -> Option<Record> {
     let answer = f.answer;
-    let panel = f.panel;
+    let panel = f.left;
     let parted = Panel::split(panel);
-    let core = parted.core;
-    let following = behind(rt, port, input, out, data);
-    let first = Progress {
-        session: Session {
-            core: core,
-            present: base_answer::is_taken(answer),
-        },
-        record: following,
-        length: length,
-    };
-    piece(
-        rt,
-        first,
-        &parted.code,
-        &parted.vals,
-        area,
-        input,
-        out,
-        data,
-    )
+    let core = base_answer::is_taken(answer).then_some(parted.core);
+    piece(rt, core, &parted.code, &parted.vals, area, port, data)
 }
 
-// Behind its settings record stands its orchestra, so many bytes.
-fn fresh_of(handed: &[u8], rest: &[u8], count: usize, chosen: u16, area: &mut [u8]) -> Fresh {
-    if count <= rest.len() {
-        return Panel::fresh(&rest[..count], area, handed, chosen);
-    }
-    Panel::fresh(rest, area, handed, chosen)
-}
-
-// Its settings record is the first bytes of `data`.
-fn fresh(r: Record, data: &[u8], area: &mut [u8]) -> Fresh {
-    let n = r.first as usize;
-    let count = r.count as usize;
-    if n <= data.len() {
-        return fresh_of(&data[..n], &data[n..], count, r.symbol, area);
-    }
-    fresh_of(data, b"", count, r.symbol, area)
-}
-
-// A fresh start, and how much of the output is used behind its answer and the settings area.
-#[derive(Clone, Copy)]
-struct Begun {
-    fresh: Fresh,
-    used: usize,
-}
-
-fn answered(r: Record, data: &[u8], area: &mut [u8], out: &mut [u8], used: usize) -> Begun {
-    let f = fresh(r, data, area);
-    let a = f.answer;
-    let one = calls::put_answer(out, used, a);
-    Begun {
-        fresh: f,
-        used: program_io::put_bytes(out, one, area),
-    }
-}
-
-// It is lent the first `length` bytes of `area`.
-fn lent(
-    r: Record,
-    data: &[u8],
-    area: &mut [u8],
-    length: usize,
-    out: &mut [u8],
-    used: usize,
-) -> Begun {
-    if length <= area.len() {
-        return answered(r, data, &mut area[..length], out, used);
-    }
-    answered(r, data, area, out, used)
-}
-
-// The records on its panel.
+// A fresh start, its answer and the settings area, and the records on its panel.
 fn started(
     rt: &HostRuntime,
     r: Record,
-    length: usize,
-    area: &mut [u8; LONGEST],
-    input: &mut [u8],
-    out: &mut [u8],
-    data: &mut [u8; DATA],
-) -> Progress {
-    let mut p = r.port;
-    let b = lent(r, data, area, length, out, p.used);
-    let f = b.fresh;
-    p.used = b.used;
-    with_panel(rt, f, p, length, area, input, out, data)
+    area: &mut Area,
+    port: &mut Port,
+    data: &mut [u8],
+) -> Option<Record> {
+    let (handed, orchestra, _) = r.parts(data);
+    let lent = area.lent();
+    let f = Panel::fresh(orchestra, lent, handed, r.symbol);
+    let a = f.answer;
+    port.put_answer(a);
+    port.put_bytes(lent);
+    with_panel(rt, f, area, port, data)
 }
 
-// Before the first fresh start a refused one's panel stands in, and no call reaches it.
-fn run(
-    rt: &HostRuntime,
-    area: &mut [u8; LONGEST],
-    input: &mut [u8],
-    out: &mut [u8],
-    data: &mut [u8; DATA],
-) -> Port {
-    let none = Panel::fresh(b"", area, b"", 0);
-    let mut n = with_panel(
-        rt,
-        none,
-        program_io::opened(),
-        settings_records::AREA,
-        area,
-        input,
-        out,
-        data,
-    );
-    let mut left = u64::MAX;
-    while left > 0 {
-        let r = n.record;
-        if r.ended {
-            return r.port;
+fn run(rt: &HostRuntime, area: &mut Area, port: &mut Port, data: &mut [u8]) {
+    let mut next = piece(rt, None, &[], &[], area, port, data);
+    for _ in 0..u64::MAX {
+        match next {
+            Some(r) => next = started(rt, r, area, port, data),
+            None => return,
         }
-        n = started(rt, r, n.length, area, input, out, data);
-        left -= 1;
     }
-    let r = n.record;
-    r.port
 }
 
 fn items_buffer() -> [u8; DATA] {
     [0; DATA]
 }
 
-fn out_buffer() -> [u8; OUT] {
-    [0; OUT]
-}
-
 fn main(rt: HostRuntime) {
-    let mut area = [settings::MARK; LONGEST];
-    let mut input = [0u8; INPUT];
-    let mut out = out_buffer();
+    let mut area = Area::marked();
+    let mut port = Port::opened();
     let mut data = items_buffer();
-    let p = run(&rt, &mut area, &mut input, &mut out, &mut data);
-    let q = program_io::flushed(&rt, p, &out);
-    if q.lost {
+    run(&rt, &mut area, &mut port, &mut data);
+    port.flush(&rt);
+    if port.is_lost() {
         let _ = eprintln!(rt; "replay: the output cannot be written");
     }
 }

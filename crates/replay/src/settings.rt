@@ -1,85 +1,62 @@
 // The settings area that the filter holds and lends: another one is put there, a record joins those in use, the last one goes out of use.
-use crate::calls;
-use crate::calls::{Done, Session};
-use panel::{Core, CoreResult};
+use crate::port::Port;
+use base_answer::Answered;
+use panel::Core;
 
 // The longest area that can be put there.
-pub const LONGEST: usize = 8192;
+const LONGEST: usize = 8192;
 
 // What the area holds at first.
-pub const MARK: u8 = 90;
+const MARK: u8 = 90;
 
-pub fn concerns(code: u8) -> bool {
-    match code {
-        b'A' | b'G' | b'Z' => true,
-        _ => false,
+// The first `length` bytes are lent.
+#[derive(Drop)]
+pub struct Area {
+    bytes: [u8; LONGEST],
+    length: usize,
+}
+
+impl Area {
+    pub fn marked() -> Area {
+        Area {
+            bytes: [MARK; LONGEST],
+            length: settings_records::AREA,
+        }
+    }
+
+    pub fn lent(&mut self) -> &mut [u8] {
+        let n = self.length.min(LONGEST);
+        &mut self.bytes[..n]
+    }
+
+    // Another area is put there.
+    pub fn replace(&mut self, bytes: &[u8]) {
+        program_io::put_bytes(&mut self.bytes, 0, bytes);
+        self.length = bytes.len();
     }
 }
 
-// How long the area is behind a record: only `A` puts another there.
-pub fn length_after(code: u8, count: u32, length: usize) -> usize {
-    if code == b'A' {
-        return count as usize;
-    }
-    length
-}
-
-fn put_result(r: CoreResult, area: &[u8], out: &mut [u8], used: usize) -> Done {
+fn put_result(r: Answered<Core>, area: &[u8], port: &mut Port) -> Core {
     let a = r.answer;
-    let after = r.core;
-    let one = calls::put_answer(out, used, a);
-    let two = calls::put_missed(out, one, after);
-    let next = program_io::put_bytes(out, two, area);
-    calls::left(after, true, next)
+    let after = r.left;
+    port.put_answer(a);
+    port.put_missed(after);
+    port.put_bytes(area);
+    after
 }
 
-fn changed(core: Core, area: &mut [u8], handed: &[u8], out: &mut [u8], used: usize) -> Done {
+pub fn changed(core: Core, area: &mut [u8], handed: &[u8], port: &mut Port) -> Core {
     let r = Core::change(core, area, handed);
-    put_result(r, area, out, used)
+    put_result(r, area, port)
+}
+
+pub fn undone(core: Core, area: &[u8], port: &mut Port) -> Core {
+    put_result(Core::undo(core, area), area, port)
 }
 
 // Without a panel: 255, no missed notes, and the area as it was lent.
-fn absent(area: &[u8], out: &mut [u8], used: usize) -> usize {
-    let one = program_io::put_byte(out, used, 255);
-    let two = program_io::put_long(out, one, 0);
-    program_io::put_bytes(out, two, area)
-}
-
-// A change or an undo, lent the area.
-fn called(
-    s: Session,
-    code: u8,
-    handed: &[u8],
-    area: &mut [u8],
-    out: &mut [u8],
-    used: usize,
-) -> Done {
-    let core = s.core;
-    if !s.present {
-        return calls::left(core, false, absent(area, out, used));
-    }
-    if code == b'G' {
-        return changed(core, area, handed, out, used);
-    }
-    put_result(Core::undo(core, area), area, out, used)
-}
-
-pub fn carried_out(
-    s: Session,
-    code: u8,
-    bytes: &[u8],
-    area: &mut [u8],
-    length: usize,
-    out: &mut [u8],
-    used: usize,
-) -> Done {
-    let core = s.core;
-    if code == b'A' {
-        program_io::put_bytes(area, 0, bytes);
-        return calls::left(core, s.present, used);
-    }
-    if length <= area.len() {
-        return called(s, code, bytes, &mut area[..length], out, used);
-    }
-    called(s, code, bytes, area, out, used)
+pub fn absent(area: &[u8], port: &mut Port) {
+    port.put_byte(255);
+    port.put_long(0);
+    port.put_bytes(area);
 }

@@ -36,10 +36,8 @@ pub fn put_slot(area: &mut [u32], at: usize, slot: [u32; SLOT])
     requires { at + slot_words ≤ length area.old }
     ensures { SlotPut area.old at slot area.new }
 {
-    let mut i: usize = 0;
-    while i < SLOT {
+    for i in 0..SLOT {
         area[at + i] = slot[i];
-        i += 1;
     }
 }
 
@@ -50,13 +48,11 @@ fn fill(bytes: &[u8], area: &mut [u32], start: Cursor)
 {
     let n = start.left;
     let mut c = start;
-    let mut i: usize = 0;
-    while i < n {
+    for i in 0..n {
         let step = score_reader::next(bytes, c);
         let line = step.line;
         put_slot(area, SLOT * i, score_line_writer::line_slot(line));
         c = step.rest;
-        i += 1;
     }
 }
 

@@ -10,9 +10,7 @@ ghost use Rattle.score_line.specs.inside.Reading.{number_is, real_is, when_is, l
 ghost use Rattle.score_line.specs.Reading.{blank_line, refused_line};
 
 use base_answer::Answer;
-use base_bitstream::FieldRead;
-use base_formats::Fault;
-use base_timebase::Checked;
+use base_formats::{Fault, Source};
 
 // The numbers of the line types.
 pub const INSTR: u32 = 0;
@@ -71,6 +69,7 @@ pub struct Line {
 }
 
 // What reading a line gives: the answer, the line, and the position past it. On refusal a blank line and 0.
+// Kept: a refused line stands as a blank one in an area of slots, and `Answer` has `Taken`, so that a `Result` of it could say `Err(Taken)`.
 #[derive(Clone, Copy)]
 pub struct LineRead {
     pub answer: Answer,
@@ -87,77 +86,35 @@ pub enum Range {
     Value,
 }
 
-// What reading a part of a line gives: the part and the position past it, or the first fault.
-#[derive(Clone, Copy)]
-pub enum IntegerRead {
-    Of(u32, usize),
-    Refused(Fault),
-}
-
-#[derive(Clone, Copy)]
-pub enum FloatRead {
-    Of(f32, usize),
-    Refused(Fault),
-}
-
-#[derive(Clone, Copy)]
-pub enum WhenRead {
-    Of(When, usize),
-    Refused(Fault),
-}
-
-#[derive(Clone, Copy)]
-pub enum LabelRead {
-    Of(Label, usize),
-    Refused(Fault),
-}
-
-#[derive(Clone, Copy)]
-pub enum EventRead {
-    Of(Event, usize),
-    Refused(Fault),
-}
-
 // The next number of a line: a field of `width` bits, or the next of the keypad's numbers.
-pub fn number_at(bytes: &[u8], words: &[u32], keypad: bool, at: usize, width: usize) -> IntegerRead
-    ensures { number_is result ≡ number_from (source_of bytes.now words.now keypad) width at }
+pub fn number_at(source: Source, at: usize, width: usize) -> Result<(u32, usize), Fault>
+    ensures { number_is result ≡ number_from (source_of source.entry) width at }
 {
-    if keypad {
-        if at < words.len() {
-            return IntegerRead::Of(words[at], at + 1);
+    match source {
+        Source::Bits(bytes) => base_bitstream::read(bytes, at, width).ok_or(Fault::CutShort),
+        Source::Keypad(words) => {
+            if at < words.len() {
+                Ok((words[at], at + 1))
+            } else {
+                Err(Fault::CutShort)
+            }
         }
-        return IntegerRead::Refused(Fault::CutShort);
-    }
-    match base_bitstream::read(bytes, at, width) {
-        FieldRead::Value(v, next) => IntegerRead::Of(v, next),
-        FieldRead::Short => IntegerRead::Refused(Fault::CutShort),
     }
 }
 
 // A number that is at most `most`: a flag, or a symbol.
-pub fn small_at(
-    bytes: &[u8],
-    words: &[u32],
-    keypad: bool,
-    at: usize,
-    width: usize,
-    most: u32,
-) -> IntegerRead
-    ensures { number_is result ≡ small_from (source_of bytes.now words.now keypad) width most at }
+pub fn small_at(source: Source, at: usize, width: usize, most: u32) -> Result<(u32, usize), Fault>
+    ensures { number_is result ≡ small_from (source_of source.entry) width most at }
 {
-    match number_at(bytes, words, keypad, at, width) {
-        IntegerRead::Of(v, next) => {
-            if v <= most {
-                IntegerRead::Of(v, next)
-            } else {
-                IntegerRead::Refused(Fault::OutOfRange)
-            }
-        }
-        IntegerRead::Refused(f) => IntegerRead::Refused(f),
+    let (v, next) = number_at(source, at, width)?;
+    if v <= most {
+        Ok((v, next))
+    } else {
+        Err(Fault::OutOfRange)
     }
 }
 
-fn in_range(range: Range, b: u32) -> Checked
+fn in_range(range: Range, b: u32) -> Option<f32>
     ensures { result ≡ checked (in_range range b) b }
 {
     match range {
@@ -168,161 +125,113 @@ fn in_range(range: Range, b: u32) -> Checked
     }
 }
 
-pub fn float_at(bytes: &[u8], words: &[u32], keypad: bool, at: usize, range: Range) -> FloatRead
-    ensures { real_is result ≡ float_from (source_of bytes.now words.now keypad) range at }
+pub fn float_at(source: Source, at: usize, range: Range) -> Result<(f32, usize), Fault>
+    ensures { real_is result ≡ float_from (source_of source.entry) range at }
 {
-    match number_at(bytes, words, keypad, at, 32) {
-        IntegerRead::Of(b, next) => match in_range(range, b) {
-            Checked::Value(x) => FloatRead::Of(x, next),
-            Checked::Outside => FloatRead::Refused(Fault::OutOfRange),
+    let (b, next) = number_at(source, at, 32)?;
+    let x = in_range(range, b).ok_or(Fault::OutOfRange)?;
+    Ok((x, next))
+}
+
+fn timed_at(source: Source, at: usize) -> Result<(When, usize), Fault>
+    ensures { when_is result ≡ timed_from (source_of source.entry) at }
+{
+    let (late, p) = small_at(source, at, 1, 1)?;
+    let (time, q) = float_at(source, p, Range::Time)?;
+    Ok((
+        When::Timed {
+            use_if_late: late == 1,
+            time,
         },
-        IntegerRead::Refused(f) => FloatRead::Refused(f),
+        q,
+    ))
+}
+
+pub fn when_at(source: Source, at: usize) -> Result<(When, usize), Fault>
+    ensures { when_is result ≡ when_from (source_of source.entry) at }
+{
+    let (has_time, p) = small_at(source, at, 1, 1)?;
+    if has_time == 1 {
+        timed_at(source, p)
+    } else {
+        Ok((When::Untimed, p))
     }
 }
 
-fn timed_at(bytes: &[u8], words: &[u32], keypad: bool, at: usize) -> WhenRead
-    ensures { when_is result ≡ timed_from (source_of bytes.now words.now keypad) at }
+fn label_at(source: Source, at: usize) -> Result<(Label, usize), Fault>
+    ensures { label_is result ≡ label_from (source_of source.entry) at }
 {
-    match small_at(bytes, words, keypad, at, 1, 1) {
-        IntegerRead::Of(late, p) => match float_at(bytes, words, keypad, p, Range::Time) {
-            FloatRead::Of(time, q) => WhenRead::Of(
-                When::Timed {
-                    use_if_late: late == 1,
-                    time: time,
-                },
-                q,
-            ),
-            FloatRead::Refused(f) => WhenRead::Refused(f),
+    let (has_label, p) = small_at(source, at, 1, 1)?;
+    if has_label == 1 {
+        let (label, q) = small_at(source, p, 16, 65535)?;
+        Ok((Label::Labelled(label as u16), q))
+    } else {
+        Ok((Label::Unlabelled, p))
+    }
+}
+
+fn instr_at(source: Source, at: usize) -> Result<(Event, usize), Fault>
+    ensures { event_is result ≡ instr_from (source_of source.entry) at }
+{
+    let (label, p) = label_at(source, at)?;
+    let (instrument, q) = small_at(source, p, 16, 65535)?;
+    let (duration, r) = float_at(source, q, Range::Duration)?;
+    Ok((
+        Event::Instr {
+            label,
+            instrument: instrument as u16,
+            duration,
         },
-        IntegerRead::Refused(f) => WhenRead::Refused(f),
-    }
-}
-
-pub fn when_at(bytes: &[u8], words: &[u32], keypad: bool, at: usize) -> WhenRead
-    ensures { when_is result ≡ when_from (source_of bytes.now words.now keypad) at }
-{
-    match small_at(bytes, words, keypad, at, 1, 1) {
-        IntegerRead::Of(has_time, p) => {
-            if has_time == 1 {
-                timed_at(bytes, words, keypad, p)
-            } else {
-                WhenRead::Of(When::Untimed, p)
-            }
-        }
-        IntegerRead::Refused(f) => WhenRead::Refused(f),
-    }
-}
-
-fn label_at(bytes: &[u8], words: &[u32], keypad: bool, at: usize) -> LabelRead
-    ensures { label_is result ≡ label_from (source_of bytes.now words.now keypad) at }
-{
-    match small_at(bytes, words, keypad, at, 1, 1) {
-        IntegerRead::Of(has_label, p) => {
-            if has_label == 1 {
-                match small_at(bytes, words, keypad, p, 16, 65535) {
-                    IntegerRead::Of(label, q) => LabelRead::Of(Label::Labelled(label as u16), q),
-                    IntegerRead::Refused(f) => LabelRead::Refused(f),
-                }
-            } else {
-                LabelRead::Of(Label::Unlabelled, p)
-            }
-        }
-        IntegerRead::Refused(f) => LabelRead::Refused(f),
-    }
-}
-
-fn instr_at(bytes: &[u8], words: &[u32], keypad: bool, at: usize) -> EventRead
-    ensures { event_is result ≡ instr_from (source_of bytes.now words.now keypad) at }
-{
-    match label_at(bytes, words, keypad, at) {
-        LabelRead::Of(label, p) => match small_at(bytes, words, keypad, p, 16, 65535) {
-            IntegerRead::Of(instrument, q) => match float_at(
-                bytes,
-                words,
-                keypad,
-                q,
-                Range::Duration,
-            ) {
-                FloatRead::Of(duration, r) => EventRead::Of(
-                    Event::Instr {
-                        label: label,
-                        instrument: instrument as u16,
-                        duration: duration,
-                    },
-                    r,
-                ),
-                FloatRead::Refused(f) => EventRead::Refused(f),
-            },
-            IntegerRead::Refused(f) => EventRead::Refused(f),
-        },
-        LabelRead::Refused(f) => EventRead::Refused(f),
-    }
+        r,
+    ))
 }
 
 // A control line from its label on.
-fn labelled_at(bytes: &[u8], words: &[u32], keypad: bool, at: usize) -> EventRead
-    ensures { event_is result ≡ labelled_from (source_of bytes.now words.now keypad) at }
+fn labelled_at(source: Source, at: usize) -> Result<(Event, usize), Fault>
+    ensures { event_is result ≡ labelled_from (source_of source.entry) at }
 {
-    match small_at(bytes, words, keypad, at, 16, 65535) {
-        IntegerRead::Of(label, p) => match small_at(bytes, words, keypad, p, 16, 65535) {
-            IntegerRead::Of(variable, q) => match float_at(bytes, words, keypad, q, Range::Value) {
-                FloatRead::Of(value, r) => EventRead::Of(
-                    Event::Control {
-                        label: label as u16,
-                        variable: variable as u16,
-                        value: value,
-                    },
-                    r,
-                ),
-                FloatRead::Refused(f) => EventRead::Refused(f),
-            },
-            IntegerRead::Refused(f) => EventRead::Refused(f),
+    let (label, p) = small_at(source, at, 16, 65535)?;
+    let (variable, q) = small_at(source, p, 16, 65535)?;
+    let (value, r) = float_at(source, q, Range::Value)?;
+    Ok((
+        Event::Control {
+            label: label as u16,
+            variable: variable as u16,
+            value,
         },
-        IntegerRead::Refused(f) => EventRead::Refused(f),
+        r,
+    ))
+}
+
+fn control_at(source: Source, at: usize) -> Result<(Event, usize), Fault>
+    ensures { event_is result ≡ control_from (source_of source.entry) at }
+{
+    let (has_label, p) = small_at(source, at, 1, 1)?;
+    if has_label == 1 {
+        labelled_at(source, p)
+    } else {
+        Err(Fault::NotCarried)
     }
 }
 
-fn control_at(bytes: &[u8], words: &[u32], keypad: bool, at: usize) -> EventRead
-    ensures { event_is result ≡ control_from (source_of bytes.now words.now keypad) at }
+fn tempo_at(source: Source, at: usize) -> Result<(Event, usize), Fault>
+    ensures { event_is result ≡ tempo_from (source_of source.entry) at }
 {
-    match small_at(bytes, words, keypad, at, 1, 1) {
-        IntegerRead::Of(has_label, p) => {
-            if has_label == 1 {
-                labelled_at(bytes, words, keypad, p)
-            } else {
-                EventRead::Refused(Fault::NotCarried)
-            }
-        }
-        IntegerRead::Refused(f) => EventRead::Refused(f),
-    }
-}
-
-fn tempo_at(bytes: &[u8], words: &[u32], keypad: bool, at: usize) -> EventRead
-    ensures { event_is result ≡ tempo_from (source_of bytes.now words.now keypad) at }
-{
-    match float_at(bytes, words, keypad, at, Range::Tempo) {
-        FloatRead::Of(tempo, p) => EventRead::Of(Event::Tempo(tempo), p),
-        FloatRead::Refused(f) => EventRead::Refused(f),
-    }
+    let (tempo, p) = float_at(source, at, Range::Tempo)?;
+    Ok((Event::Tempo(tempo), p))
 }
 
 // The event of a line's type.
-pub fn event_at(bytes: &[u8], words: &[u32], keypad: bool, at: usize, kind: u32) -> EventRead
-    ensures { event_is result ≡ event_from (source_of bytes.now words.now keypad) kind at }
+pub fn event_at(source: Source, at: usize, kind: u32) -> Result<(Event, usize), Fault>
+    ensures { event_is result ≡ event_from (source_of source.entry) kind at }
 {
-    if kind == INSTR {
-        return instr_at(bytes, words, keypad, at);
+    match kind {
+        INSTR => instr_at(source, at),
+        CONTROL => control_at(source, at),
+        END => Ok((Event::End, at)),
+        TEMPO => tempo_at(source, at),
+        _ => Err(Fault::NotCarried),
     }
-    if kind == CONTROL {
-        return control_at(bytes, words, keypad, at);
-    }
-    if kind == END {
-        return EventRead::Of(Event::End, at);
-    }
-    if kind == TEMPO {
-        return tempo_at(bytes, words, keypad, at);
-    }
-    EventRead::Refused(Fault::NotCarried)
 }
 
 // A line for places that hold none.

@@ -16,7 +16,7 @@ use Rattle.base_formats.specs.Format.{Source, Read, got, refused, and_then, numb
 use Rattle.base_formats.specs.Description.{choose, pair, format}
 use Rattle.base_formats.specs.declared.Fault.{Fault}
 use Rattle.base_formats.specs.declared.Fault.TheVariants as fault
-use Rattle.score_line.specs.inside.Reading.{number_is, real_is, when_is, event_is, small_from, float_from, when_from, event_from, values_from, as_event, with_values, after_count, after_event, after_when}
+use Rattle.score_line.specs.inside.Reading.{part_is, small_from, float_from, when_from, event_from, values_from, as_event, with_values, after_count, after_event, after_when}
 use Rattle.score_line.specs.Reading.{line_from, answer_of, refused_line, line_read, whole_run, line_in_words, keypad_line}
 use Rattle.score_line.specs.declared.When.{When}
 use Rattle.score_line.specs.declared.Label.{Label}
@@ -25,15 +25,7 @@ use Rattle.score_line.specs.declared.Event.TheVariants.{Instr, Control, End, Tem
 use Rattle.score_line.specs.declared.Line.{Line}
 use Rattle.score_line.specs.declared.LineRead.{LineRead}
 use Rattle.score_line.specs.declared.Range.TheVariants as range
-use Rattle.score_line.specs.declared.IntegerRead.{IntegerRead}
-use Rattle.score_line.specs.declared.IntegerRead.TheVariants as number
-use Rattle.score_line.specs.declared.FloatRead.{FloatRead}
-use Rattle.score_line.specs.declared.FloatRead.TheVariants as real
-use Rattle.score_line.specs.declared.WhenRead.{WhenRead}
-use Rattle.score_line.specs.declared.WhenRead.TheVariants as when-read
-use Rattle.score_line.specs.declared.EventRead.{EventRead}
-use Rattle.score_line.specs.declared.EventRead.TheVariants as event-read
-use Rattle.score_line.proofs.Parts.{matched}
+use Rattle.std.specs.Prelude.{Result, Ok, Err}
 use Rattle.score_line.specs.LineFormat.{number as count, instr, control, end, tempo, Kind, Body, Values, type_of, kinds, kind, body, event_of, counted, values, line_with, zero_float, padded, after_time, parts, line}
 
 pub then-then : {A B C : Type 0} (x : Read A) (f : A → ℕ → Read B) (k : B → ℕ → Read C) → and_then (and_then x f) k ≡ and_then x (λ a p. and_then (f a p) k)
@@ -79,28 +71,26 @@ module _ (s : Source) (w : When) (b : Bool) (e : Event) where
       let k : 8 - i ≡ suc (8 - suc i) = omega arith in
       ap (λ (j : ℕ). drop j values) (sym (add-one i)) ∙ sym (drop-drop 1 i values) ∙ ap (drop 1) (z ∙ ap (λ (j : ℕ). replicate j zero_float) k)
 
-  pub again : (n at p i q : ℕ) (values : List Float) (x : Float) {r : FloatRead} → n ≤ 8 → Filling n at values p i → i < n → real_is r ≡ float_from s range.Value p → r ≡ real.Of x q
+  pub again : (n at p i q : ℕ) (values : List Float) (x : Float) → n ≤ 8 → Filling n at values p i → i < n → got x q ≡ float_from s range.Value p
       → Filling n at (set values i x) q (i + 1)
-  again n at p i q values x h f l g k =
+  again n at p i q values x h f l g =
       let t = take-suc-set values i x (omega (arith, f.long)) in
       let m : n - i ≡ suc (n - (i + 1)) = omega arith in
       record {
         within = omega arith;
         long = length-set values i x ∙ f.long;
         rest = cc (add-one i, drop-set-lt (suc i) values i x (omega arith), zeros-on values i (omega arith) f.long f.rest);
-        same = rw (add-one i, t) (sym (step n (take i values) (n - suc i) p q x (matched real_is g k)) ∙ rw (m, add-one i) at f.same);
+        same = rw (add-one i, t) (sym (step n (take i values) (n - suc i) p q x (sym g)) ∙ rw (m, add-one i) at f.same);
       }
 
-  pub stops : (n at p i : ℕ) (values : List Float) (g : Fault) {r : FloatRead} {x : LineRead} → Filling n at values p i → i < n → real_is r ≡ float_from s range.Value p → r ≡ real.Refused g
-      → x ≡ refused_line (answer_of g) → x ≡ line_read (with_values w b e n (values_from s n at))
-  unfolding line_read
-  stops n at p i values g f l h k y =
+  pub stops : (n at p i : ℕ) (values : List Float) {g : Fault} → Filling n at values p i → i < n → refused g ≡ float_from s range.Value p → refused g ≡ with_values w b e n (values_from s n at)
+  stops n at p i values {g} f l h =
       let m : n - i ≡ suc (n - (i + 1)) = omega arith in
-      y ∙ ap line_read (sym (stop n (take i values) (n - (i + 1)) p g (matched real_is h k)) ∙ rw m at f.same)
+      sym (stop n (take i values) (n - (i + 1)) p g (sym h)) ∙ rw m at f.same
 
   pub ends : (n at p i : ℕ) (values : List Float) → n ≤ 8 → Filling n at values p i → n ≤ i
-      → record { answer = answer.Taken; line = record { when = w; priority = b; event = e; count = n; values = values }; next = p } ≡ line_read (with_values w b e n (values_from s n at))
-  unfolding line_read padded
+      → got (record { when = w; priority = b; event = e; count = n; values = values }) p ≡ with_values w b e n (values_from s n at)
+  unfolding padded
   ends n at p i values h f l =
       let m : n - i ≡ 0 = omega arith in
       let o : i ≡ n = omega (arith, f.within) in
@@ -108,46 +98,42 @@ module _ (s : Source) (w : When) (b : Bool) (e : Event) where
       let v : take n values ++ replicate (8 - length (take n values)) zero_float ≡ values =
       ap (λ (j : ℕ). take n values ++ replicate (8 - j) zero_float) t ∙ ap (λ (d : List Float). take n values ++ d) (sym (ap (λ (j : ℕ). drop j values) (sym o) ∙ f.rest ∙ ap (λ (j : ℕ). replicate (8 - j) zero_float) o)) ∙ take-append-drop n values in
       sym (
-      sym (ap line_read (ap (λ (j : ℕ). onward w b e n (take i values) (values_from s j p)) (sym m) ∙ f.same))
-      ∙ ap (λ (d : List Float). line_read (got (with w b e n d) p)) (append-nil (take i values) ∙ ap (λ (j : ℕ). take j values) o)
-      ∙ ap (λ (d : List Float). record { answer = answer.Taken; line = record { when = w; priority = b; event = e; count = n; values = d }; next = p }) v)
+      sym (ap (λ (j : ℕ). onward w b e n (take i values) (values_from s j p)) (sym m) ∙ f.same)
+      ∙ ap (λ (d : List Float). got (with w b e n d) p) (append-nil (take i values) ∙ ap (λ (j : ℕ). take j values) o)
+      ∙ ap (λ (d : List Float). got (record { when = w; priority = b; event = e; count = n; values = d }) p) v)
 
   -- ---- the number of values
 
-  pub counted-in : (at k p : ℕ) {n : IntegerRead} {x : LineRead} → number_is n ≡ number_from s 8 at → n ≡ number.Of k p → k ≤ 8
-      → x ≡ line_read (with_values w b e k (values_from s k p)) → x ≡ line_read (after_count s w b e at)
+  pub counted-in : (at k p : ℕ) (x : Read Line) → got k p ≡ number_from s 8 at → k ≤ 8
+      → x ≡ with_values w b e k (values_from s k p) → x ≡ after_count s w b e at
   unfolding after_count counted count with_values
-  counted-in at k p f g h y = y ∙ ap line_read (sym (rw (matched number_is f g, le-leb _ _ h)
-      (then-then (values_from s k p) (λ xs q. got (k, xs) q) (λ x q. got (with w b e x.0 x.1) q))))
+  counted-in at k p x g h y = y ∙ sym (rw (sym g, le-leb _ _ h)
+      (then-then (values_from s k p) (λ xs q. got (k, xs) q) (λ x q. got (with w b e x.0 x.1) q)))
 
-  pub counted-many : (at k p : ℕ) {n : IntegerRead} {x : LineRead} → number_is n ≡ number_from s 8 at → n ≡ number.Of k p → 8 < k
-      → x ≡ refused_line (answer_of fault.TooManyValues) → x ≡ line_read (after_count s w b e at)
-  unfolding after_count counted count line_read with_values
-  counted-many at k p f g h y = y ∙ sym (rw (matched number_is f g, lt-leb _ _ h))
+  pub counted-many : (at k p : ℕ) → got k p ≡ number_from s 8 at → 8 < k → refused fault.TooManyValues ≡ after_count s w b e at
+  unfolding after_count counted count with_values
+  counted-many at k p g h = sym (rw (sym g, lt-leb _ _ h))
 
-  pub counted-no : (at : ℕ) (c : Fault) {n : IntegerRead} {x : LineRead} → number_is n ≡ number_from s 8 at → n ≡ number.Refused c
-      → x ≡ refused_line (answer_of c) → x ≡ line_read (after_count s w b e at)
-  unfolding after_count counted count line_read with_values
-  counted-no at c f g y = y ∙ sym (rw (matched number_is f g))
+  pub counted-no : (at : ℕ) {c : Fault} → refused c ≡ number_from s 8 at → refused c ≡ after_count s w b e at
+  unfolding after_count counted count with_values
+  counted-no at g = sym (rw (sym g))
 
 -- ---- past the event
 
 module _ (s : Source) (w : When) (b : Bool) (at : ℕ) (e : Event) where
-  pub event-instr : (l : Label) (i : ℕ) (d : Float) {x : LineRead} → e ≡ Instr l i d → x ≡ line_read (after_count s w b e at) → x ≡ line_read (after_event s w b e at)
+  pub event-instr : (l : Label) (i : ℕ) (d : Float) (x : Read Line) → e ≡ Instr l i d → x ≡ after_count s w b e at → x ≡ after_event s w b e at
   unfolding after_event values after_count with_values
-  event-instr l i d f y = y ∙ sym (rw f)
+  event-instr l i d x f y = y ∙ sym (rw f)
 
-  pub event-control : (l i : ℕ) (d : Float) {x : LineRead} → e ≡ Control l i d → x ≡ line_read (with_values w b e 0 (got [] at)) → x ≡ line_read (after_event s w b e at)
+  pub event-other : (x : Read Line) → ((l : Label) (i : ℕ) (d : Float) → e ≡ Instr l i d → ⊥) → x ≡ with_values w b e 0 (got [] at) → x ≡ after_event s w b e at
   unfolding after_event values with_values
-  event-control l i d f y = y ∙ sym (rw f)
-
-  pub event-end : {x : LineRead} → e ≡ End → x ≡ line_read (with_values w b e 0 (got [] at)) → x ≡ line_read (after_event s w b e at)
-  unfolding after_event values with_values
-  event-end f y = y ∙ sym (rw f)
-
-  pub event-tempo : (t : Float) {x : LineRead} → e ≡ Tempo t → x ≡ line_read (with_values w b e 0 (got [] at)) → x ≡ line_read (after_event s w b e at)
-  unfolding after_event values with_values
-  event-tempo t f y = y ∙ sym (rw f)
+  event-other x f y = y ∙ go e f
+    where
+      go : (k : Event) → ((l : Label) (i : ℕ) (d : Float) → k ≡ Instr l i d → ⊥) → with_values w b k 0 (got [] at) ≡ after_event s w b k at
+      go (Instr l i d) f = absurd (f l i d refl)
+      go (Control l i d) f = refl
+      go End f = refl
+      go (Tempo t) f = refl
 
 -- ---- priority, type, event
 
@@ -202,39 +188,32 @@ after-when s w at = go (small_from s 1 1 at)
     go (got v p) = type-after s w (eqb v 1) p
     go (refused f) = refl
 
-module _ (s : Source) (w : When) (at : ℕ) where
-  pub line-event : (b p k q t : ℕ) (e : Event) {n m : IntegerRead} {r : EventRead} {x : LineRead} → number_is n ≡ small_from s 1 1 at → n ≡ number.Of b p
-      → number_is m ≡ number_from s 3 p → m ≡ number.Of k q → event_is r ≡ event_from s k q → r ≡ event-read.Of e t
-      → x ≡ line_read (after_event s w (eqb b 1) e t) → x ≡ line_read (after_when s w at)
-  line-event b p k q t e f g h i j l y = y ∙ sym (ap line_read (after-when s w at) ∙ rw (matched number_is f g, matched number_is h i, matched event_is j l))
+module _ (s : Source) (w : When) (at b p : ℕ) (f : got b p ≡ small_from s 1 1 at) where
+  module _ (k q : ℕ) (h : got k q ≡ number_from s 3 p) where
+    pub line-event : (t : ℕ) (e : Event) (x : Read Line) → got e t ≡ event_from s k q → x ≡ after_event s w (eqb b 1) e t → x ≡ after_when s w at
+    line-event t e x j y = y ∙ sym (after-when s w at ∙ rw (sym f, sym h, sym j))
 
-  pub line-event-no : (b p k q : ℕ) (c : Fault) {n m : IntegerRead} {r : EventRead} {x : LineRead} → number_is n ≡ small_from s 1 1 at → n ≡ number.Of b p
-      → number_is m ≡ number_from s 3 p → m ≡ number.Of k q → event_is r ≡ event_from s k q → r ≡ event-read.Refused c
-      → x ≡ refused_line (answer_of c) → x ≡ line_read (after_when s w at)
-  unfolding line_read
-  line-event-no b p k q c f g h i j l y = y ∙ sym (ap line_read (after-when s w at) ∙ rw (matched number_is f g, matched number_is h i, matched event_is j l))
+    pub line-event-no : {c : Fault} → refused c ≡ event_from s k q → refused c ≡ after_when s w at
+    line-event-no j = sym (after-when s w at ∙ rw (sym f, sym h, sym j))
 
-  pub line-type-no : (b p : ℕ) (c : Fault) {n m : IntegerRead} {x : LineRead} → number_is n ≡ small_from s 1 1 at → n ≡ number.Of b p
-      → number_is m ≡ number_from s 3 p → m ≡ number.Refused c → x ≡ refused_line (answer_of c) → x ≡ line_read (after_when s w at)
-  unfolding line_read
-  line-type-no b p c f g h i y = y ∙ sym (ap line_read (after-when s w at) ∙ rw (matched number_is f g, matched number_is h i))
+  pub line-type-no : {c : Fault} → refused c ≡ number_from s 3 p → refused c ≡ after_when s w at
+  line-type-no h = sym (after-when s w at ∙ rw (sym f, sym h))
 
-  pub line-priority-no : (c : Fault) {n : IntegerRead} {x : LineRead} → number_is n ≡ small_from s 1 1 at → n ≡ number.Refused c → x ≡ refused_line (answer_of c) → x ≡ line_read (after_when s w at)
-  unfolding line_read
-  line-priority-no c f g y = y ∙ sym (ap line_read (after-when s w at) ∙ rw (matched number_is f g))
+pub line-priority-no : (s : Source) (w : When) (at : ℕ) {c : Fault} → refused c ≡ small_from s 1 1 at → refused c ≡ after_when s w at
+line-priority-no s w at f = sym (after-when s w at ∙ rw (sym f))
 
 module _ (s : Source) (at : ℕ) where
-  pub line-when : (w : When) (p : ℕ) {r : WhenRead} {x : LineRead} → when_is r ≡ when_from s at → r ≡ when-read.Of w p → x ≡ line_read (after_when s w p) → x ≡ line_read (line_from s at)
+  pub line-when : (w : When) (p : ℕ) (x : Read Line) → got w p ≡ when_from s at → x ≡ after_when s w p → x ≡ line_from s at
   unfolding line parts after_when
-  line-when w p f g y = y ∙ sym (rw (matched when_is f g) (ap line_read (joins ((format after_time).from s p))))
+  line-when w p x f y = y ∙ sym (rw (sym f) (joins ((format after_time).from s p)))
     where
       joins : (x : Read (Bool × ((k : Kind) × (Body k × Values k)))) → and_then (and_then x (λ y q. got (w, y) q)) (λ y q. got (line_with y) q) ≡ and_then x (λ y q. got (line_with (w, y)) q)
       joins (got y q) = refl
       joins (refused f) = refl
 
-  pub line-when-no : (c : Fault) {r : WhenRead} {x : LineRead} → when_is r ≡ when_from s at → r ≡ when-read.Refused c → x ≡ refused_line (answer_of c) → x ≡ line_read (line_from s at)
-  unfolding line parts line_read
-  line-when-no c f g y = y ∙ sym (rw (matched when_is f g))
+  pub line-when-no : {c : Fault} → refused c ≡ when_from s at → refused c ≡ line_from s at
+  unfolding line parts
+  line-when-no f = sym (rw (sym f))
 
 -- ---- a whole keypad line
 

@@ -6,13 +6,11 @@ ghost use Rattle.base_bitstream.specs.Bits.{bits_of};
 ghost use Rattle.base_formats.specs.inside.Source.{source_of};
 ghost use Rattle.base_formats.specs.Format.{got};
 ghost use Rattle.score_line.specs.Reading.{answer_of, line_from, refused_line, line_read, line_at, line_in_words, keypad_line};
-ghost use Rattle.score_line.specs.inside.Reading.{values_from, with_values, after_count, after_event, after_when};
+ghost use Rattle.score_line.specs.inside.Reading.{part_is, values_from, with_values, after_count, after_event, after_when};
 
 use base_answer::Answer;
-use base_formats::Fault;
-use score_line::{
-    Event, EventRead, FloatRead, IntegerRead, Line, LineRead, Range, When, WhenRead, number_at,
-};
+use base_formats::{Fault, Source};
+use score_line::{Event, Line, LineRead, Range, When};
 
 fn answer_of(f: Fault) -> Answer
     ensures { result ≡ answer_of f }
@@ -33,143 +31,111 @@ fn faulty(f: Fault) -> LineRead
 
 // A line with the n values that stand next.
 fn values_line(
-    bytes: &[u8],
-    words: &[u32],
-    keypad: bool,
+    source: Source,
     at: usize,
     n: usize,
     when: When,
     priority: bool,
     event: Event,
-) -> LineRead
+) -> Result<(Line, usize), Fault>
     requires { n ≤ 8 }
-    ensures { result ≡ line_read (with_values when priority event n (values_from (source_of bytes.now words.now keypad) n at)) }
+    ensures { part_is result ≡ with_values when priority event n (values_from (source_of source.entry) n at) }
 {
     let mut values = [0.0f32; 8];
     let mut p = at;
-    let mut i: usize = 0;
-    while i < n {
-        match score_line::float_at(bytes, words, keypad, p, Range::Value) {
-            FloatRead::Of(x, q) => {
-                values[i] = x;
-                p = q;
-            }
-            FloatRead::Refused(f) => {
-                return faulty(f);
-            }
-        }
-        i += 1;
+    for i in 0..n {
+        let (x, q) = score_line::float_at(source, p, Range::Value)?;
+        values[i] = x;
+        p = q;
     }
-    LineRead {
-        answer: Answer::Taken,
-        line: Line {
-            when: when,
-            priority: priority,
-            event: event,
+    Ok((
+        Line {
+            when,
+            priority,
+            event,
             count: n,
-            values: values,
+            values,
         },
-        next: p,
-    }
+        p,
+    ))
 }
 
 fn counted_line(
-    bytes: &[u8],
-    words: &[u32],
-    keypad: bool,
+    source: Source,
     at: usize,
     when: When,
     priority: bool,
     event: Event,
-) -> LineRead
-    ensures { result ≡ line_read (after_count (source_of bytes.now words.now keypad) when priority event at) }
+) -> Result<(Line, usize), Fault>
+    ensures { part_is result ≡ after_count (source_of source.entry) when priority event at }
 {
-    match number_at(bytes, words, keypad, at, 8) {
-        IntegerRead::Of(n, p) => {
-            if 8 < n {
-                faulty(Fault::TooManyValues)
-            } else {
-                values_line(bytes, words, keypad, p, n as usize, when, priority, event)
-            }
-        }
-        IntegerRead::Refused(f) => faulty(f),
+    let (n, p) = score_line::number_at(source, at, 8)?;
+    if 8 < n {
+        Err(Fault::TooManyValues)
+    } else {
+        values_line(source, p, n as usize, when, priority, event)
     }
 }
 
-fn no_values(at: usize, when: When, priority: bool, event: Event) -> LineRead
-    ensures { result ≡ line_read (with_values when priority event 0 (got [] at)) }
+fn no_values(at: usize, when: When, priority: bool, event: Event) -> (Line, usize)
+    ensures { got result.0 result.1 ≡ with_values when priority event 0 (got [] at) }
 {
-    LineRead {
-        answer: Answer::Taken,
-        line: Line {
-            when: when,
-            priority: priority,
-            event: event,
+    (
+        Line {
+            when,
+            priority,
+            event,
             count: 0,
             values: [0.0f32; 8],
         },
-        next: at,
-    }
+        at,
+    )
 }
 
 // From past the event on: an instr line has values.
 fn after_event(
-    bytes: &[u8],
-    words: &[u32],
-    keypad: bool,
+    source: Source,
     at: usize,
     when: When,
     priority: bool,
     event: Event,
-) -> LineRead
-    ensures { result ≡ line_read (after_event (source_of bytes.now words.now keypad) when priority event at) }
+) -> Result<(Line, usize), Fault>
+    ensures { part_is result ≡ after_event (source_of source.entry) when priority event at }
 {
     match event {
-        Event::Instr {
-            label: _,
-            instrument: _,
-            duration: _,
-        } => counted_line(bytes, words, keypad, at, when, priority, event),
-        Event::Control {
-            label: _,
-            variable: _,
-            value: _,
-        } => no_values(at, when, priority, event),
-        Event::End => no_values(at, when, priority, event),
-        Event::Tempo(_) => no_values(at, when, priority, event),
+        Event::Instr { .. } => counted_line(source, at, when, priority, event),
+        _ => Ok(no_values(at, when, priority, event)),
     }
 }
 
-fn after_when(bytes: &[u8], words: &[u32], keypad: bool, at: usize, when: When) -> LineRead
-    ensures { result ≡ line_read (after_when (source_of bytes.now words.now keypad) when at) }
+fn after_when(source: Source, at: usize, when: When) -> Result<(Line, usize), Fault>
+    ensures { part_is result ≡ after_when (source_of source.entry) when at }
 {
-    match score_line::small_at(bytes, words, keypad, at, 1, 1) {
-        IntegerRead::Of(priority, p) => match number_at(bytes, words, keypad, p, 3) {
-            IntegerRead::Of(kind, q) => match score_line::event_at(bytes, words, keypad, q, kind) {
-                EventRead::Of(event, r) => after_event(
-                    bytes,
-                    words,
-                    keypad,
-                    r,
-                    when,
-                    priority == 1,
-                    event,
-                ),
-                EventRead::Refused(f) => faulty(f),
-            },
-            IntegerRead::Refused(f) => faulty(f),
-        },
-        IntegerRead::Refused(f) => faulty(f),
-    }
+    let (priority, p) = score_line::small_at(source, at, 1, 1)?;
+    let (kind, q) = score_line::number_at(source, p, 3)?;
+    let (event, r) = score_line::event_at(source, q, kind)?;
+    after_event(source, r, when, priority == 1, event)
 }
 
 // The one reader of lines, from bits or from keypad numbers.
-fn line_from(bytes: &[u8], words: &[u32], keypad: bool, at: usize) -> LineRead
-    ensures { result ≡ line_read (line_from (source_of bytes.now words.now keypad) at) }
+fn line_from(source: Source, at: usize) -> Result<(Line, usize), Fault>
+    ensures { part_is result ≡ line_from (source_of source.entry) at }
 {
-    match score_line::when_at(bytes, words, keypad, at) {
-        WhenRead::Of(when, p) => after_when(bytes, words, keypad, p, when),
-        WhenRead::Refused(f) => faulty(f),
+    let (when, p) = score_line::when_at(source, at)?;
+    after_when(source, p, when)
+}
+
+// What the calls give of it.
+fn told(read: Result<(Line, usize), Fault>) -> LineRead
+    ensures { result ≡ line_read (part_is read) }
+{
+    match read {
+        Ok((line, next)) => LineRead {
+            answer: Answer::Taken,
+            line,
+            next,
+        },
+        Err(f) => faulty(f),
     }
 }
 
@@ -177,16 +143,14 @@ fn line_from(bytes: &[u8], words: &[u32], keypad: bool, at: usize) -> LineRead
 pub fn line_at(bytes: &[u8], at: usize) -> LineRead
     ensures { result ≡ line_at (bits_of bytes.now) at }
 {
-    let none = [0u32; 1];
-    line_from(bytes, &none, false, at)
+    told(line_from(Source::Bits(bytes), at))
 }
 
 // A line somewhere among keypad numbers.
 pub fn line_in_words(words: &[u32], at: usize) -> LineRead
     ensures { result ≡ line_in_words words.now at }
 {
-    let none = [0u8; 1];
-    line_from(&none, words, true, at)
+    told(line_from(Source::Keypad(words), at))
 }
 
 // A keypad line: the whole run of numbers.

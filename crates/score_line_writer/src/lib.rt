@@ -133,12 +133,10 @@ fn with_floats(f: Fields, count: usize, values: [f32; MOST_VALUES]) -> Fields
     requires { Room f 8 }
     ensures { Joined f (map float (take count values)) 8 result }
 {
-    let n = base_numbers::at_most(count, MOST_VALUES);
+    let n = count.min(MOST_VALUES);
     let mut r = f;
-    let mut i: usize = 0;
-    while i < n {
+    for i in 0..n {
         r = with_field(r, 32, base_numbers::float_bits(values[i]));
-        i += 1;
     }
     r
 }
@@ -242,12 +240,10 @@ fn write_fields(
     ensures { Wrote (bits_of out.old) at (fields_in n widths values) (bits_of out.new) result }
 {
     let mut p = at;
-    let mut i: usize = 0;
-    while i < n {
+    for i in 0..n {
         let w = widths[i];
         base_bitstream::write(out, p, w, values[i]);
         p += w;
-        i += 1;
     }
     p
 }

@@ -10,8 +10,7 @@ use Rattle.base_answer.specs.Numbers.{is_taken}
 use Rattle.base_answer.specs.declared.Answer.TheVariants.{Taken, CutShort, NotCarried, LeftOver}
 use Rattle.base_bitstream.specs.Fields.{read_at}
 use Rattle.base_bitstream.specs.Filling.{filled}
-use Rattle.base_bitstream.specs.declared.FieldRead.{FieldRead}
-use Rattle.base_bitstream.specs.declared.FieldRead.TheVariants.{Value, Short}
+use Rattle.std.specs.Prelude.{Option, Some, None}
 use Rattle.base_formats.specs.Format.{bit_source, Read, got, refused}
 use Rattle.base_formats.specs.declared.Fault.{Fault}
 use Rattle.base_formats.specs.declared.Fault.TheVariants as fault
@@ -113,21 +112,21 @@ pub end-left : (bits : List Bool) (p : ℕ) {b : Bool} → b ≡ filled bits p �
 unfolding ended
 end-left bits p e f = sym (rw (sym e ∙ f))
 
-pub score-counted : (bits : List Bool) (n p : ℕ) {g : FieldRead} {r : ScoreRead} → g ≡ read_at bits 0 20 → g ≡ Value n p → r ≡ score_read_of (ended bits (lines_from bits n 0 p)) → r ≡ score_read_of (score_of bits)
+pub score-counted : (bits : List Bool) (n p : ℕ) {g : Option (ℕ × ℕ)} {r : ScoreRead} → g ≡ read_at bits 0 20 → g ≡ Some (n, p) → r ≡ score_read_of (ended bits (lines_from bits n 0 p)) → r ≡ score_read_of (score_of bits)
 unfolding score_of counted
-score-counted bits n p e f h = h ∙ ap (λ (y : FieldRead). score_read_of (counted bits y)) (sym f ∙ e)
+score-counted bits n p e f h = h ∙ ap (λ (y : Option (ℕ × ℕ)). score_read_of (counted bits y)) (sym f ∙ e)
 
-pub score-short : (bits : List Bool) {g : FieldRead} → g ≡ read_at bits 0 20 → g ≡ Short → record { answer = CutShort; line = 0 } ≡ score_read_of (score_of bits)
+pub score-short : (bits : List Bool) {g : Option (ℕ × ℕ)} → g ≡ read_at bits 0 20 → g ≡ None → record { answer = CutShort; line = 0 } ≡ score_read_of (score_of bits)
 unfolding score_of counted
-score-short bits e f = ap (λ (y : FieldRead). score_read_of (counted bits y)) (sym f ∙ e)
+score-short bits e f = ap (λ (y : Option (ℕ × ℕ)). score_read_of (counted bits y)) (sym f ∙ e)
 
 -- ---- the cursor
 
-pub first_counted : (bits : List Bool) (n p : ℕ) {g : FieldRead} → g ≡ read_at bits 0 20 → g ≡ Value n p → record { at = p; left = n } ≡ first_of bits
+pub first_counted : (bits : List Bool) (n p : ℕ) {g : Option (ℕ × ℕ)} → g ≡ read_at bits 0 20 → g ≡ Some (n, p) → record { at = p; left = n } ≡ first_of bits
 unfolding first_of
 first_counted bits n p e f = ap start_of (sym f ∙ e)
 
-pub first_short : (bits : List Bool) {g : FieldRead} → g ≡ read_at bits 0 20 → g ≡ Short → record { at = 0; left = 0 } ≡ first_of bits
+pub first_short : (bits : List Bool) {g : Option (ℕ × ℕ)} → g ≡ read_at bits 0 20 → g ≡ None → record { at = 0; left = 0 } ≡ first_of bits
 unfolding first_of
 first_short bits e f = ap start_of (sym f ∙ e)
 
@@ -150,15 +149,15 @@ pub whole-refused : (bits : List Bool) (r : LineRead) {a : Bool} → a ≡ is_ta
 unfolding whole_line
 whole-refused bits r e f = sym (rw (sym e ∙ f))
 
-pub unit-line : (bits : List Bool) (kind p : ℕ) {g : FieldRead} {r x : LineRead} → g ≡ read_at bits 0 2 → g ≡ Value kind p → kind ≡ 0 → r ≡ line_at bits p → x ≡ whole_line bits r → x ≡ unit_of bits
+pub unit-line : (bits : List Bool) (kind p : ℕ) {g : Option (ℕ × ℕ)} {r x : LineRead} → g ≡ read_at bits 0 2 → g ≡ Some (kind, p) → kind ≡ 0 → r ≡ line_at bits p → x ≡ whole_line bits r → x ≡ unit_of bits
 unfolding unit_of opened
 unit-line bits kind p e f z h k =
     k ∙ ap (whole_line bits) h ∙ sym (rw (sym e ∙ f, eq-eqb kind 0 z))
 
-pub unit-other : (bits : List Bool) (kind p : ℕ) {g : FieldRead} {x : LineRead} → g ≡ read_at bits 0 2 → g ≡ Value kind p → (kind ≡ 0 → ⊥) → x ≡ refused_line NotCarried → x ≡ unit_of bits
+pub unit-other : (bits : List Bool) (kind p : ℕ) {g : Option (ℕ × ℕ)} {x : LineRead} → g ≡ read_at bits 0 2 → g ≡ Some (kind, p) → (kind ≡ 0 → ⊥) → x ≡ refused_line NotCarried → x ≡ unit_of bits
 unfolding unit_of opened
 unit-other bits kind p e f z k = k ∙ sym (rw (sym e ∙ f, ne_eqb kind 0 z))
 
-pub unit-short : (bits : List Bool) {g : FieldRead} {x : LineRead} → g ≡ read_at bits 0 2 → g ≡ Short → x ≡ refused_line CutShort → x ≡ unit_of bits
+pub unit-short : (bits : List Bool) {g : Option (ℕ × ℕ)} {x : LineRead} → g ≡ read_at bits 0 2 → g ≡ None → x ≡ refused_line CutShort → x ≡ unit_of bits
 unfolding unit_of opened
 unit-short bits e f k = k ∙ ap (opened bits) (sym f ∙ e)

@@ -13,8 +13,7 @@ use Rattle.base_answer.specs.declared.Answer.TheVariants.{Taken, CutShort, NotCa
 use Rattle.base_answer.specs.Numbers.{is_taken}
 use Rattle.base_bitstream.specs.Fields.{read_at}
 use Rattle.base_bitstream.specs.Filling.{filled}
-use Rattle.base_bitstream.specs.declared.FieldRead.{FieldRead}
-use Rattle.base_bitstream.specs.declared.FieldRead.TheVariants.{Value, Short}
+use Rattle.std.specs.Prelude.{Option, Some, None}
 use Rattle.base_formats.specs.Format.{bit_source, Read, got, refused}
 use Rattle.score_line.specs.Reading.{line_from, line_at, line_read, refused_line, answer_of}
 use Rattle.score_line.specs.declared.Line.{Line}
@@ -31,14 +30,14 @@ pub record Accepted (bits : List Bool) (ls : List Line) : Type 0 where
   pub count : ℕ
   pub start : ℕ
   pub end : ℕ
-  pub counted-there : read_at bits 0 20 ≡ Value count start
+  pub counted-there : read_at bits 0 20 ≡ Some (count, start)
   pub lines-there : lines_from bits count 0 start ≡ all ls end
   pub filled-there : filled bits end ≡ true
 
 other : (a : Answer) (i : ℕ) (ls : List Line) → refused_score a i ≡ taken ls → is_taken a ≡ false → ⊥
 other a i ls e f = true≢false (ap (λ (s : Score). is_taken s.answer) (sym e) ∙ f)
 
-end_back : (bits : List Bool) (n p : ℕ) (ls : List Line) (x : Lines) → read_at bits 0 20 ≡ Value n p → lines_from bits n 0 p ≡ x → ended bits x ≡ taken ls → Accepted bits ls
+end_back : (bits : List Bool) (n p : ℕ) (ls : List Line) (x : Lines) → read_at bits 0 20 ≡ Some (n, p) → lines_from bits n 0 p ≡ x → ended bits x ≡ taken ls → Accepted bits ls
 unfolding ended
 end_back bits n p ls (faulty f i) g h e = absurd (other (answer_of f) i ls e (fault-not-taken f))
 end_back bits n p ls (all ms q) g h e =
@@ -46,10 +45,10 @@ end_back bits n p ls (all ms q) g h e =
     (λ f. record { count = n; start = p; end = q; counted-there = g; lines-there = h ∙ ap (λ (s : Score). all s.lines q) (rw f at e); filled-there = f })
     (λ f. absurd (other LeftOver 0 ls (rw f at e) refl))
 
-count-back : (bits : List Bool) (ls : List Line) (g : FieldRead) → read_at bits 0 20 ≡ g → counted bits g ≡ taken ls → Accepted bits ls
+count-back : (bits : List Bool) (ls : List Line) (g : Option (ℕ × ℕ)) → read_at bits 0 20 ≡ g → counted bits g ≡ taken ls → Accepted bits ls
 unfolding counted
-count-back bits ls (Value n p) h e = end_back bits n p ls (lines_from bits n 0 p) h refl e
-count-back bits ls Short h e = absurd (other CutShort 0 ls e refl)
+count-back bits ls (Some r) h e = end_back bits r.0 r.1 ls (lines_from bits r.0 0 r.1) h refl e
+count-back bits ls None h e = absurd (other CutShort 0 ls e refl)
 
 pub accepted : (bits : List Bool) (ls : List Line) → score_of bits ≡ taken ls → Accepted bits ls
 unfolding score_of
@@ -76,15 +75,15 @@ answered bits e = count (read_at bits 0 20) e
     end (all ms q) k = filling (filled bits q) ms k
     end (faulty f i) k = no_more (answer_of f) i (fault-not-taken f) k
 
-    count : (g : FieldRead) → (counted bits g).answer ≡ Taken → counted bits g ≡ taken (counted bits g).lines
-    count (Value n p) k = end (lines_from bits n 0 p) k
-    count Short k = no_more CutShort 0 refl k
+    count : (g : Option (ℕ × ℕ)) → (counted bits g).answer ≡ Taken → counted bits g ≡ taken (counted bits g).lines
+    count (Some r) k = end (lines_from bits r.0 0 r.1) k
+    count None k = no_more CutShort 0 refl k
 
 -- ---- an accepted unit's parts
 
 pub record Unit-accepted (bits : List Bool) (x : Line) (p : ℕ) : Type 0 where
   pub start : ℕ
-  pub opened-there : read_at bits 0 2 ≡ Value 0 start
+  pub opened-there : read_at bits 0 2 ≡ Some (0, start)
   pub line-there : line_from (bit_source bits) start ≡ got x p
   pub filled-there : filled bits p ≡ true
 
@@ -97,7 +96,7 @@ unfolding line_read
 same_line x y p q e = ap₂ (λ (l : Line) (n : ℕ). got l n) (ap (λ (r : LineRead). r.line) e) (ap (λ (r : LineRead). r.next) e)
 
 module _ (bits : List Bool) (x : Line) (p : ℕ) where
-  line-part : (start : ℕ) (r : Read Line) → read_at bits 0 2 ≡ Value 0 start → line_from (bit_source bits) start ≡ r → whole_line bits (line_read r) ≡ line_read (got x p) → Unit-accepted bits x p
+  line-part : (start : ℕ) (r : Read Line) → read_at bits 0 2 ≡ Some (0, start) → line_from (bit_source bits) start ≡ r → whole_line bits (line_read r) ≡ line_read (got x p) → Unit-accepted bits x p
   unfolding whole_line line_read
   line-part start (got y q) f g e =
       cases (filled bits q)
@@ -110,12 +109,12 @@ module _ (bits : List Bool) (x : Line) (p : ℕ) where
       let n = fault-not-taken a in
       absurd (no_line (answer_of a) x p n (whole-refused bits (refused_line (answer_of a)) refl (unfold refused_line in n) ∙ e))
 
-  open-part : (g : FieldRead) → read_at bits 0 2 ≡ g → opened bits g ≡ line_read (got x p) → Unit-accepted bits x p
+  open-part : (g : Option (ℕ × ℕ)) → read_at bits 0 2 ≡ g → opened bits g ≡ line_read (got x p) → Unit-accepted bits x p
   unfolding opened line_at
-  open-part (Value kind start) f e =
-      cases (eqb kind 0) (λ g. line-part start (line_from (bit_source bits) start) (f ∙ ap (λ (k : ℕ). Value k start) (eqb-true kind 0 g)) refl (rw g at e))
+  open-part (Some r) f e =
+      cases (eqb r.0 0) (λ g. line-part r.1 (line_from (bit_source bits) r.1) (f ∙ ap (λ (k : ℕ). Some (k, r.1)) (eqb-true r.0 0 g)) refl (rw g at e))
       (λ g. absurd (no_line NotCarried x p refl (rw g at e)))
-  open-part Short f e = absurd (no_line CutShort x p refl e)
+  open-part None f e = absurd (no_line CutShort x p refl e)
 
   pub unit-accepted : unit_of bits ≡ line_read (got x p) → Unit-accepted bits x p
   unfolding unit_of

@@ -5,8 +5,7 @@ use Rattle.base_answer.specs.declared.Answer.{Answer}
 use Rattle.base_answer.specs.declared.Answer.TheVariants.{Taken, CutShort, NotCarried, LeftOver}
 use Rattle.base_bitstream.specs.Fields.{read_at}
 use Rattle.base_bitstream.specs.Filling.{filled}
-use Rattle.base_bitstream.specs.declared.FieldRead.{FieldRead}
-use Rattle.base_bitstream.specs.declared.FieldRead.TheVariants.{Value, Short}
+use Rattle.std.specs.Prelude.{Option, Some, None}
 use Rattle.base_formats.specs.Format.{bit_source, Read, got, refused}
 use Rattle.base_formats.specs.declared.Fault.{Fault}
 use Rattle.score_line.specs.Reading.{line_from, line_at, refused_line, answer_of}
@@ -54,9 +53,9 @@ ended bits (all ls p) = cond (filled bits p) (taken ls) (refused_score LeftOver 
 ended bits (faulty f i) = refused_score (answer_of f) i
 
 -- the number of lines, then the lines
-unfoldable pub counted : List Bool → FieldRead → Score
-counted bits (Value n p) = ended bits (lines_from bits n 0 p)
-counted bits Short = refused_score CutShort 0
+unfoldable pub counted : List Bool → Option (ℕ × ℕ) → Score
+counted bits (Some r) = ended bits (lines_from bits r.0 0 r.1)
+counted bits None = refused_score CutShort 0
 
 unfoldable pub score_of : List Bool → Score
 score_of bits = counted bits (read_at bits 0 20)
@@ -68,9 +67,9 @@ unfoldable pub whole_line : List Bool → LineRead → LineRead
 whole_line bits r = cond (is_taken r.answer) (cond (filled bits r.next) r (refused_line LeftOver)) r
 
 -- two bits 00, then the line
-unfoldable pub opened : List Bool → FieldRead → LineRead
-opened bits (Value kind p) = cond (eqb kind 0) (whole_line bits (line_at bits p)) (refused_line NotCarried)
-opened bits Short = refused_line CutShort
+unfoldable pub opened : List Bool → Option (ℕ × ℕ) → LineRead
+opened bits (Some r) = cond (eqb r.0 0) (whole_line bits (line_at bits r.1)) (refused_line NotCarried)
+opened bits None = refused_line CutShort
 
 unfoldable pub unit_of : List Bool → LineRead
 unit_of bits = opened bits (read_at bits 0 2)

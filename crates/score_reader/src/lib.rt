@@ -7,7 +7,6 @@ ghost use Rattle.score_reader.specs.Score.{score_of, ended, lines_from, all, uni
 ghost use Rattle.score_reader.specs.inside.Walk.{score_read_of, first_of, next_of};
 
 use base_answer::Answer;
-use base_bitstream::FieldRead;
 use score_line::{Line, LineRead};
 
 // What reading a whole score gives: the answer, and the number of the line that it is about.
@@ -53,8 +52,7 @@ fn read_lines(s: &[u8], count: usize, start: usize) -> ScoreRead
     ensures { result ≡ score_read_of (ended (bits_of s.now) (lines_from (bits_of s.now) count 0 start)) }
 {
     let mut at = start;
-    let mut i: usize = 0;
-    while i < count {
+    for i in 0..count {
         let read = score_line_reader::line_at(s, at);
         let answer = read.answer;
         if base_answer::is_taken(answer) {
@@ -65,7 +63,6 @@ fn read_lines(s: &[u8], count: usize, start: usize) -> ScoreRead
                 line: i,
             };
         }
-        i += 1;
     }
     end_of(s, at)
 }
@@ -75,8 +72,8 @@ pub fn read_score(s: &[u8]) -> ScoreRead
     ensures { result ≡ score_read_of (score_of (bits_of s.now)) }
 {
     match base_bitstream::read(s, 0, 20) {
-        FieldRead::Value(n, p) => read_lines(s, n as usize, p),
-        FieldRead::Short => ScoreRead {
+        Some((n, p)) => read_lines(s, n as usize, p),
+        None => ScoreRead {
             answer: Answer::CutShort,
             line: 0,
         },
@@ -88,11 +85,11 @@ pub fn first(s: &[u8]) -> Cursor
     ensures { result ≡ first_of (bits_of s.now) }
 {
     match base_bitstream::read(s, 0, 20) {
-        FieldRead::Value(n, p) => Cursor {
+        Some((n, p)) => Cursor {
             at: p,
             left: n as usize,
         },
-        FieldRead::Short => Cursor { at: 0, left: 0 },
+        None => Cursor { at: 0, left: 0 },
     }
 }
 
@@ -108,7 +105,7 @@ pub fn next(s: &[u8], c: Cursor) -> Step
         line: line,
         rest: Cursor {
             at: read.next,
-            left: base_numbers::one_less(c.left),
+            left: c.left.saturating_sub(1),
         },
     }
 }
@@ -132,13 +129,13 @@ pub fn read_unit(s: &[u8]) -> LineRead
     ensures { result ≡ unit_of (bits_of s.now) }
 {
     match base_bitstream::read(s, 0, 2) {
-        FieldRead::Value(kind, p) => {
+        Some((kind, p)) => {
             if kind == 0 {
                 whole_line(s, score_line_reader::line_at(s, p))
             } else {
                 score_line::refused(Answer::NotCarried)
             }
         }
-        FieldRead::Short => score_line::refused(Answer::CutShort),
+        None => score_line::refused(Answer::CutShort),
     }
 }

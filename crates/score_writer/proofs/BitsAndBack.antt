@@ -11,7 +11,7 @@ use lib.Ieee.Fits.{and_l, and_r, and_i}
 use lib.Seq.{drop_at, drop-drop}
 use Rattle.base_bitstream.specs.Bits.{field}
 use Rattle.base_bitstream.specs.Fields.{farthest, read_at}
-use Rattle.base_bitstream.specs.declared.FieldRead.TheVariants.{Value}
+use Rattle.std.specs.Prelude.{Option, Some, None}
 use Rattle.base_bitstream.specs.Filling.{missing, filled, filled_up}
 use Rattle.base_bitstream.proofs.BitValues.{length-field}
 use Rattle.base_bitstream.proofs.Fields.{read_here, read_back}
@@ -111,7 +111,7 @@ module _ (w v : ℕ) (body : List Bool) where
 
   record Here : Type 0 where
     near : length whole ≤ farthest
-    first : read_at whole 0 w ≡ Value v (0 + w)
+    first : read_at whole 0 w ≡ Some (v, 0 + w)
     rest : drop (0 + w) whole ≡ body ++ zeros
     last : filled whole (0 + w + length body) ≡ true
 
@@ -127,7 +127,7 @@ module _ (w v : ℕ) (body : List Bool) where
       let m : missing (length (field w v ++ body)) < 8 = omega arith in
       record { near = near; first = r.0; rest = r.1; last = filled-here whole (0 + w + length body) (missing (length (field w v ++ body))) m d }
 
-  whole_back : (l : List Bool) (start p : ℕ) → length l % 8 ≡ 0 → read_at l 0 w ≡ Value v start → drop start l ≡ body ++ drop p l → p ≡ start + length body
+  whole_back : (l : List Bool) (start p : ℕ) → length l % 8 ≡ 0 → read_at l 0 w ≡ Some (v, start) → drop start l ≡ body ++ drop p l → p ≡ start + length body
       → filled l p ≡ true → l ≡ whole
   whole_back l start p h r b n f =
       let k = read_back l 0 w v start r in

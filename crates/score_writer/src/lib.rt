@@ -41,11 +41,8 @@ pub fn refused(answer: Answer, line: usize) -> WriteResult
 fn zero_from(words: &[u32], at: usize) -> bool
     ensures { result ≡ all_zero (drop at words.now) }
 {
-    let mut i = at;
-    while i < words.len() {
-        if words[i] == 0 {
-            i += 1;
-        } else {
+    for i in at..words.len() {
+        if words[i] != 0 {
             return false;
         }
     }
@@ -83,17 +80,10 @@ pub fn slot_at(area: &[u32], i: usize) -> LineRead
 pub fn first_fault(area: &[u32], n: usize) -> ScoreRead
     ensures { result ≡ area_fault area.now n 0 }
 {
-    let mut i: usize = 0;
-    while i < n {
-        let read = slot_at(area, i);
-        let answer = read.answer;
-        if base_answer::is_taken(answer) {
-            i += 1;
-        } else {
-            return ScoreRead {
-                answer: answer,
-                line: i,
-            };
+    for i in 0..n {
+        let answer = slot_at(area, i).answer;
+        if !base_answer::is_taken(answer) {
+            return ScoreRead { answer, line: i };
         }
     }
     ScoreRead {
@@ -114,12 +104,10 @@ fn lines_length(area: &[u32], n: usize) -> usize
     ensures { Short (length (lines_bits (area_lines area.now n 0))) (367 * n) result }
 {
     let mut total: usize = 0;
-    let mut i: usize = 0;
-    while i < n {
+    for i in 0..n {
         let read = slot_at(area, i);
         let line = read.line;
         total += line_length(line);
-        i += 1;
     }
     total
 }
@@ -130,12 +118,10 @@ fn write_lines(area: &[u32], n: usize, out: &mut [u8], start: usize) -> usize
     ensures { Laid (bits_of out.old) start (lines_bits (area_lines area.now n 0)) (bits_of out.new) result }
 {
     let mut p = start;
-    let mut i: usize = 0;
-    while i < n {
+    for i in 0..n {
         let read = slot_at(area, i);
         let line = read.line;
         p = score_line_writer::write_line(out, p, line);
-        i += 1;
     }
     p
 }

@@ -10,7 +10,7 @@ use Rattle.base_laws.proofs.Choice.{cond-false}
 use Rattle.base_answer.specs.Numbers.{is_taken}
 use Rattle.base_answer.specs.declared.Answer.{Answer}
 use Rattle.settings_records.specs.declared.Setting.{Setting}
-use Rattle.settings_records.specs.declared.Found.{Found}
+use Rattle.settings_records.specs.Form.{Found}
 use Rattle.settings_records.specs.Form.{setting, found, refused_as, Parses, cut_length, cut_record, length_zero, other_version, wrong_length, bad_number, valid, IsRecord, Records, none, next, ParsesRecords, all_valid, first_fault}
 use Rattle.settings_records.specs.inside.Reading.{found_in, walked, records_in}
 use Rattle.settings_records.specs.Claims.{EveryArea, OneMeaningRecords}

@@ -5,3 +5,4 @@ pub mod Meaning
 pub mod Areas
 pub mod Stack
 pub mod Sets
+pub mod Telling

@@ -13,7 +13,7 @@ use Rattle.base_laws.proofs.Choice.{both_true}
 use Rattle.base_answer.specs.Numbers.{is_taken}
 use Rattle.base_answer.specs.declared.Answer.TheVariants.{OutOfRange}
 use Rattle.settings_records.specs.declared.Setting.{Setting}
-use Rattle.settings_records.specs.declared.Found.{Found}
+use Rattle.settings_records.specs.Form.{Found}
 use Rattle.settings_records.specs.Form.{version_one, version_two, sixteen_bits, setting, version_one_tempo, Valid, found, refused_as, Body, first, second, Parses, cut_length, cut_record, length_zero, other_version, wrong_length, bad_number, valid}
 use Rattle.settings_records.specs.inside.Reading.{within_of, judged_of, of_version, behind_length, found_in}
 use Rattle.settings_records.specs.Claims.{EveryRecord, OneMeaning, ReadsBack}

@@ -6,9 +6,9 @@ use Prim.Native.Nat.{ℕ, suc, ◌+◌, ◌-◌}
 use native.Mathlib.Omega.{arith}
 use Rattle.base_laws.proofs.Choice.{cond-true}
 use Rattle.base_answer.specs.Numbers.{is_taken}
-use Rattle.settings_records.specs.declared.Found.{Found}
+use Rattle.settings_records.specs.Form.{Found}
 use Rattle.settings_records.specs.declared.InUse.{InUse}
-use Rattle.settings_records.specs.declared.Changed.{Changed}
+use Rattle.base_answer.specs.declared.Answered.{Answered}
 use Rattle.settings_records.specs.Form.{Valid, Parses, cut_length, cut_record, length_zero, other_version, wrong_length, bad_number, valid, next, ParsesRecords, all_valid, first_fault}
 use Rattle.settings_records.specs.inside.Reading.{found_in, records_in}
 use Rattle.settings_records.specs.Changes.{in_use, change_of, undo_of}
@@ -36,17 +36,17 @@ records-valid (first_fault r h i) t = absurd (true≢false (sym t ∙ fault-is i
 
 -- ---- what is in use afterwards
 
-pub change-sets : (k : InUse) (area handed : List ℕ) → is_taken (change_of k area handed).answer ≡ true → (change_of k area handed).settings ≡ in_use (k.count + 1) (found_in handed).setting
+pub change-sets : (k : InUse) (area handed : List ℕ) → is_taken (change_of k area handed).answer ≡ true → (change_of k area handed).left ≡ in_use (k.count + 1) (found_in handed).setting
 unfolding change_of
 change-sets k area handed t =
     let c = changed-taken k area handed t in
-    ap (λ (x : Changed). x.settings) (cond-true _ _ c) ∙ ap (λ (x : Found). in_use (k.count + 1) x.setting) (change-joins k.count area handed c).gives
+    ap (λ (x : Answered InUse). x.left) (cond-true _ _ c) ∙ ap (λ (x : Found). in_use (k.count + 1) x.setting) (change-joins k.count area handed c).gives
 
 pub change-valid : (k : InUse) (area handed : List ℕ) → is_taken (change_of k area handed).answer ≡ true → Valid (found_in handed).setting
 change-valid k area handed t =
     found-valid handed (ap (λ (x : Found). is_taken x.answer) (change-joins k.count area handed (changed-taken k area handed t)).new)
 
-pub undo-sets : (k : InUse) (area : List ℕ) → is_taken (undo_of k area).answer ≡ true → (undo_of k area).settings ≡ in_use (k.count - 1) (records_in (k.count - 1) area).setting
+pub undo-sets : (k : InUse) (area : List ℕ) → is_taken (undo_of k area).answer ≡ true → (undo_of k area).left ≡ in_use (k.count - 1) (records_in (k.count - 1) area).setting
 undo-sets k area t = (undone k area t).gives
 
 -- the records that are then in use

@@ -12,9 +12,9 @@ use Rattle.base_laws.proofs.Choice.{cond-true, cond-false}
 use Rattle.base_answer.specs.Numbers.{is_taken}
 use Rattle.base_answer.specs.declared.Answer.TheVariants.{Taken, NoRoom, NothingToUndo}
 use Rattle.settings_records.specs.declared.Setting.{Setting}
-use Rattle.settings_records.specs.declared.Found.{Found}
+use Rattle.settings_records.specs.Form.{Found}
 use Rattle.settings_records.specs.declared.InUse.{InUse}
-use Rattle.settings_records.specs.declared.Changed.{Changed}
+use Rattle.base_answer.specs.declared.Answered.{Answered}
 use Rattle.settings_records.specs.Form.{setting, found, Parses, IsRecord, Records, none, next}
 use Rattle.settings_records.specs.inside.Reading.{found_in, records_in}
 use Rattle.settings_records.specs.Changes.{area_bytes, laid_at, changing, in_use, changed, none_in_use, change_of, area_changed, undo_of}
@@ -92,9 +92,9 @@ module _ (records : List (List ℕ)) (l : Store) (s : Stands records l) where
         area =
             cond-true _ _ c ∙ (λ i. laid_at (place i) handed (s.area i))
             ∙ laid-behind (laid records) handed s.rest;
-        count = ap (λ (x : Changed). x.settings.count) (cond-true _ _ c) ∙ omega (arith, s.count);
+        count = ap (λ (x : Answered InUse). x.left.count) (cond-true _ _ c) ∙ omega (arith, s.count);
         all = (((found_in handed).setting, subst (Parses handed) j.new (every-record handed)), s.all);
-        settings = ap (λ (x : Changed). x.settings.last) (cond-true _ _ c) ∙ ap (λ (x : Found). x.setting) j.gives;
+        settings = ap (λ (x : Answered InUse). x.left.last) (cond-true _ _ c) ∙ ap (λ (x : Found). x.setting) j.gives;
       }
 
 -- ---- both ways of a test that is taken
@@ -116,19 +116,19 @@ module _ {A : Type 0} (f : A → Bool) (x y : A) where
 pub record Undone (k : InUse) (area : List ℕ) : Type 0 where
   pub several : 2 ≤ k.count
   pub stands : is_taken (records_in k.count area).answer ≡ true
-  pub gives : (undo_of k area).settings ≡ in_use (k.count - 1) (records_in (k.count - 1) area).setting
+  pub gives : (undo_of k area).left ≡ in_use (k.count - 1) (records_in (k.count - 1) area).setting
 
 pub undone : (k : InUse) (area : List ℕ) → is_taken (undo_of k area).answer ≡ true → Undone k area
 unfolding undo_of
 undone k area t =
-    let f : Changed → Bool = λ (x : Changed). is_taken x.answer in
+    let f : Answered InUse → Bool = λ (x : Answered InUse). is_taken x.answer in
     let a = then-of f _ _ (eqb (length area) area_bytes) refl t in
     let b = same_of f _ _ (is_taken (records_in k.count area).answer) refl a.1 in
     let c = else-of f _ _ (ltb k.count 2) refl b.1 in
     record {
       several = ltb-false k.count 2 c.0;
       stands = b.0;
-      gives = ap (λ (x : Changed). x.settings) (cond-true _ _ a.0 ∙ cond-true _ _ b.0 ∙ cond-false _ _ c.0);
+      gives = ap (λ (x : Answered InUse). x.left) (cond-true _ _ a.0 ∙ cond-true _ _ b.0 ∙ cond-false _ _ c.0);
     }
 
 -- an undo that is taken
@@ -156,7 +156,7 @@ unfolding change_of area_changed
 refused-change k area handed t =
     let j = changing k.count area handed in
     let e = refused-there (is_taken j.answer) t in
-    (ap (λ (x : Changed). x.settings) (cond-false _ _ e), cond-false _ _ e)
+    (ap (λ (x : Answered InUse). x.left) (cond-false _ _ e), cond-false _ _ e)
   where
     refused-there : (b : Bool)
         → is_taken (cond b (changed (in_use (k.count + 1) (changing k.count area handed).setting) Taken) (changed k (changing k.count area handed).answer)).answer ≡ false
@@ -168,11 +168,11 @@ pub refused-undo : RefusedUndo
 unfolding undo_of
 refused-undo k area t = one (eqb (length area) area_bytes) (is_taken (records_in k.count area).answer) (ltb k.count 2) t
   where
-    last : Changed
+    last : Answered InUse
     last = changed (in_use (k.count - 1) (records_in (k.count - 1) area).setting) Taken
 
     one : (b c d : Bool) → is_taken (cond b (cond c (cond d (changed k NothingToUndo) last) (changed k (records_in k.count area).answer)) (changed k NoRoom)).answer ≡ false
-        → (cond b (cond c (cond d (changed k NothingToUndo) last) (changed k (records_in k.count area).answer)) (changed k NoRoom)).settings ≡ k
+        → (cond b (cond c (cond d (changed k NothingToUndo) last) (changed k (records_in k.count area).answer)) (changed k NoRoom)).left ≡ k
     one true true true t = refl
     one true true false t = absurd (true≢false t)
     one true false d t = refl

@@ -1,19 +1,19 @@
 -- The walk over the records in use, and bytes laid at a place.
 use mathlib.Core.Path.{◌≡◌, refl, sym, ap, ◌∙◌}
-use mathlib.Core.Bool.{Bool, true, false, not, cond, true≢false}
+use mathlib.Core.Bool.{Bool, true, false, cond, true≢false}
 use mathlib.Core.List.{List, ◌++◌}
 use Prim.Native.Nat.{ℕ, zero, suc, ◌+◌, ◌*◌, ◌-◌, ◌≤◌, ◌<◌}
 use native.Mathlib.Omega.{arith}
 use lib.Dec.{ltb, eqb}
 use lib.ListN.{length, take, drop, get_or, set, length-drop}
 use lib.Seq.{take_all, paste, paste-zero, paste-suc, length-paste, take-length}
-use borrow.Author.Tests.{not-true, not-false, eqb-true, ltb-false}
+use borrow.Author.Tests.{eqb-true, ltb-false}
 use Rattle.base_laws.proofs.Choice.{cond-true, cond-false}
 use Rattle.base_answer.specs.Numbers.{is_taken}
 use Rattle.base_answer.specs.declared.Answer.{Answer}
 use Rattle.base_answer.specs.declared.Answer.TheVariants.{CutShort, OutOfRange, LeftOver, UnknownVersion}
 use Rattle.settings_records.specs.declared.Setting.{Setting}
-use Rattle.settings_records.specs.declared.Found.{Found}
+use Rattle.settings_records.specs.Form.{Found}
 use Rattle.settings_records.specs.Form.{sixteen_bits, setting, found, refused_as}
 use Rattle.settings_records.specs.inside.Reading.{within_of, judged_of, of_version, behind_length, found_in, walked, records_in}
 use Rattle.settings_records.specs.Changes.{laid_at}
@@ -71,38 +71,37 @@ module _ {area : List ℕ} {used at : ℕ} {last : Setting} {n : ℕ} (w : Walki
   one_more h zero e = absurd (omega (arith, h, e, w.count))
   one_more h (suc l) e = (l, e)
 
-  module _ (h : n < used) {f : Found} (p : f ≡ found_in (take (length area - at) (drop at area))) {t : Bool} (u : t ≡ is_taken f.answer) where
-    q : f ≡ found_in (drop at area)
-    q = p ∙ ap found_in (take_all (length area - at) (drop at area) (omega (arith, length-drop at area)))
+  -- what was found there, and what that means for the walk
+  module _ (h : n < used) where
+    abbrev f : Found
+    f = found_in (drop at area)
+
+    pub walk-read : found_in (take (length area - at) (drop at area)) ≡ f
+    walk-read = ap found_in (take_all (length area - at) (drop at area) (omega (arith, length-drop at area)))
 
     ahead : cond (is_taken f.answer) (walked (one_more h w.left refl).0 area (at + f.size) f.setting) (refused_as f.answer) ≡ records_in used area
     unfolding walked
     ahead =
-        let l = (one_more h w.left refl).0 in
-        ap (λ (x : Found). cond (is_taken x.answer) (walked l area (at + x.size) x.setting) (refused_as x.answer)) q
-        ∙ ap (λ (m : ℕ). walked m area at last) (sym (one_more h w.left refl).1) ∙ w.same
+        ap (λ (m : ℕ). walked m area at last) (sym (one_more h w.left refl).1) ∙ w.same
 
-    pub walk-fault : not t ≡ true → {r : Found} → r ≡ refused_as f.answer → r ≡ records_in used area
-    walk-fault v e = e ∙ sym (cond-false _ _ (sym u ∙ not-true t v)) ∙ ahead
+    pub walk-fault : is_taken f.answer ≡ false → refused_as f.answer ≡ records_in used area
+    walk-fault t = sym (cond-false _ _ t) ∙ ahead
 
-    fits : Fits (drop at area) f
-    fits = let g = found-fits (drop at area) in rw q g
+    pub walk-size : is_taken f.answer ≡ true → (6 ≤ f.size) × (at + f.size ≤ length area)
+    walk-size t =
+        let fits = found-fits (drop at area) in
+        (fits.least t, omega (arith, fits.most t, length-drop at area, w.inside))
 
-    pub walk-size : not t ≡ false → (6 ≤ f.size) × (at + f.size ≤ length area)
-    walk-size v =
-        let e : is_taken f.answer ≡ true = sym u ∙ not-false t v in
-        (fits.least e, omega (arith, fits.most e, length-drop at area, w.inside))
-
-    pub walk-next : not t ≡ false → Walking area used (at + f.size) f.setting (n + 1)
-    walk-next v =
+    pub walk-next : is_taken f.answer ≡ true → Walking area used (at + f.size) f.setting (n + 1)
+    walk-next t =
         let x = one_more h w.left refl in
-        let z = walk-size v in
+        let z = walk-size t in
         record {
           left = x.0;
           count = omega (arith, x.1, w.count);
           inside = z.1;
           long = omega (arith, w.long, z.0);
-          same = sym (cond-true _ _ (sym u ∙ not-false t v)) ∙ ahead;
+          same = sym (cond-true _ _ t) ∙ ahead;
         }
 
   pub walk_end : used ≤ n → found last at ≡ records_in used area

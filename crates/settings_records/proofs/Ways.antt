@@ -8,7 +8,7 @@ use lib.ListN.{length, get_or}
 use borrow.Author.Tests.{le-leb, lt-leb, lt-ltb, le-ltb, eq-eqb, ne_eqb, not-true, not-false}
 use Rattle.base_laws.proofs.Choice.{cond-true, cond-false}
 use Rattle.base_answer.specs.declared.Answer.TheVariants.{CutShort, OutOfRange, LeftOver, UnknownVersion}
-use Rattle.settings_records.specs.declared.Found.{Found}
+use Rattle.settings_records.specs.Form.{Found}
 use Rattle.settings_records.specs.Form.{sixteen_bits, setting, version_one_tempo, found, refused_as}
 use Rattle.settings_records.specs.inside.Reading.{within_of, judged_of, of_version, behind_length, found_in}
 

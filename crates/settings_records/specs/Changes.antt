@@ -6,9 +6,9 @@ use Rattle.base_answer.specs.Numbers.{is_taken}
 use Rattle.base_answer.specs.declared.Answer.{Answer}
 use Rattle.base_answer.specs.declared.Answer.TheVariants.{Taken, NoRoom, LeftOver, NothingToUndo}
 use Rattle.settings_records.specs.declared.Setting.{Setting}
-use Rattle.settings_records.specs.declared.Found.{Found}
+use Rattle.settings_records.specs.Form.{Found}
 use Rattle.settings_records.specs.declared.InUse.{InUse}
-use Rattle.settings_records.specs.declared.Changed.{Changed}
+use Rattle.base_answer.specs.declared.Answered.{Answered}
 use Rattle.settings_records.specs.Form.{setting, found, refused_as}
 use Rattle.settings_records.specs.inside.Reading.{found_in, records_in}
 
@@ -38,14 +38,14 @@ changing count area handed =
 abbrev pub in_use : ℕ → Setting → InUse
 in_use count s = record { count = count; last = s }
 
-abbrev pub changed : InUse → Answer → Changed
-changed k a = record { settings = k; answer = a }
+abbrev pub changed : InUse → Answer → Answered InUse
+changed k a = record { left = k; answer = a }
 
 -- nothing is in use before the first record
 abbrev pub none_in_use : InUse
 none_in_use = in_use 0 (setting 0 0 0)
 
-unfoldable pub change_of : InUse → List ℕ → List ℕ → Changed
+unfoldable pub change_of : InUse → List ℕ → List ℕ → Answered InUse
 unfolding changing
 change_of k area handed =
     cond (is_taken (changing k.count area handed).answer) (changed (in_use (k.count + 1) (changing k.count area handed).setting) Taken)
@@ -58,7 +58,7 @@ area_changed count area handed =
     cond (is_taken (changing count area handed).answer) (laid_at (changing count area handed).size handed area) area
 
 -- an undo: the settings of what is then the last record in use, as its bytes stand in the area
-unfoldable pub undo_of : InUse → List ℕ → Changed
+unfoldable pub undo_of : InUse → List ℕ → Answered InUse
 undo_of k area =
     cond (eqb (length area) area_bytes)
     (cond (is_taken (records_in k.count area).answer)

@@ -3,7 +3,7 @@ use Rattle.std.specs.Prelude.{◌≡◌, true, false, cond, List, [], ◌∷◌,
 use Rattle.base_answer.specs.Numbers.{is_taken}
 use Rattle.base_answer.specs.declared.Answer.{Answer}
 use Rattle.settings_records.specs.declared.Setting.{Setting}
-use Rattle.settings_records.specs.declared.Found.{Found}
+use Rattle.settings_records.specs.Form.{Found}
 use Rattle.settings_records.specs.declared.InUse.{InUse}
 use Rattle.settings_records.specs.Form.{SettingsRecord, sets, encoded, Valid, found, setting, Parses, IsRecord, ParsesRecords}
 use Rattle.settings_records.specs.inside.Reading.{found_in, records_in}
@@ -35,10 +35,10 @@ OneMeaningRecords = (count : ℕ) (area : List ℕ) (f : Found) → ParsesRecord
 
 abbrev pub RefusedChange : Type 0
 RefusedChange =
-    (k : InUse) (area handed : List ℕ) → is_taken (change_of k area handed).answer ≡ false → ((change_of k area handed).settings ≡ k) × (area_changed k.count area handed ≡ area)
+    (k : InUse) (area handed : List ℕ) → is_taken (change_of k area handed).answer ≡ false → ((change_of k area handed).left ≡ k) × (area_changed k.count area handed ≡ area)
 
 abbrev pub RefusedUndo : Type 0
-RefusedUndo = (k : InUse) (area : List ℕ) → is_taken (undo_of k area).answer ≡ false → (undo_of k area).settings ≡ k
+RefusedUndo = (k : InUse) (area : List ℕ) → is_taken (undo_of k area).answer ≡ false → (undo_of k area).left ≡ k
 
 -- ---- "If every call is lent the same area and nobody else writes it, the settings are those of the last record taken and not undone."
 
@@ -57,8 +57,8 @@ answer_to l (change handed) = (change_of l.settings l.area handed).answer
 answer_to l undo = (undo_of l.settings l.area).answer
 
 abbrev pub after_step : Store → Step → Store
-after_step l (change handed) = record { settings = (change_of l.settings l.area handed).settings; area = area_changed l.settings.count l.area handed }
-after_step l undo = record { settings = (undo_of l.settings l.area).settings; area = l.area }
+after_step l (change handed) = record { settings = (change_of l.settings l.area handed).left; area = area_changed l.settings.count l.area handed }
+after_step l undo = record { settings = (undo_of l.settings l.area).left; area = l.area }
 
 -- what is left after them, and those that were taken
 unfoldable pub after_steps : Store → List Step → Store

@@ -1,10 +1,10 @@
 -- A settings record (M-107) by its bytes: "a length, counting all that follows; a version byte; for version 1 the ceiling and the highest number
 -- of notes (one byte, 1 to 16); for version 2 also a starting tempo (whole, 1 to 960). The rest are two bytes, big-endian. Version 1 means tempo 60."
-use Rattle.std.specs.Prelude.{◌≡◌, List, [], ◌∷◌, ◌++◌, ℕ, suc, ◌+◌, ◌*◌, ◌/◌, ◌%◌, ◌≤◌, ◌<◌, ◌⊎◌, length}
+use Rattle.std.specs.Prelude.{◌≡◌, List, [], ◌∷◌, ◌++◌, ℕ, suc, ◌+◌, ◌*◌, ◌/◌, ◌%◌, ◌≤◌, ◌<◌, ◌⊎◌, length, cond, Result, Ok, Err}
+use Rattle.base_answer.specs.Numbers.{is_taken}
 use Rattle.base_answer.specs.declared.Answer.{Answer}
 use Rattle.base_answer.specs.declared.Answer.TheVariants.{Taken, CutShort, OutOfRange, LeftOver, UnknownVersion}
 use Rattle.settings_records.specs.declared.Setting.{Setting}
-use Rattle.settings_records.specs.declared.Found.{Found}
 
 -- the number that two bytes are, and the two bytes of a number
 abbrev pub sixteen_bits : ℕ → ℕ → ℕ
@@ -42,6 +42,16 @@ encoded (version_one ceiling notes) = two_bytes 4 ++ (1 ∷ two_bytes ceiling ++
 encoded (version_two ceiling notes tempo) = two_bytes 6 ++ (2 ∷ two_bytes ceiling ++ (notes ∷ two_bytes tempo))
 
 -- ---- what stands at the start of bytes
+
+-- what a record sets and its bytes, or the answer to its first fault
+pub record Found : Type 0 where
+  pub answer : Answer
+  pub setting : Setting
+  pub size : ℕ
+
+-- as it is told
+abbrev pub told : Found → Result (Setting × ℕ) Answer
+told f = cond (is_taken f.answer) (Ok (f.setting, f.size)) (Err f.answer)
 
 -- a record that sets this, of so many bytes
 abbrev pub found : Setting → ℕ → Found

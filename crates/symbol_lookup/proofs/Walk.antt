@@ -18,10 +18,10 @@ use Rattle.symbol_names.specs.inside.Asking.{before, list_of, name_among, name_i
 use Rattle.symbol_names.specs.Asking.{unless_empty, name_found}
 use Rattle.symbol_names.proofs.Lists.{list-none, list-entry, list-cut}
 use Rattle.symbol_lookup.specs.Places.{between, Stands}
-use Rattle.symbol_lookup.specs.declared.Span.{Span}
+use Rattle.std.specs.declared.ops.Range.{Range}
 
-abbrev place : ℕ → ℕ → Span
-place f t = record { from = f; to = t }
+abbrev place : ℕ → ℕ → Range ℕ
+place f t = record { start = f; end = t }
 
 -- the symbol's name where the names ahead are those from symbol i on; that of a symbol before them was met
 abbrev ahead : Option Names → ℕ → ℕ → List ℕ → List ℕ
@@ -57,11 +57,11 @@ nothing-ahead i symbol met = go (leb i symbol)
     go true = refl
     go false = refl
 
-pub record Walked (s : List ℕ) (symbol at i : ℕ) (p : Span) : Type 0 where
+pub record Walked (s : List ℕ) (symbol at i : ℕ) (p : Range ℕ) : Type 0 where
   pub counted : i ≤ at
   pub inside : at ≤ length s
-  pub ordered : p.from ≤ p.to
-  pub within : p.to ≤ length s
+  pub ordered : p.start ≤ p.end
+  pub within : p.end ≤ length s
   pub name : ahead (list_of (drop at s)) i symbol (between s p) ≡ name_in s symbol
 
 pub starts : (s : List ℕ) (symbol : ℕ) → Walked s symbol 0 0 (place 0 0)
@@ -73,12 +73,12 @@ starts s symbol = record { counted = omega arith; inside = omega arith; ordered 
     go (some names) = let h : 0 ≤ symbol = omega arith in rw (le-leb _ _ h, sub-zero symbol)
 
 -- a length byte and its bytes stand there
-pub again : {s : List ℕ} {symbol at i b : ℕ} {p q : Span} → Walked s symbol at i p → at < length s → b ≡ get_or s at 0 → b ≤ length s - (at + 1)
+pub again : {s : List ℕ} {symbol at i b : ℕ} {p q : Range ℕ} → Walked s symbol at i p → at < length s → b ≡ get_or s at 0 → b ≤ length s - (at + 1)
     → q ≡ cond (eqb i symbol) (place (at + 1) (at + 1 + b)) p → Walked s symbol (at + 1 + b) (i + 1) q
 unfolding between
 again {s} {symbol} {at} {i} {b} {p} {q} w h e k f = subst (Walked s symbol (at + 1 + b) (i + 1)) (sym f) (go (eqb i symbol) refl)
   where
-    new : Span
+    new : Range ℕ
     new = place (at + 1) (at + 1 + b)
 
     rest : List ℕ
@@ -111,7 +111,7 @@ again {s} {symbol} {at} {i} {b} {p} {q} w h e k f = subst (Walked s symbol (at +
     go false g = record { counted = omega (arith, w.counted); inside = omega arith; ordered = w.ordered; within = w.within; name = named false g }
 
 -- the list is cut there
-pub cut-there : {s : List ℕ} {symbol at i b : ℕ} {p : Span} → Walked s symbol at i p → at < length s → b ≡ get_or s at 0 → length s - (at + 1) < b
+pub cut-there : {s : List ℕ} {symbol at i b : ℕ} {p : Range ℕ} → Walked s symbol at i p → at < length s → b ≡ get_or s at 0 → length s - (at + 1) < b
     → Stands s symbol (place 0 0)
 unfolding between
 cut-there {s} {symbol} {at} {i} {b} {p} w h e k =
@@ -124,7 +124,7 @@ cut-there {s} {symbol} {at} {i} {b} {p} w h e k =
       name = sym (ap (λ (o : Option Names). ahead o i symbol (between s p)) none-there) ∙ w.name;
     }
 
-pub ends : {s : List ℕ} {symbol at i : ℕ} {p : Span} → Walked s symbol at i p → length s ≤ at → Stands s symbol p
+pub ends : {s : List ℕ} {symbol at i : ℕ} {p : Range ℕ} → Walked s symbol at i p → length s ≤ at → Stands s symbol p
 ends {s} {symbol} {at} {i} {p} w h =
     record {
       ordered = w.ordered;
@@ -134,13 +134,13 @@ ends {s} {symbol} {at} {i} {p} w h =
           ∙ w.name;
     }
 
-pub is-noted : {i wanted : ℕ} (its old : Span) → i ≡ wanted → its ≡ cond (eqb i wanted) its old
+pub is-noted : {i wanted : ℕ} (its old : Range ℕ) → i ≡ wanted → its ≡ cond (eqb i wanted) its old
 is-noted its old e = sym (cond-true its old (eq-eqb _ _ e))
 
-pub not_noted : {i wanted : ℕ} (its old : Span) → (i ≡ wanted → ⊥) → old ≡ cond (eqb i wanted) its old
+pub not_noted : {i wanted : ℕ} (its old : Range ℕ) → (i ≡ wanted → ⊥) → old ≡ cond (eqb i wanted) its old
 not_noted its old n = sym (cond-false its old (ne_eqb _ _ n))
 
-pub name-there : (s : List ℕ) (symbol : ℕ) (p : Span) → Stands s symbol p → take (p.to - p.from) (drop p.from s) ≡ name_in s symbol
+pub name-there : (s : List ℕ) (symbol : ℕ) (p : Range ℕ) → Stands s symbol p → take (p.end - p.start) (drop p.start s) ≡ name_in s symbol
 unfolding between
 name-there s symbol p h = h.name
 

@@ -6,15 +6,10 @@ ghost use Rattle.symbol_names.specs.inside.Asking.{name_in};
 ghost use Rattle.symbol_names.specs.Asking.{name_found};
 ghost use Rattle.symbol_lookup.specs.Places.{Stands};
 
-// A stretch of a list, from one place to another.
-#[derive(Clone, Copy)]
-struct Span {
-    from: usize,
-    to: usize,
-}
+use std::ops::Range;
 
 // The stretch of the symbol that is wanted, once it has been met.
-fn noted(symbol: usize, wanted: usize, its: Span, before: Span) -> Span
+fn noted(symbol: usize, wanted: usize, its: Range<usize>, before: Range<usize>) -> Range<usize>
     ensures { result ≡ cond (eqb symbol wanted) its before }
 {
     if symbol == wanted {
@@ -24,29 +19,22 @@ fn noted(symbol: usize, wanted: usize, its: Span, before: Span) -> Span
 }
 
 // Where a symbol's name stands in a list: an empty stretch where it has none, and where the list is cut anywhere.
-fn place_in(list: &[u8], symbol: u16) -> Span
+fn place_in(list: &[u8], symbol: u16) -> Range<usize>
     ensures { Stands list.now symbol result }
 {
     let wanted = symbol as usize;
-    let mut name = Span { from: 0, to: 0 };
+    let mut name = 0..0;
     let mut at: usize = 0;
     let mut i: usize = 0;
+    // Kept: a step is as long as the name that it passes, so this is no loop over a range.
     while at < list.len() {
         let length = list[at] as usize;
         let start = at + 1;
         if list.len() - start < length {
-            return Span { from: 0, to: 0 };
+            return 0..0;
         }
         let next = start + length;
-        name = noted(
-            i,
-            wanted,
-            Span {
-                from: start,
-                to: next,
-            },
-            name,
-        );
+        name = noted(i, wanted, start..next, name);
         at = next;
         i += 1;
     }
@@ -57,10 +45,7 @@ fn place_in(list: &[u8], symbol: u16) -> Span
 pub fn name_in(list: &[u8], symbol: u16) -> &[u8]
     ensures { result.now ≡ name_in list.now symbol }
 {
-    let place = place_in(list, symbol);
-    let from = place.from;
-    let to = place.to;
-    &list[from..to]
+    &list[place_in(list, symbol)]
 }
 
 // A symbol's name in the piece's names, else in the panel's own list, else none: a part of the one that has it.

@@ -12,7 +12,8 @@ use lib.Seq.{take_at, drop-drop, drop-append-add, length-take-le, take-suc-set, 
 use Rattle.base_bitstream.proofs.Filling.{length-bytes_from}
 use Rattle.base_laws.proofs.Choice.{cond-false}
 use Rattle.base_answer.specs.declared.Answer.{Answer}
-use Rattle.base_answer.specs.declared.Answer.TheVariants.{Taken, NoRoom}
+use Rattle.base_answer.specs.declared.Answer.TheVariants.{NoRoom}
+use Rattle.std.specs.Prelude.{Result, Ok, Err}
 use Rattle.base_bitstream.specs.Bits.{bits_of, value_of}
 use Rattle.base_bitstream.specs.inside.Fields.{Room}
 use Rattle.base_bitstream.specs.Filling.{bytes_from}
@@ -22,14 +23,8 @@ use Rattle.symbol_names.specs.inside.Reading.{Read, names_from, table_of}
 use Rattle.symbol_names.specs.Asking.{Unpacking, unpacking, laid, unpacking_of}
 use Rattle.symbol_names.proofs.Asked.{unpacked}
 use Rattle.symbol_unpacker.specs.Passes.{number_at, names_of, judgement, listed, is_whole, Fits, laid_at, entry_at, Copies, Entry, NameLaid, UnpacksTo}
-use Rattle.symbol_unpacker.specs.declared.Judged.{Judged}
-use Rattle.symbol_unpacker.specs.declared.Judged.TheVariants.{Names as Holds, Refused}
-use Rattle.symbol_unpacker.specs.declared.Unpacked.{Unpacked}
 use Rattle.symbol_unpacker.proofs.Steps.{size, past, Next, next}
 use Rattle.symbol_unpacker.proofs.Measuring.{held}
-
-abbrev answered : Answer → ℕ → Unpacked
-answered a n = record { answer = a; length = n }
 
 -- ---- bytes laid from a place on
 
@@ -220,7 +215,7 @@ lay-ends {table} {count} {buffer₀} {buffer} {at} {to} {i} l h =
 
 -- ---- the call
 
-pub held_fits : {count total : ℕ} {j : Judged} (table buffer : List ℕ) → j ≡ judgement (table_of table) → j ≡ Holds count total → total ≤ length buffer
+pub held_fits : {count total : ℕ} {j : Result (ℕ × ℕ) Answer} (table buffer : List ℕ) → j ≡ judgement (table_of table) → j ≡ Ok (count, total) → total ≤ length buffer
     → Fits table count (length buffer)
 held_fits table buffer e f h =
     let k = held table e f in
@@ -230,32 +225,32 @@ held_fits table buffer e f h =
       within = rw k.read (omega (arith, k.size));
     }
 
-pub unpack-taken : {count total : ℕ} {j : Judged} (table buffer new : List ℕ) → j ≡ judgement (table_of table) → j ≡ Holds count total → total ≤ length buffer
-    → new ≡ laid (listed (names_of table count)) buffer → UnpacksTo (unpacking_of (table_of table) buffer) new (record { answer = Taken; length = total })
+pub unpack-taken : {count total : ℕ} {j : Result (ℕ × ℕ) Answer} (table buffer new : List ℕ) → j ≡ judgement (table_of table) → j ≡ Ok (count, total) → total ≤ length buffer
+    → new ≡ laid (listed (names_of table count)) buffer → UnpacksTo (unpacking_of (table_of table) buffer) new (Ok total)
 unpack-taken {count} {total} table buffer new e f h g =
     let k = held table e f in
-    let u : unpacking_of (table_of table) buffer ≡ unpacking Taken (length (list_bytes k.names)) (laid (list_bytes k.names) buffer) =
+    let u : unpacking_of (table_of table) buffer ≡ unpacking (Ok (length (list_bytes k.names))) (laid (list_bytes k.names) buffer) =
     rw k.same (unpacked k.names buffer (omega (arith, k.size))) in
     record {
-      told = ap (answered Taken) (sym k.size) ∙ ap (λ (x : Unpacking). answered x.answer x.length-of) (sym u);
+      told = ap Ok (sym k.size) ∙ ap (λ (x : Unpacking). x.told) (sym u);
       buffer = g ∙ ap (λ (m : Read Names). laid (listed m) buffer) k.read ∙ ap (λ (x : Unpacking). x.buffer) (sym u);
     }
 
-pub unpack-short : {count total : ℕ} {j : Judged} (table buffer : List ℕ) → j ≡ judgement (table_of table) → j ≡ Holds count total → length buffer < total
-    → UnpacksTo (unpacking_of (table_of table) buffer) buffer (record { answer = NoRoom; length = 0 })
+pub unpack-short : {count total : ℕ} {j : Result (ℕ × ℕ) Answer} (table buffer : List ℕ) → j ≡ judgement (table_of table) → j ≡ Ok (count, total) → length buffer < total
+    → UnpacksTo (unpacking_of (table_of table) buffer) buffer (Err NoRoom)
 unfolding unpacking_of
 unpack-short table buffer e f h =
     let k = held table e f in
     let r : length buffer < length (list_bytes k.names) = omega (arith, k.size) in
-    let u : unpacking_of (table_of table) buffer ≡ unpacking NoRoom 0 buffer = rw k.same (cond-false _ _ (lt-leb _ _ r)) in
+    let u : unpacking_of (table_of table) buffer ≡ unpacking (Err NoRoom) buffer = rw k.same (cond-false _ _ (lt-leb _ _ r)) in
     record { told = cc; buffer = cc }
 
-refusal : {a : Answer} (t : Table) → judgement t ≡ Refused a → t ≡ refused a
-refusal (holds names) e = let z : ◌≡◌ {A = ℕ} 0 1 = cc in absurd (omega arith)
+refusal : {a : Answer} (t : Table) → judgement t ≡ Err a → t ≡ refused a
+refusal (holds names) e = cc
 refusal (refused b) e = cc
 
-pub unpack-refused : {a : Answer} {j : Judged} (table buffer : List ℕ) → j ≡ judgement (table_of table) → j ≡ Refused a
-    → UnpacksTo (unpacking_of (table_of table) buffer) buffer (record { answer = a; length = 0 })
+pub unpack-refused : {a : Answer} {j : Result (ℕ × ℕ) Answer} (table buffer : List ℕ) → j ≡ judgement (table_of table) → j ≡ Err a
+    → UnpacksTo (unpacking_of (table_of table) buffer) buffer (Err a)
 unfolding unpacking_of
 unpack-refused {a} table buffer e f =
     let u = refusal (table_of table) (sym e ∙ f) in

@@ -11,23 +11,20 @@ use borrow.Table.Steps.{cases}
 use lib.Dec.{leb, ltb}
 use Rattle.base_bitstream.proofs.Filling.{length-bytes_from}
 use Rattle.base_laws.proofs.Choice.{cond-true, cond-false}
+use Rattle.base_answer.specs.declared.Answer.{Answer}
 use Rattle.base_answer.specs.declared.Answer.TheVariants.{CutShort, LeftOver}
 use Rattle.base_bitstream.specs.Bits.{bits_of, value_of}
 use Rattle.base_bitstream.specs.inside.Fields.{Room}
 use Rattle.base_bitstream.specs.Fields.{read_at}
 use Rattle.base_bitstream.specs.Filling.{filled, bytes_from}
-use Rattle.base_bitstream.specs.declared.FieldRead.{FieldRead}
-use Rattle.base_bitstream.specs.declared.FieldRead.TheVariants.{Value, Short}
+use Rattle.std.specs.Prelude.{Option, Some, None, Result, Ok, Err}
+use Rattle.std.proofs.lemmas.Option.{some_pair_parts, none-some}
 use Rattle.base_bitstream.proofs.BitValues.{length-bits_of, value_of-lt}
 use Rattle.base_bitstream.proofs.Fields.{read_back, room-yes}
 use Rattle.symbol_names.specs.Form.{Names, count_bits, length_bits, names_bits, list_bytes, holds, refused}
 use Rattle.symbol_names.specs.inside.Reading.{Read, got, cut, and_then, number_from, names_from, table_from, is_filling, judged, table_of}
 use Rattle.symbol_names.proofs.Table.{Met, whole, begun, Many, names-met}
 use Rattle.symbol_unpacker.specs.Passes.{number_at, names_of, Counted, measured, judgement}
-use Rattle.symbol_unpacker.specs.declared.Extent.{Extent}
-use Rattle.symbol_unpacker.specs.declared.Extent.TheVariants.{Whole, Cut}
-use Rattle.symbol_unpacker.specs.declared.Judged.{Judged}
-use Rattle.symbol_unpacker.specs.declared.Judged.TheVariants.{Names as Holds, Refused}
 use Rattle.symbol_unpacker.proofs.Steps.{past, names-cut-length, names-cut, names-next}
 
 pub record Measures (table : List ℕ) (count at total i : ℕ) : Type 0 where
@@ -50,7 +47,7 @@ unfolding list_bytes
 name-measured bits total n name (got names q) e =
     let l : length (name ++ list_bytes names) ≡ length name + length (list_bytes names) = length-append name (list_bytes names) in
     let k : total + suc (length (name ++ list_bytes names)) ≡ total + 1 + n + length (list_bytes names) = omega arith in
-    ap (Whole (length bits - length q)) k
+    ap (λ (x : ℕ). Some (length bits - length q, x)) k
 name-measured bits total n name cut e = refl
 
 module _ {table : List ℕ} {count at total i : ℕ} (m : Measures table count at total i) (h : i < count) where
@@ -65,7 +62,7 @@ module _ {table : List ℕ} {count at total i : ℕ} (m : Measures table count a
   left = omega arith
 
   module _ {b : Bool} (b₁ : b ≡ ltb (8 * length table) (at + 4)) where
-    pub measure-cut-length : b ≡ true → Cut ≡ measured bits 0 (names_of table count)
+    pub measure-cut-length : b ≡ true → None ≡ measured bits 0 (names_of table count)
     measure-cut-length b₂ =
         let f = ltb-true (8 * length table) (at + 4) (sym b₁ ∙ b₂) in
         cc (left, names-cut-length bits others at (omega (arith, length-bits_of table)), m.same)
@@ -94,13 +91,13 @@ module _ {table : List ℕ} {count at total i : ℕ} (m : Measures table count a
               same = cc (e.0, left, more, names-next bits others at (omega (arith, there)) (omega (arith, e.0)), m.same);
             }
 
-        pub measure-cut : c ≡ true → Cut ≡ measured bits 0 (names_of table count)
+        pub measure-cut : c ≡ true → None ≡ measured bits 0 (names_of table count)
         measure-cut c₂ =
             let g = ltb-true (8 * length table) (at + 4 + 8 * n) (sym c₁ ∙ c₂) in
             let l = length-bits_of table in
             cc (left, names-cut bits others at (omega (arith, there)) (omega (arith, e.0)), m.same)
 
-pub measure-ends : {table : List ℕ} {count at total i : ℕ} → Measures table count at total i → count ≤ i → Whole at total ≡ measured (bits_of table) 0 (names_of table count)
+pub measure-ends : {table : List ℕ} {count at total i : ℕ} → Measures table count at total i → count ≤ i → Some (at, total) ≡ measured (bits_of table) 0 (names_of table count)
 unfolding names_from list_bytes
 measure-ends {table} {count} {at} {total} {i} m h =
     let bits = bits_of table in
@@ -108,7 +105,7 @@ measure-ends {table} {count} {at} {total} {i} m h =
     let s = rw z at m.same in
     let e : at ≡ length bits - length (drop at bits) = omega (arith, m.inside, length-bits_of table, length-drop at bits) in
     let t : total ≡ total + 0 = omega arith in
-    ap₂ Whole e t ∙ s
+    ap₂ (λ (x y : ℕ). Some (x, y)) e t ∙ s
 
 -- ---- the whole table
 
@@ -117,7 +114,7 @@ pub record Opened (table : List ℕ) (count : ℕ) : Type 0 where
   pub counted : Counted table count
   pub same : table_of table ≡ judged (names_of table count)
 
-pub opened : {g : FieldRead} {count p : ℕ} (table : List ℕ) → g ≡ read_at (bits_of table) 0 16 → g ≡ Value count p → Opened table count
+pub opened : {g : Option (ℕ × ℕ)} {count p : ℕ} (table : List ℕ) → g ≡ read_at (bits_of table) 0 16 → g ≡ Some (count, p) → Opened table count
 unfolding table_of table_from number_from names_of
 opened {g} {count} {p} table e f =
     let bits = bits_of table in
@@ -125,14 +122,14 @@ opened {g} {count} {p} table e f =
     let h : 16 ≤ length bits = omega (arith, r.room) in
     record { counted = record { few = r.small; long = omega (arith, length-bits_of table) }; same = rw (le-leb 16 (length bits) h, r.value) }
 
-pub is-counted : {g : FieldRead} {count p : ℕ} (table : List ℕ) → g ≡ read_at (bits_of table) 0 16 → g ≡ Value count p → Counted table count
+pub is-counted : {g : Option (ℕ × ℕ)} {count p : ℕ} (table : List ℕ) → g ≡ read_at (bits_of table) 0 16 → g ≡ Some (count, p) → Counted table count
 is-counted table e f = (opened table e f).counted
 
-pub not_opened : {g : FieldRead} (table : List ℕ) → g ≡ read_at (bits_of table) 0 16 → g ≡ Short → Refused CutShort ≡ judgement (table_of table)
+pub not_opened : {g : Option (ℕ × ℕ)} (table : List ℕ) → g ≡ read_at (bits_of table) 0 16 → g ≡ None → Err CutShort ≡ judgement (table_of table)
 unfolding table_of table_from number_from read_at
 not_opened table e f =
     cases (leb 16 (length (bits_of table)))
-    (λ h. let y = leb-true 16 (length (bits_of table)) h in cc (room-yes (length (bits_of table)) 0 16 (omega arith) (omega arith) (omega arith))) (λ h. rw h)
+    (λ h. let y = leb-true 16 (length (bits_of table)) h in absurd (none-some (value_of (take 16 (bits_of table)), 16) (sym f ∙ e ∙ rw (room-yes (length (bits_of table)) 0 16 (omega arith) (omega arith) (omega arith))))) (λ h. rw h)
 
 -- what is behind the names
 past_all : (p a : ℕ) → ltb (p + a) (p + 8) ≡ ltb a 8
@@ -149,35 +146,34 @@ filling-behind bits b r h e =
     rw (p, d) (cc (past_all (count_bits + length b) (length r)))
 
 ended : {end total : ℕ} (bits : List Bool) (count : ℕ) → count_bits ≤ length bits → (m : Read Names) → Met names_bits (Many count) (drop count_bits bits) m
-    → measured bits 0 m ≡ Whole end total → judgement (judged m) ≡ cond (filled bits end) (Holds count total) (Refused LeftOver)
-ended {end} {total} bits count h m (begun a b d g e) f = let z : ◌≡◌ {A = ℕ} 0 1 = cc in absurd (omega arith)
+    → measured bits 0 m ≡ Some (end, total) → judgement (judged m) ≡ cond (filled bits end) (Ok (count, total)) (Err LeftOver)
+ended {end} {total} bits count h m (begun a b d g e) f = absurd (none-some _ f)
 ended {end} {total} bits count h m (whole names r g e) f =
-    let p : length bits - length r ≡ end = cc in
-    let t : 0 + length (list_bytes names) ≡ total = cc in
-    let z : length (list_bytes names) ≡ total = omega arith in
+    let p = some_pair_parts _ _ _ _ f in
+    let z : length (list_bytes names) ≡ total = omega (arith, p.1) in
     let y = filling-behind bits (names_bits names) r h e in
-    cases (is_filling r) (λ w. cc (cond-true (holds names) (refused LeftOver) w, g.0)) (λ w. cc (cond-false (holds names) (refused LeftOver) w))
+    cases (is_filling r) (λ w. cc (cond-true (holds names) (refused LeftOver) w, g.0, p.0)) (λ w. cc (p.0, cond-false (holds names) (refused LeftOver) w))
 
-cut_off : (m : Read Names) (bits : List Bool) → measured bits 0 m ≡ Cut → judgement (judged m) ≡ Refused CutShort
+cut_off : (m : Read Names) (bits : List Bool) → measured bits 0 m ≡ None → judgement (judged m) ≡ Err CutShort
 cut_off cut bits e = refl
-cut_off (got names r) bits e = let z : ◌≡◌ {A = ℕ} 0 1 = cc in absurd (omega arith)
+cut_off (got names r) bits e = absurd (none-some _ (sym e))
 
-module _ {end total : ℕ} {x : Extent} {b : Bool} (table : List ℕ) (count : ℕ) (o : Opened table count) (e : x ≡ measured (bits_of table) 0 (names_of table count))
-    (f : x ≡ Whole end total) (g : b ≡ filled (bits_of table) end) where
-  judge-ends : judgement (table_of table) ≡ cond b (Holds count total) (Refused LeftOver)
+module _ {end total : ℕ} {x : Option (ℕ × ℕ)} {b : Bool} (table : List ℕ) (count : ℕ) (o : Opened table count) (e : x ≡ measured (bits_of table) 0 (names_of table count))
+    (f : x ≡ Some (end, total)) (g : b ≡ filled (bits_of table) end) where
+  judge-ends : judgement (table_of table) ≡ cond b (Ok (count, total)) (Err LeftOver)
   unfolding names_of
   judge-ends =
       let rest = drop count_bits (bits_of table) in
       cc (o.same, ended (bits_of table) count (omega (arith, o.counted.long, length-bits_of table)) (names_from count rest) (names-met count rest) (sym e ∙ f))
 
-  pub judge-holds : b ≡ true → Holds count total ≡ judgement (table_of table)
+  pub judge-holds : b ≡ true → Ok (count, total) ≡ judgement (table_of table)
   judge-holds h = sym (judge-ends ∙ cond-true _ _ h)
 
-  pub judge-left-over : b ≡ false → Refused LeftOver ≡ judgement (table_of table)
+  pub judge-left-over : b ≡ false → Err LeftOver ≡ judgement (table_of table)
   judge-left-over h = sym (judge-ends ∙ cond-false _ _ h)
 
-pub judge-cut : {x : Extent} (table : List ℕ) (count : ℕ) → Opened table count → x ≡ measured (bits_of table) 0 (names_of table count) → x ≡ Cut
-    → Refused CutShort ≡ judgement (table_of table)
+pub judge-cut : {x : Option (ℕ × ℕ)} (table : List ℕ) (count : ℕ) → Opened table count → x ≡ measured (bits_of table) 0 (names_of table count) → x ≡ None
+    → Err CutShort ≡ judgement (table_of table)
 judge-cut table count o e f = sym (ap judgement o.same ∙ cut_off (names_of table count) (bits_of table) (sym e ∙ f))
 
 -- ---- a table that is taken
@@ -191,21 +187,23 @@ pub record Held (table : List ℕ) (count total : ℕ) : Type 0 where
   pub size : length (list_bytes names) ≡ total
   pub same : table_of table ≡ holds names
 
+same_ok : {A : Type 0} {x y : A} → ◌≡◌ {A = Result A Answer} (Ok x) (Ok y) → x ≡ y
+same_ok e = cc
+
 held-names : {count total : ℕ} (table : List ℕ) (k : ℕ) → Opened table k → (m : Read Names) → names_of table k ≡ m → Met names_bits (Many k) (drop count_bits (bits_of table)) m
-    → judgement (judged m) ≡ Holds count total → Held table count total
-held-names table k o m e (begun a b d g f) h = let z : ◌≡◌ {A = ℕ} 0 1 = cc in absurd (omega arith)
+    → judgement (judged m) ≡ Ok (count, total) → Held table count total
+held-names table k o m e (begun a b d g f) h = cc
 held-names {count} {total} table k o m e (whole names r g f) h =
     cases (is_filling r)
     (λ w.
-    let j : Holds (length names) (length (list_bytes names)) ≡ Holds count total = sym (ap judgement (cond-true (holds names) (refused LeftOver) w)) ∙ h in
+    let j : (length names, length (list_bytes names)) ≡ (count, total) = same_ok (sym (ap judgement (cond-true (holds names) (refused LeftOver) w)) ∙ h) in
+    let c : length names ≡ count = ap (λ (x : ℕ × ℕ). x.0) j in
+    let t : length (list_bytes names) ≡ total = ap (λ (x : ℕ × ℕ). x.1) j in
     let n : k ≡ count = cc g.0 in
-    record { counted = subst (Counted table) n o.counted; names = names; rest = r; read = cc; size = cc; same = o.same ∙ ap judged e ∙ cond-true _ _ w })
-    (λ w.
-    let j : Refused LeftOver ≡ Holds count total = sym (ap judgement (cond-false (holds names) (refused LeftOver) w)) ∙ h in
-    let z : ◌≡◌ {A = ℕ} 0 1 = cc in
-    absurd (omega arith))
+    record { counted = subst (Counted table) n o.counted; names = names; rest = r; read = cc; size = t; same = o.same ∙ ap judged e ∙ cond-true _ _ w })
+    (λ w. let j : Err LeftOver ≡ Ok (count, total) = sym (ap judgement (cond-false (holds names) (refused LeftOver) w)) ∙ h in cc)
 
-pub held : {count total : ℕ} {j : Judged} (table : List ℕ) → j ≡ judgement (table_of table) → j ≡ Holds count total → Held table count total
+pub held : {count total : ℕ} {j : Result (ℕ × ℕ) Answer} (table : List ℕ) → j ≡ judgement (table_of table) → j ≡ Ok (count, total) → Held table count total
 unfolding table_of table_from number_from names_of
 held {count} {total} {j} table e f =
     let bits = bits_of table in
@@ -219,6 +217,4 @@ held {count} {total} {j} table e f =
     held-names table k o (names_of table k) refl (names-met k (drop count_bits bits)) (sym (ap judgement i) ∙ sym e ∙ f))
     (λ h.
     let i : table_of table ≡ refused CutShort = rw h in
-    let y : Refused CutShort ≡ Holds count total = sym (ap judgement i) ∙ sym e ∙ f in
-    let z : ◌≡◌ {A = ℕ} 0 1 = cc in
-    absurd (omega arith))
+    let y : Err CutShort ≡ Ok (count, total) = sym (ap judgement i) ∙ sym e ∙ f in cc)

@@ -14,8 +14,8 @@ use Rattle.base_bitstream.specs.Bits.{bits_of}
 use Rattle.base_bitstream.specs.inside.Fields.{Room}
 use Rattle.base_bitstream.specs.Filling.{bytes_from}
 use Rattle.base_bitstream.specs.Fields.{read_at}
-use Rattle.base_bitstream.specs.declared.FieldRead.{FieldRead}
-use Rattle.base_bitstream.specs.declared.FieldRead.TheVariants.{Value, Short}
+use Rattle.std.specs.Prelude.{Option, Some, None}
+use Rattle.std.proofs.lemmas.Option.{same_Some, none-some}
 use Rattle.base_bitstream.proofs.BitValues.{length-bits_of, value_of-lt}
 use Rattle.base_bitstream.proofs.Fields.{room-yes}
 use Rattle.symbol_names.specs.Form.{Names, length_bits, list_bytes}
@@ -30,16 +30,16 @@ bytes-end bytes end =
     (λ h. let l = ltb-false (8 * bytes) end h in cc (le-ltb bytes ((end + 8 - 1) / 8) (omega arith)))
 
 -- a field that has room is read
-there : (s : List ℕ) (at n : ℕ) → Room (8 * length s) at n → read_at (bits_of s) at n ≡ Value (number_at (bits_of s) at n) (at + n)
+there : (s : List ℕ) (at n : ℕ) → Room (8 * length s) at n → read_at (bits_of s) at n ≡ Some (number_at (bits_of s) at n, at + n)
 unfolding read_at number_at
 there s at n h = rw (length-bits_of s, room-yes (8 * length s) at n h.width h.near h.within)
 
-pub number-there : {g : FieldRead} {v p : ℕ} (s : List ℕ) (at n : ℕ) → Room (8 * length s) at n → g ≡ read_at (bits_of s) at n → g ≡ Value v p
+pub number-there : {g : Option (ℕ × ℕ)} {v p : ℕ} (s : List ℕ) (at n : ℕ) → Room (8 * length s) at n → g ≡ read_at (bits_of s) at n → g ≡ Some (v, p)
     → v ≡ number_at (bits_of s) at n
-number-there s at n h e f = cc (there s at n h)
+number-there s at n h e f = ap (λ (x : ℕ × ℕ). x.0) (same_Some _ _ (sym f ∙ e ∙ there s at n h))
 
-pub number_short : {g : FieldRead} {v : ℕ} (s : List ℕ) (at n : ℕ) → Room (8 * length s) at n → g ≡ read_at (bits_of s) at n → g ≡ Short → v ≡ number_at (bits_of s) at n
-number_short s at n h e f = cc (there s at n h)
+pub number_short : {g : Option (ℕ × ℕ)} {v : ℕ} (s : List ℕ) (at n : ℕ) → Room (8 * length s) at n → g ≡ read_at (bits_of s) at n → g ≡ None → v ≡ number_at (bits_of s) at n
+number_short s at n h e f = absurd (none-some _ (sym f ∙ e ∙ there s at n h))
 
 pub number-below : (s : List ℕ) (at n : ℕ) → Room (8 * length s) at n → number_at (bits_of s) at n < 2 ^ n
 unfolding number_at

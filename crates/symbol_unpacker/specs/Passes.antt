@@ -1,15 +1,11 @@
 -- What the two passes over a symbol table give: one measures it, one lays its names. Definitions only.
-use Rattle.std.specs.Prelude.{ℕ, ◌+◌, ◌-◌, ◌*◌, ◌^◌, ◌<◌, ◌≤◌, ◌≡◌, Bool, true, false, List, [], ◌∷◌, ◌++◌, length, take, drop}
+use Rattle.std.specs.Prelude.{ℕ, ◌+◌, ◌-◌, ◌*◌, ◌^◌, ◌<◌, ◌≤◌, ◌≡◌, Bool, true, false, List, [], ◌∷◌, ◌++◌, length, take, drop, Option, Some, None, Result, Ok, Err}
+use Rattle.base_answer.specs.declared.Answer.{Answer}
 use Rattle.base_bitstream.specs.Bits.{bits_of, value_of}
 use Rattle.base_bitstream.specs.Filling.{bytes_from}
 use Rattle.symbol_names.specs.Form.{Names, count_bits, length_bits, list_bytes, Table, holds, refused}
 use Rattle.symbol_names.specs.inside.Reading.{Read, got, cut, names_from}
 use Rattle.symbol_names.specs.Asking.{Unpacking}
-use Rattle.symbol_unpacker.specs.declared.Extent.{Extent}
-use Rattle.symbol_unpacker.specs.declared.Extent.TheVariants.{Whole, Cut}
-use Rattle.symbol_unpacker.specs.declared.Judged.{Judged}
-use Rattle.symbol_unpacker.specs.declared.Judged.TheVariants.{Names as Holds, Refused}
-use Rattle.symbol_unpacker.specs.declared.Unpacked.{Unpacked}
 
 -- the number of n bits at a position
 unfoldable pub number_at : List Bool → ℕ → ℕ → ℕ
@@ -25,13 +21,14 @@ pub record Counted (table : List ℕ) (count : ℕ) : Type 0 where
   pub long : count_bits ≤ 8 * length table
 
 -- where names end, and how long their list is
-abbrev pub measured : List Bool → ℕ → Read Names → Extent
-measured bits before (got names r) = Whole (length bits - length r) (before + length (list_bytes names))
-measured bits before cut = Cut
+abbrev pub measured : List Bool → ℕ → Read Names → Option (ℕ × ℕ)
+measured bits before (got names r) = Some (length bits - length r, before + length (list_bytes names))
+measured bits before cut = None
 
-abbrev pub judgement : Table → Judged
-judgement (holds names) = Holds (length names) (length (list_bytes names))
-judgement (refused a) = Refused a
+-- how many names a table has, and how long their list is
+abbrev pub judgement : Table → Result (ℕ × ℕ) Answer
+judgement (holds names) = Ok (length names, length (list_bytes names))
+judgement (refused a) = Err a
 
 -- the list of names that were read
 abbrev pub listed : Read Names → List ℕ
@@ -77,6 +74,6 @@ pub record NameLaid (table old new : List ℕ) (at to n : ℕ) : Type 0 where
   pub short : n < 2 ^ length_bits
 
 -- what an unpacking tells, and the buffer that it leaves
-pub record UnpacksTo (u : Unpacking) (new : List ℕ) (r : Unpacked) : Type 0 where
-  pub told : r ≡ record { answer = u.answer; length = u.length-of }
+pub record UnpacksTo (u : Unpacking) (new : List ℕ) (r : Result ℕ Answer) : Type 0 where
+  pub told : r ≡ u.told
   pub buffer : new ≡ u.buffer

@@ -10,7 +10,6 @@ ghost use Rattle.symbol_names.specs.Asking.{laid, unpacking_of};
 ghost use Rattle.symbol_unpacker.specs.Passes.{number_at, names_of, Counted, measured, judgement, listed, Fits, laid_at, Copies, Entry, NameLaid, UnpacksTo};
 
 use base_answer::Answer;
-use base_bitstream::FieldRead;
 
 // The bits of a table's count, of a name's length and of a byte.
 const COUNT: usize = 16;
@@ -18,27 +17,6 @@ const COUNT: usize = 16;
 const LENGTH: usize = 4;
 
 const BYTE: usize = 8;
-
-// The answer, and the whole length of the unpacked names; 0 where the table is refused.
-#[derive(Clone, Copy)]
-pub struct Unpacked {
-    pub answer: Answer,
-    pub length: usize,
-}
-
-// Where a table's names end, and how long their list is.
-#[derive(Clone, Copy)]
-enum Extent {
-    Whole(usize, usize),
-    Cut,
-}
-
-// How many names a table has, and how long their list is.
-#[derive(Clone, Copy)]
-enum Judged {
-    Names(usize, usize),
-    Refused(Answer),
-}
 
 // Whether that many bytes end before a position of their bits.
 fn ends_before(bytes: usize, end: usize) -> bool
@@ -54,8 +32,8 @@ fn number_at(s: &[u8], at: usize, n: usize) -> u32
     ensures { result ≡ number_at (bits_of s.now) at n }
 {
     match base_bitstream::read(s, at, n) {
-        FieldRead::Value(v, _) => v,
-        FieldRead::Short => 0,
+        Some((v, _)) => v,
+        None => 0,
     }
 }
 
@@ -73,46 +51,38 @@ fn byte_at(s: &[u8], at: usize) -> u8
     number_at(s, at, BYTE) as u8
 }
 
-// Where a table's names end, and how long their list is.
-fn measure(table: &[u8], count: usize) -> Extent
+// Where a table's names end, and how long their list is; none where the table is cut.
+fn measure(table: &[u8], count: usize) -> Option<(usize, usize)>
     requires { Counted table.now count }
     ensures { result ≡ measured (bits_of table.now) 0 (names_of table.now count) }
 {
     let mut at = COUNT;
     let mut total: usize = 0;
-    let mut i: usize = 0;
-    while i < count {
+    for i in 0..count {
         if ends_before(table.len(), at + LENGTH) {
-            return Extent::Cut;
+            return None;
         }
         let n = length_at(table, at);
         let next = at + LENGTH + BYTE * n;
         if ends_before(table.len(), next) {
-            return Extent::Cut;
+            return None;
         }
         at = next;
         total = total + 1 + n;
-        i += 1;
     }
-    Extent::Whole(at, total)
+    Some((at, total))
 }
 
-// A table read whole: 1, then 11.
-fn judge(table: &[u8]) -> Judged
+// How many names a table has, and how long their list is: 1, then 11.
+fn judge(table: &[u8]) -> Result<(usize, usize), Answer>
     ensures { result ≡ judgement (table_of table.now) }
 {
-    match base_bitstream::read(table, 0, COUNT) {
-        FieldRead::Value(count, _) => match measure(table, count as usize) {
-            Extent::Whole(end, total) => {
-                if base_bitstream::is_filled(table, end) {
-                    return Judged::Names(count as usize, total);
-                }
-                Judged::Refused(Answer::LeftOver)
-            }
-            Extent::Cut => Judged::Refused(Answer::CutShort),
-        },
-        FieldRead::Short => Judged::Refused(Answer::CutShort),
+    let (count, _) = base_bitstream::read(table, 0, COUNT).ok_or(Answer::CutShort)?;
+    let (end, total) = measure(table, count as usize).ok_or(Answer::CutShort)?;
+    if base_bitstream::is_filled(table, end) {
+        return Ok((count as usize, total));
     }
+    Err(Answer::LeftOver)
 }
 
 // Copies n bytes from a position of the table to a place of the buffer.
@@ -120,10 +90,8 @@ fn copy_bytes(table: &[u8], at: usize, n: usize, buffer: &mut [u8], to: usize)
     requires { Copies table.now buffer.old at n to }
     ensures { buffer.new ≡ laid_at to (bytes_from n (drop at (bits_of table.now))) buffer.old }
 {
-    let mut j: usize = 0;
-    while j < n {
+    for j in 0..n {
         buffer[to + j] = byte_at(table, at + BYTE * j);
-        j += 1;
     }
 }
 
@@ -145,36 +113,21 @@ fn lay_names(table: &[u8], count: usize, buffer: &mut [u8])
 {
     let mut at = COUNT;
     let mut to: usize = 0;
-    let mut i: usize = 0;
-    while i < count {
+    for i in 0..count {
         let n = lay_name(table, at, buffer, to);
         at = at + LENGTH + BYTE * n;
         to = to + 1 + n;
-        i += 1;
     }
 }
 
-// Unpacks a symbol table's names into the buffer: 1, 11, then 8 where it is too short. On refusal no byte changes.
-pub fn unpack(table: &[u8], buffer: &mut [u8]) -> Unpacked
+// Unpacks a symbol table's names into the buffer, and gives their whole length: 1, 11, then 8 where it is too short. On refusal no byte changes.
+pub fn unpack(table: &[u8], buffer: &mut [u8]) -> Result<usize, Answer>
     ensures { UnpacksTo (unpacking_of (table_of table.now) buffer.old) buffer.new result }
 {
-    match judge(table) {
-        Judged::Names(count, total) => {
-            if total <= buffer.len() {
-                lay_names(table, count, buffer);
-                return Unpacked {
-                    answer: Answer::Taken,
-                    length: total,
-                };
-            }
-            Unpacked {
-                answer: Answer::NoRoom,
-                length: 0,
-            }
-        }
-        Judged::Refused(a) => Unpacked {
-            answer: a,
-            length: 0,
-        },
+    let (count, total) = judge(table)?;
+    if total <= buffer.len() {
+        lay_names(table, count, buffer);
+        return Ok(total);
     }
+    Err(Answer::NoRoom)
 }

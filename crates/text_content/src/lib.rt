@@ -26,14 +26,11 @@ pub fn with_value(k: ValueBits, x: f32) -> ValueBits
     let mut bits = k.bits;
     if n < MOST_VALUES {
         bits[n] = base_numbers::float_bits(x);
-        return ValueBits {
-            count: n + 1,
-            bits: bits,
-        };
+        return ValueBits { count: n + 1, bits };
     }
     ValueBits {
         count: MOST_VALUES + 1,
-        bits: bits,
+        bits,
     }
 }
 
@@ -129,7 +126,7 @@ fn labelled_instr(t: u32, p: u32, l: u32, name: u32, d: u32, k: ValueBits) -> Li
         v[6],
         v[7],
     ];
-    first_words(&words, 10 + base_numbers::at_most(k.count, MOST_VALUES))
+    first_words(&words, 10 + k.count.min(MOST_VALUES))
 }
 
 fn unlabelled_instr(t: u32, p: u32, name: u32, d: u32, k: ValueBits) -> LineRead
@@ -155,7 +152,7 @@ fn unlabelled_instr(t: u32, p: u32, name: u32, d: u32, k: ValueBits) -> LineRead
         v[6],
         v[7],
     ];
-    first_words(&words, 9 + base_numbers::at_most(k.count, MOST_VALUES))
+    first_words(&words, 9 + k.count.min(MOST_VALUES))
 }
 
 pub fn instr_line(

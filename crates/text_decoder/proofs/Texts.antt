@@ -6,7 +6,10 @@ use mathlib.Core.List.{List, ◌∷◌}
 use native.Mathlib.Omega.{arith}
 use lib.ListN.{length}
 use Rattle.base_answer.specs.Numbers.{is_taken}
-use Rattle.base_answer.specs.declared.Answer.TheVariants.{Taken, NoRoom}
+use Rattle.base_answer.specs.declared.Answer.TheVariants.{Taken, NoRoom, BadText}
+use Rattle.std.specs.Prelude.{Option}
+use Rattle.std.specs.Option.{unwrap_or}
+use Rattle.score_line.specs.Reading.{refused_line}
 use Rattle.score_line.specs.declared.Line.{Line}
 use Rattle.score_line.specs.LineFormat.{slot_words}
 use Rattle.score_line_writer.specs.Writing.{line_slot}
@@ -15,33 +18,38 @@ use Rattle.score_decoder.specs.inside.Area.{SlotPut}
 use Rattle.score_decoder.proofs.Filling.{passed, Filling, filling-start, filling-more, filling-end}
 use Rattle.score_decoder.proofs.Slots.{taken_is, left-refused, left-short, left-taken}
 use Rattle.text_format.specs.inside.Reading.{text_of}
-use Rattle.text_event_reader.specs.declared.TextLineRead.{TextLineRead}
+use Rattle.score_line.specs.declared.LineRead.{LineRead}
+use Rattle.text_event_reader.specs.Results.{step_of}
 use Rattle.text_reader.specs.Texts.{text_told, line_at, walked}
 use Rattle.text_reader.specs.declared.TextRead.{TextRead}
 use Rattle.text_reader.proofs.Walk.{walk-all}
 
 -- ---- the lines of a text
 
-walked-passes : (s : List ℕ) (n at : ℕ) → passed (λ x. (line_at s x).read.line) (λ x. (line_at s x).next) n at ≡ walked s n at
+walked-passes : (s : List ℕ) (n at : ℕ) → passed (λ x. (step_of (line_at s x)).0.line) (λ x. (step_of (line_at s x)).1) n at ≡ walked s n at
 unfolding walked
 walked-passes s zero at = refl
-walked-passes s (suc n) at = ap (λ (ls : List Line). (line_at s at).read.line ∷ ls) (walked-passes s n (line_at s at).next)
+walked-passes s (suc n) at = ap (λ (ls : List Line). (step_of (line_at s at)).0.line ∷ ls) (walked-passes s n (step_of (line_at s at)).1)
 
 module _ (s : List ℕ) (n : ℕ) (old : List ℕ) where
   abbrev pub Filled : List ℕ → ℕ → ℕ → Type 0
-  Filled new at i = Filling (λ x. (line_at s x).read.line) (λ x. (line_at s x).next) n 0 old new at i
+  Filled new at i = Filling (λ x. (step_of (line_at s x)).0.line) (λ x. (step_of (line_at s x)).1) n 0 old new at i
 
   pub fill_start : Filled old 0 0
-  fill_start = filling-start (λ x. (line_at s x).read.line) (λ x. (line_at s x).next) n 0 old
+  fill_start = filling-start (λ x. (step_of (line_at s x)).0.line) (λ x. (step_of (line_at s x)).1) n 0 old
 
-  pub fill_more : (new next slot : List ℕ) (at i : ℕ) {l : TextLineRead} → Filled new at i → i < n → l ≡ line_at s at → slot ≡ line_slot l.read.line → length next ≡ length new → SlotPut new (slot_words * i) slot next
-      → Filled next l.next (i + 1)
-  fill_more new next slot at i f h e g k p =
-      filling-more (λ x. (line_at s x).read.line) (λ x. (line_at s x).next) n 0 old new next slot at i f h (ap (λ (x : TextLineRead). x.next) e) (g ∙ ap (λ (x : TextLineRead). line_slot x.read.line) e) k p
+  pub fill_more : (new next slot : List ℕ) (at i : ℕ) {x : Option (LineRead × ℕ)} {d : LineRead} {l : LineRead × ℕ} → Filled new at i → i < n → x ≡ line_at s at → d ≡ refused_line BadText
+      → l ≡ unwrap_or x (d, 0) → slot ≡ line_slot l.0.line → length next ≡ length new
+      → SlotPut new (slot_words * i) slot next
+      → Filled next l.1 (i + 1)
+  fill_more new next slot at i f h a b c g k p =
+      let e = c ∙ (λ j. unwrap_or (a j) (b j, 0)) in
+      filling-more (λ x. (step_of (line_at s x)).0.line) (λ x. (step_of (line_at s x)).1) n 0 old new next slot at i f h (ap (λ (x : LineRead × ℕ). x.1) e)
+      (g ∙ ap (λ (x : LineRead × ℕ). line_slot x.0.line) e) k p
 
   pub fill_end : (new : List ℕ) (at i : ℕ) → Filled new at i → n ≤ i → new ≡ laid (area_words (walked s n 0)) old
   fill_end new at i f h =
-      filling-end (λ x. (line_at s x).read.line) (λ x. (line_at s x).next) n 0 old new at i f h ∙ ap (λ (ls : List Line). laid (area_words ls) old) (walked-passes s n 0)
+      filling-end (λ x. (step_of (line_at s x)).0.line) (λ x. (step_of (line_at s x)).1) n 0 old new at i f h ∙ ap (λ (ls : List Line). laid (area_words ls) old) (walked-passes s n 0)
 
 -- ---- the answers
 

@@ -17,14 +17,12 @@ fn fill(bytes: &[u8], area: &mut [u32], n: usize)
     ensures { area.new ≡ laid (area_words (walked bytes.now n 0)) area.old }
 {
     let mut at: usize = 0;
-    let mut i: usize = 0;
-    while i < n {
-        let l = text_line_reader::line_at(bytes, at);
-        let read = l.read;
-        let line = read.line;
-        score_decoder::put_slot(area, SLOT * i, score_line_writer::line_slot(line));
-        at = l.next;
-        i += 1;
+    for i in 0..n {
+        // Kept: each of the n lines stands there, but what this requires doesn't say so.
+        let none = (score_line::refused(Answer::BadText), 0);
+        let (read, next) = text_line_reader::line_at(bytes, at).unwrap_or(none);
+        score_decoder::put_slot(area, SLOT * i, score_line_writer::line_slot(read.line));
+        at = next;
     }
 }
 
@@ -41,7 +39,7 @@ pub fn decode_text(bytes: &[u8], area: &mut [u32]) -> Decoded
             return Decoded {
                 answer: Answer::Taken,
                 line: 0,
-                count: count,
+                count,
             };
         }
         return Decoded {
@@ -51,7 +49,7 @@ pub fn decode_text(bytes: &[u8], area: &mut [u32]) -> Decoded
         };
     }
     Decoded {
-        answer: answer,
+        answer,
         line: read.line,
         count: 0,
     }

@@ -1,34 +1,30 @@
 -- One law for each way through the readers of spaces, the colon, words, and what stands behind a gap. Assumes nothing.
-use Prim.Native.Nat.{ℕ, ◌+◌, ◌-◌, ◌≤◌, ◌<◌}
+use Prim.Native.Nat.{ℕ, ◌+◌, ◌≤◌, ◌<◌}
 use mathlib.Core.Path.{◌≡◌, refl, sym, ap, ap₂, ◌∙◌}
 use mathlib.Core.Bool.{Bool, true, false}
 use mathlib.Core.List.{List, [], ◌∷◌}
+use native.Mathlib.Nat.{le_refl}
 use native.Mathlib.Omega.{arith}
 use borrow.Author.Tests.{eq-eqb, ne_eqb}
-use lib.ListN.{length, get_or, drop, length-drop}
+use lib.ListN.{length, get_or, drop}
 use lib.Ieee.{Float}
 use Rattle.base_laws.proofs.Choice.{cond-true, cond-false}
 use Rattle.text_numerals.specs.inside.Reading.{Read, got, refused, starts_with, rest, number_from, name_from}
+use Rattle.std.specs.Prelude.{Option, Some, None}
 use Rattle.text_number_reader.specs.Results.{NumberAt, NameAt, Starts}
-use Rattle.text_number_reader.specs.declared.NumberRead.{NumberRead}
-use Rattle.text_number_reader.specs.declared.NumberRead.TheVariants as number
-use Rattle.text_number_reader.specs.declared.NameRead.{NameRead}
-use Rattle.text_number_reader.specs.declared.NameRead.TheVariants as name
-use Rattle.text_number_reader.proofs.Readers.{behind, number-as, number-no, name-as, name-no}
+use Rattle.text_number_reader.proofs.Readers.{behind, read-as, read-no}
 use Rattle.text_number_reader.proofs.Bytes.{here, past, rest-drop}
 use Rattle.text_format.specs.inside.Reading.{past_spaces, gap_from, colon_from, word_from, next_name, next_number}
 use Rattle.text_elements.specs.Passing.{passed_is, passed_told, PassedAt, SpacesPast, word_told, WordAt, EveryPassedAnswer}
-use Rattle.text_elements.specs.declared.Passed.{Passed}
-use Rattle.text_elements.specs.declared.Passed.TheVariants as passed
 
 -- ---- results
 
 module _ (s : List ℕ) where
-  passed-of : (p : ℕ) {x : Read (Unit {0})} → p ≤ length s → got tt (drop p s) ≡ x → PassedAt s x (passed.At p)
+  passed-of : (p : ℕ) {x : Read (Unit {0})} → p ≤ length s → got tt (drop p s) ≡ x → PassedAt s x (Some p)
   unfolding passed_told
-  passed-of p h e = record { told = ap passed.At (behind s p h) ∙ ap (passed_told s) e; is = e }
+  passed-of p h e = record { told = ap Some (behind s p h) ∙ ap (passed_told s) e; is = e }
 
-  passed_none : {x : Read (Unit {0})} → refused ≡ x → PassedAt s x passed.Refused
+  passed_none : {x : Read (Unit {0})} → refused ≡ x → PassedAt s x None
   unfolding passed_told
   passed_none e = record { told = ap (passed_told s) e; is = e }
 
@@ -61,18 +57,18 @@ module _ (s : List ℕ) (at : ℕ) where
       unfolding past_spaces
       spaces-on n = record { same = sym (cond-true _ _ (eq-eqb (get_or s i 0) 32 n)) ∙ ap past_spaces (sym (here s i h)) ∙ g.same; upto = λ k. omega arith }
 
-    pub spaces-end : length s ≤ i → SpacesPast s at i
+    pub spaces-end : length s ≤ i → SpacesPast s at (length s)
     unfolding past_spaces
-    spaces-end h = record { is = past s i h ∙ ap past_spaces (sym (past s i h)) ∙ g.same; within = g.upto }
+    spaces-end h = record { is = past s (length s) (le_refl (length s)) ∙ ap past_spaces (sym (past s i h)) ∙ g.same; within = λ _. le_refl (length s) }
 
 -- ---- a gap, a colon
 
 module _ (s : List ℕ) (at : ℕ) {t : Bool} (g : Starts s at 32 t) where
-  pub gap_is : t ≡ true → (p : ℕ) → SpacesPast s at p → PassedAt s (gap_from (drop at s)) (passed.At p)
+  pub gap_is : t ≡ true → (p : ℕ) → SpacesPast s at p → PassedAt s (gap_from (drop at s)) (Some p)
   unfolding gap_from
   gap_is y p e = passed-of s p (e.within (let h = g.within y in omega arith)) (ap (got tt) e.is ∙ sym (cond-true _ _ (sym g.is ∙ y)))
 
-  pub gap-no : t ≡ false → PassedAt s (gap_from (drop at s)) passed.Refused
+  pub gap-no : t ≡ false → PassedAt s (gap_from (drop at s)) None
   unfolding gap_from
   gap-no y = passed_none s (sym (cond-false _ _ (sym g.is ∙ y)))
 
@@ -80,13 +76,13 @@ module _ (s : List ℕ) (at : ℕ) {p : ℕ} (e : SpacesPast s at p) {t : Bool} 
   colon-there : starts_with 58 (past_spaces (drop at s)) ≡ t
   colon-there = ap (starts_with 58) (sym e.is) ∙ sym g.is
 
-  pub colon-is : t ≡ true → (q : ℕ) → SpacesPast s (p + 1) q → PassedAt s (colon_from (drop at s)) (passed.At q)
+  pub colon-is : t ≡ true → (q : ℕ) → SpacesPast s (p + 1) q → PassedAt s (colon_from (drop at s)) (Some q)
   unfolding colon_from
   colon-is y q f =
       passed-of s q (f.within (let h = g.within y in omega arith))
       (ap (got tt) (f.is ∙ ap past_spaces (sym (ap rest (sym e.is) ∙ rest-drop s p))) ∙ sym (cond-true _ _ (colon-there ∙ y)))
 
-  pub colon-no : t ≡ false → PassedAt s (colon_from (drop at s)) passed.Refused
+  pub colon-no : t ≡ false → PassedAt s (colon_from (drop at s)) None
   unfolding colon_from
   colon-no y = passed_none s (sym (cond-false _ _ (colon-there ∙ y)))
 
@@ -121,7 +117,7 @@ module _ (s : List ℕ) (at : ℕ) (word : List ℕ) where
         at_first [] e = refl
         at_first (b ∷ bs) e = cond-false _ _ e
 
-    pub word-no : t ≡ false → WordAt s (at + length word) (word_from word (drop at s)) passed.Refused
+    pub word-no : t ≡ false → WordAt s (at + length word) (word_from word (drop at s)) None
     unfolding word_told
     word-no y = record { told = ap (word_told (at + length word)) (word-differs y); is = word-differs y }
 
@@ -129,33 +125,33 @@ module _ (s : List ℕ) (at : ℕ) (word : List ℕ) where
   unfolding word_from
   word-matches p i m h = ap (λ (w : List ℕ). word_from w (drop p s)) (sym (past word i h)) ∙ m.same
 
-  pub word-is : (p i : ℕ) → Matching p i → length word ≤ i → WordAt s (at + length word) (word_from word (drop at s)) (passed.At p)
+  pub word-is : (p i : ℕ) → Matching p i → length word ≤ i → WordAt s (at + length word) (word_from word (drop at s)) (Some p)
   unfolding word_told
   word-is p i m h =
       let e : p ≡ at + length word = omega (arith, m.on, m.upto) in
-      record { told = ap passed.At e ∙ ap (word_told (at + length word)) (word-matches p i m h); is = word-matches p i m h }
+      record { told = ap Some e ∙ ap (word_told (at + length word)) (word-matches p i m h); is = word-matches p i m h }
 
 -- ---- behind a gap
 
-pub passed-at : (s : List ℕ) {x : Read (Unit {0})} {r : Passed} {p : ℕ} → passed_is s r ≡ x → r ≡ passed.At p → x ≡ got tt (drop p s)
+pub passed-at : (s : List ℕ) {x : Read (Unit {0})} {r : Option ℕ} {p : ℕ} → passed_is s r ≡ x → r ≡ Some p → x ≡ got tt (drop p s)
 passed-at s e f = sym e ∙ ap (passed_is s) f
 
-pub passed-no : (s : List ℕ) {x : Read (Unit {0})} {r : Passed} → passed_is s r ≡ x → r ≡ passed.Refused → x ≡ refused
+pub passed-no : (s : List ℕ) {x : Read (Unit {0})} {r : Option ℕ} → passed_is s r ≡ x → r ≡ None → x ≡ refused
 passed-no s e f = sym e ∙ ap (passed_is s) f
 
-module _ (s : List ℕ) (at : ℕ) {r : Passed} (e : passed_is s r ≡ gap_from (drop at s)) where
-  pub name-next : {p : ℕ} {x : NameRead} → r ≡ passed.At p → NameAt s (name_from (drop p s)) x → NameAt s (next_name (drop at s)) x
+module _ (s : List ℕ) (at : ℕ) {r : Option ℕ} (e : passed_is s r ≡ gap_from (drop at s)) where
+  pub name-next : {p : ℕ} {x : Option (ℕ × ℕ)} → r ≡ Some p → NameAt s (name_from (drop p s)) x → NameAt s (next_name (drop at s)) x
   unfolding next_name
-  name-next f = name-as s (sym (rw (passed-at s e f)))
+  name-next f = read-as s (sym (rw (passed-at s e f)))
 
-  pub name-none : r ≡ passed.Refused → NameAt s (next_name (drop at s)) name.Refused
+  pub name-none : r ≡ None → {x : Option (ℕ × ℕ)} → x ≡ None → NameAt s (next_name (drop at s)) x
   unfolding next_name
-  name-none f = name-no s (sym (rw (passed-no s e f)))
+  name-none f = read-no s (sym (rw (passed-no s e f)))
 
-  pub number-next : {p : ℕ} {x : NumberRead} → r ≡ passed.At p → NumberAt s (number_from (drop p s)) x → NumberAt s (next_number (drop at s)) x
+  pub number-next : {p : ℕ} {x : Option (Float × ℕ)} → r ≡ Some p → NumberAt s (number_from (drop p s)) x → NumberAt s (next_number (drop at s)) x
   unfolding next_number
-  number-next f = number-as s (sym (rw (passed-at s e f)))
+  number-next f = read-as s (sym (rw (passed-at s e f)))
 
-  pub number-none : r ≡ passed.Refused → NumberAt s (next_number (drop at s)) number.Refused
+  pub number-none : r ≡ None → {x : Option (Float × ℕ)} → x ≡ None → NumberAt s (next_number (drop at s)) x
   unfolding next_number
-  number-none f = number-no s (sym (rw (passed-no s e f)))
+  number-none f = read-no s (sym (rw (passed-no s e f)))

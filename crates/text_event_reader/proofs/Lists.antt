@@ -9,24 +9,22 @@ use lib.Seq.{append_snoc}
 use lib.Ieee.{Float}
 use Rattle.base_laws.proofs.Choice.{cond-false}
 use Rattle.text_numerals.specs.inside.Reading.{Read, got, refused, and_then, starts_with, rest}
+use Rattle.std.specs.Prelude.{Option, Some, None}
 use Rattle.text_number_reader.specs.Results.{Starts, number_is}
-use Rattle.text_number_reader.specs.declared.NumberRead.{NumberRead}
-use Rattle.text_number_reader.specs.declared.NumberRead.TheVariants as number
 use Rattle.text_number_reader.proofs.Bytes.{rest-drop}
 use Rattle.text_format.specs.inside.Reading.{next_number, values_from}
 use Rattle.text_content.specs.Judged.{eight, kept_of, with_value}
 use Rattle.text_content.specs.declared.ValueBits.{ValueBits}
 use Rattle.text_content.proofs.Keeping.{kept_more}
-use Rattle.text_event_reader.specs.Results.{position, no_values, values_told}
-use Rattle.text_event_reader.specs.declared.Values.{Values}
+use Rattle.text_event_reader.specs.Results.{position, values_told}
 use Rattle.text_event_reader.proofs.Leaves.{next-number-leaves}
 
 -- ---- what a call gave
 
-pub number_of : (s : List ℕ) {x : Read Float} {r : NumberRead} {v : Float} {p : ℕ} → number_is s r ≡ x → r ≡ number.Of v p → x ≡ got v (drop p s)
+pub number_of : (s : List ℕ) {x : Read Float} {r : Option (Float × ℕ)} {v : Float} {p : ℕ} → number_is s r ≡ x → r ≡ Some (v, p) → x ≡ got v (drop p s)
 number_of s e f = sym e ∙ ap (number_is s) f
 
-pub number-no : (s : List ℕ) {x : Read Float} {r : NumberRead} → number_is s r ≡ x → r ≡ number.Refused → x ≡ refused
+pub number-no : (s : List ℕ) {x : Read Float} {r : Option (Float × ℕ)} → number_is s r ≡ x → r ≡ None → x ≡ refused
 number-no s e f = sym e ∙ ap (number_is s) f
 
 -- the position past a byte that is there
@@ -34,13 +32,13 @@ pub next-position : (s : List ℕ) (p : ℕ) → p < length s → p + 1 ≡ posi
 next-position s p h = let e : p + 1 ≡ length s - length (drop (p + 1) s) = omega (arith, length-drop (p + 1) s) in cc (rest-drop s p)
 
 -- a number leaves fewer bytes
-pub fewer-left : (s : List ℕ) (p q : ℕ) {r : NumberRead} {x : Float} → number_is s r ≡ next_number (drop p s) → r ≡ number.Of x q → length (drop q s) < length (drop p s)
+pub fewer-left : (s : List ℕ) (p q : ℕ) {r : Option (Float × ℕ)} {x : Float} → number_is s r ≡ next_number (drop p s) → r ≡ Some (x, q) → length (drop q s) < length (drop p s)
 fewer-left s p q {x = x} e f =
     let n = number_of s e f in
     let b = rw n at (next-number-leaves (drop p s)) in
     omega (arith, b.some_of, b.within, ap length b.is, length-drop b.passed (drop p s))
 
-pub falls : (s : List ℕ) (p q : ℕ) {r : NumberRead} {x : Float} → number_is s r ≡ next_number (drop p s) → r ≡ number.Of x q → length s - q < length s - p
+pub falls : (s : List ℕ) (p q : ℕ) {r : Option (Float × ℕ)} {x : Float} → number_is s r ≡ next_number (drop p s) → r ≡ Some (x, q) → length s - q < length s - p
 falls s p q e f = omega (arith, fewer-left s p q e f, length-drop p s, length-drop q s)
 
 -- ---- the loop
@@ -77,16 +75,16 @@ module _ (s : List ℕ) (at : ℕ) where
       whole refused = refl
 
   module _ (k : ValueBits) (p : ℕ) (g : Gathering k p) {t : Bool} (n : Starts s p 10 t) where
-    pub ends : t ≡ true → record { stand = true; kept = k; next = p + 1 } ≡ values_told s (values_from (length (drop at s)) (drop at s))
+    pub ends : t ≡ true → Some (k, p + 1) ≡ values_told s (values_from (length (drop at s)) (drop at s))
     unfolding values_told values_from
     ends y =
         let h = no_more (drop p s) (sym n.is ∙ y) in
         let m : length (drop at s) - length g.done ≡ suc (length (drop at s) - length g.done - 1) = omega (arith, g.room) in
         let v : values_from (length (drop at s)) (drop at s) ≡ got g.done (rest (drop p s)) = cc (g.same, sym n.is ∙ y, append-nil g.done) in
-        (λ i. record { stand = true; kept = g.kept i; next = next-position s p (n.within y) i }) ∙ ap (values_told s) (sym v)
+        (λ i. Some (g.kept i, next-position s p (n.within y) i)) ∙ ap (values_told s) (sym v)
 
-    module _ (y : t ≡ false) {r : NumberRead} (e : number_is s r ≡ next_number (drop p s)) where
-      pub again : (x : Float) (q : ℕ) → r ≡ number.Of x q → {l : ValueBits} → l ≡ with_value k x → Gathering l q
+    module _ (y : t ≡ false) {r : Option (Float × ℕ)} (e : number_is s r ≡ next_number (drop p s)) where
+      pub again : (x : Float) (q : ℕ) → r ≡ Some (x, q) → {l : ValueBits} → l ≡ with_value k x → Gathering l q
       unfolding values_from
       again x q f w =
           let bs = drop at s in
@@ -110,7 +108,7 @@ module _ (s : List ℕ) (at : ℕ) where
           regroup d x (got vs q) = ap (λ (l : List Float). got l q) (append_snoc d x vs)
           regroup d x refused = refl
 
-      pub stops : r ≡ number.Refused → {v : Values} → v ≡ no_values → v ≡ values_told s (values_from (length (drop at s)) (drop at s))
+      pub stops : r ≡ None → {v : Option (ValueBits × ℕ)} → v ≡ None → v ≡ values_told s (values_from (length (drop at s)) (drop at s))
       unfolding values_told values_from
       stops f w = w ∙ ap (values_told s) (sym (go (length (drop at s) - length g.done)) ∙ g.same)
         where

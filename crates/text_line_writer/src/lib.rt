@@ -1,19 +1,19 @@
 // The text of a score line, put together piece by piece.
 #![tactic(auto)]
 
-ghost use Rattle.std.specs.Prelude.{◌≡◌, [], ◌∷◌, take};
+ghost use Rattle.std.specs.Prelude.{◌≡◌, ◌∷◌, take};
 ghost use Rattle.std.proofs.Math.Option.{some, map};
 ghost use Rattle.text_numerals.specs.Numeral.{name_bytes};
-ghost use Rattle.text_number_writer.specs.Push.{empty_text};
+ghost use Rattle.text_number_writer.specs.Push.{empty_text, push_all};
 ghost use Rattle.score_line.specs.LineFormat.{label_parts};
 ghost use Rattle.text_format.specs.Content as content;
 ghost use Rattle.text_format.specs.Form.{star_bytes, line_bytes};
 ghost use Rattle.text_line_writer.specs.LineText.{event_content};
 ghost use Rattle.text_line_writer.specs.inside.LineText.{line_text};
-ghost use Rattle.text_line_writer.specs.inside.Drafts.{Holds, Drafted, kept, Joined, number_bytes, next_bytes, values_bytes, label_bytes_of, form_text};
+ghost use Rattle.text_line_writer.specs.inside.Drafts.{Drafted, Joined, number_bytes, next_bytes, values_bytes, label_bytes_of, form_text};
 
 use score_line::{Event, Label, Line, MOST_VALUES, When};
-use text_number_writer::{LineText, NumberText};
+use text_number_writer::LineText;
 
 const STAR: u8 = 42;
 
@@ -23,199 +23,144 @@ const COLON: u8 = 58;
 
 const NEWLINE: u8 = 10;
 
-// A line's text as far as it is written, and whether each of its numbers has one.
-#[derive(Clone, Copy)]
-pub struct Draft {
-    pub there: bool,
-    pub text: LineText,
-}
-
-fn with_byte(d: Draft, b: u8) -> Draft
-    ensures { Joined d (some (b ∷ [])) result }
+// A number's shortest text, behind what is written; none where it has no text.
+fn with_number(t: LineText, x: f32) -> Option<LineText>
+    ensures { Joined t (number_bytes x) result }
 {
-    let text = d.text;
-    Draft {
-        there: d.there,
-        text: text_number_writer::push(text, b),
-    }
-}
-
-fn with_word(d: Draft, word: &[u8]) -> Draft
-    ensures { Joined d (some word.now) result }
-{
-    let text = d.text;
-    Draft {
-        there: d.there,
-        text: text_number_writer::push_word(text, word),
-    }
-}
-
-fn with_name(d: Draft, symbol: u16) -> Draft
-    ensures { Joined d (some (name_bytes symbol)) result }
-{
-    let text = d.text;
-    Draft {
-        there: d.there,
-        text: text_number_writer::push_name(text, symbol),
-    }
-}
-
-// A number's shortest text.
-fn with_number(d: Draft, x: f32) -> Draft
-    ensures { Joined d (number_bytes x) result }
-{
-    let text = d.text;
-    match text_number_writer::shortest(x) {
-        NumberText::Text(n, decimals) => Draft {
-            there: d.there,
-            text: text_number_writer::push_number(text, text_number_writer::sign(x), n, decimals),
-        },
-        NumberText::None => Draft {
-            there: false,
-            text: text,
-        },
-    }
+    let (n, decimals) = text_number_writer::shortest(x)?;
+    Some(text_number_writer::push_number(t, text_number_writer::sign(x), n, decimals))
 }
 
 // A name behind a space.
-fn next_name(d: Draft, symbol: u16) -> Draft
-    ensures { Joined d (some (32 ∷ name_bytes symbol)) result }
+fn next_name(t: LineText, symbol: u16) -> LineText
+    ensures { result ≡ push_all t (32 ∷ name_bytes symbol) }
 {
-    with_name(with_byte(d, SPACE), symbol)
+    text_number_writer::push_name(text_number_writer::push(t, SPACE), symbol)
 }
 
 // A number behind a space.
-fn next_number(d: Draft, x: f32) -> Draft
-    ensures { Joined d (next_bytes x) result }
+fn next_number(t: LineText, x: f32) -> Option<LineText>
+    ensures { Joined t (next_bytes x) result }
 {
-    with_number(with_byte(d, SPACE), x)
+    with_number(text_number_writer::push(t, SPACE), x)
 }
 
-fn with_values(d: Draft, count: usize, values: [f32; MOST_VALUES]) -> Draft
-    ensures { Joined d (values_bytes (take count values)) result }
+fn with_values(t: LineText, count: usize, values: [f32; MOST_VALUES]) -> Option<LineText>
+    ensures { Joined t (values_bytes (take count values)) result }
 {
-    let n = base_numbers::at_most(count, MOST_VALUES);
-    let mut r = d;
-    let mut i: usize = 0;
-    while i < n {
-        r = next_number(r, values[i]);
-        i += 1;
+    let n = count.min(MOST_VALUES);
+    let mut text = t;
+    for i in 0..n {
+        text = next_number(text, values[i])?;
     }
-    r
+    Some(text)
 }
 
 // An instr line's label, its colon and a space.
-fn with_label(d: Draft, label: Label) -> Draft
-    ensures { Joined d (some (label_bytes_of label)) result }
+fn with_label(t: LineText, label: Label) -> LineText
+    ensures { result ≡ push_all t (label_bytes_of label) }
 {
     match label {
-        Label::Labelled(n) => with_byte(with_byte(with_name(d, n), COLON), SPACE),
-        Label::Unlabelled => d,
+        Label::Labelled(n) => {
+            let named = text_number_writer::push_name(t, n);
+            text_number_writer::push(text_number_writer::push(named, COLON), SPACE)
+        }
+        Label::Unlabelled => t,
     }
 }
 
 fn instr_text(
-    d: Draft,
+    t: LineText,
     time: f32,
     label: Label,
     instrument: u16,
     duration: f32,
     count: usize,
     values: [f32; MOST_VALUES],
-) -> Draft
-    ensures { Joined d (form_text time (content.instr (label_parts label) instrument duration (take count values))) result }
+) -> Option<LineText>
+    ensures { Joined t (form_text time (content.instr (label_parts label) instrument duration (take count values))) result }
 {
-    let timed = with_number(with_label(d, label), time);
-    let lasting = next_number(next_name(timed, instrument), duration);
+    let timed = with_number(with_label(t, label), time)?;
+    let lasting = next_number(next_name(timed, instrument), duration)?;
     with_values(lasting, count, values)
 }
 
-fn control_text(d: Draft, time: f32, label: u16, variable: u16, value: f32) -> Draft
-    ensures { Joined d (form_text time (content.control (some label) variable value)) result }
+fn control_text(t: LineText, time: f32, label: u16, variable: u16, value: f32) -> Option<LineText>
+    ensures { Joined t (form_text time (content.control (some label) variable value)) result }
 {
-    let labelled = next_name(with_number(d, time), label);
-    let named = next_name(with_word(labelled, b" control"), variable);
+    let timed = with_number(t, time)?;
+    let labelled = next_name(timed, label);
+    let named = next_name(
+        text_number_writer::push_word(labelled, b" control"),
+        variable,
+    );
     next_number(named, value)
 }
 
-fn tempo_text(d: Draft, time: f32, tempo: f32) -> Draft
-    ensures { Joined d (form_text time (content.tempo tempo)) result }
+fn tempo_text(t: LineText, time: f32, tempo: f32) -> Option<LineText>
+    ensures { Joined t (form_text time (content.tempo tempo)) result }
 {
-    let timed = with_number(d, time);
-    next_number(with_word(timed, b" tempo"), tempo)
+    let timed = with_number(t, time)?;
+    next_number(text_number_writer::push_word(timed, b" tempo"), tempo)
 }
 
-fn end_text(d: Draft, time: f32) -> Draft
-    ensures { Joined d (form_text time content.end) result }
+fn end_text(t: LineText, time: f32) -> Option<LineText>
+    ensures { Joined t (form_text time content.end) result }
 {
-    let timed = with_number(d, time);
-    with_word(timed, b" end")
+    let timed = with_number(t, time)?;
+    Some(text_number_writer::push_word(timed, b" end"))
 }
 
-fn event_text(d: Draft, time: f32, event: Event, count: usize, values: [f32; MOST_VALUES]) -> Draft
-    ensures { Joined d (form_text time (event_content event count values)) result }
+fn event_text(
+    t: LineText,
+    time: f32,
+    event: Event,
+    count: usize,
+    values: [f32; MOST_VALUES],
+) -> Option<LineText>
+    ensures { Joined t (form_text time (event_content event count values)) result }
 {
     match event {
         Event::Instr {
             label,
             instrument,
             duration,
-        } => instr_text(d, time, label, instrument, duration, count, values),
+        } => instr_text(t, time, label, instrument, duration, count, values),
         Event::Control {
             label,
             variable,
             value,
-        } => control_text(d, time, label, variable, value),
-        Event::End => end_text(d, time),
-        Event::Tempo(tempo) => tempo_text(d, time, tempo),
-    }
-}
-
-fn nothing_yet(there: bool) -> Draft
-    ensures { result ≡ record { there = there; text = empty_text } }
-{
-    Draft {
-        there: there,
-        text: text_number_writer::empty(),
+        } => control_text(t, time, label, variable, value),
+        Event::End => end_text(t, time),
+        Event::Tempo(tempo) => tempo_text(t, time, tempo),
     }
 }
 
 // A star first of all for priority.
-fn begun(priority: bool) -> Draft
-    ensures { Holds result (some (star_bytes priority)) }
+fn begun(priority: bool) -> LineText
+    ensures { result ≡ push_all empty_text (star_bytes priority) }
 {
+    let empty = text_number_writer::empty();
     if priority {
-        return with_byte(nothing_yet(true), STAR);
+        return text_number_writer::push(empty, STAR);
     }
-    nothing_yet(true)
+    empty
 }
 
-// A draft, and of one with a number missing nothing.
-fn finished(d: Draft) -> Draft
-    ensures { result ≡ kept d }
-{
-    if d.there {
-        return d;
-    }
-    nothing_yet(false)
-}
-
-// A line's text with its newline; not there for a line without a time, with use-if-late set, or with a number that has no text.
-pub fn line_text(line: Line) -> Draft
+// A line's text with its newline; none for a line without a time, with use-if-late set, or with a number that has no text.
+pub fn line_text(line: Line) -> Option<LineText>
     ensures { Drafted result (map line_bytes (line_text line)) }
 {
-    let when = line.when;
-    let event = line.event;
-    let values = line.values;
-    match when {
+    match line.when {
         When::Timed { use_if_late, time } => {
             if use_if_late {
-                nothing_yet(false)
+                None
             } else {
-                let d = event_text(begun(line.priority), time, event, line.count, values);
-                finished(with_byte(d, NEWLINE))
+                let begun = begun(line.priority);
+                let text = event_text(begun, time, line.event, line.count, line.values)?;
+                Some(text_number_writer::push(text, NEWLINE))
             }
         }
-        When::Untimed => nothing_yet(false),
+        When::Untimed => None,
     }
 }

@@ -4,7 +4,8 @@ use mathlib.Core.Path.{◌≡◌, refl, sym, ap, ◌∙◌}
 use mathlib.Core.Bool.{false, true≢false}
 use mathlib.Core.List.{List, [], ◌∷◌}
 use native.Mathlib.Numerals.{add-one}
-use lib.Dec.{eqb}
+use borrow.Author.Tests.{le-ltb}
+use lib.Dec.{eqb, ltb}
 use lib.ListN.{length, get_or, drop, drop_of_length-le}
 use lib.Seq.{drop-cons}
 use Rattle.text_numerals.specs.inside.Reading.{starts_with, rest}
@@ -31,6 +32,8 @@ pub starts-here : (s : List ℕ) (at b : ℕ) → at < length s → Starts s at 
 unfolding starts_with
 starts-here s at b h = record { is = sym (ap (starts_with b) (here s at h)); within = λ e. h }
 
-pub starts-past : (s : List ℕ) (at b : ℕ) → length s ≤ at → Starts s at b false
+pub starts-past : (s : List ℕ) (at b : ℕ) → length s ≤ at → Starts s at b (ltb at (length s))
 unfolding starts_with
-starts-past s at b h = record { is = sym (ap (starts_with b) (past s at h)); within = λ e. absurd (true≢false (sym e)) }
+starts-past s at b h =
+    let f : ltb at (length s) ≡ false = le-ltb at (length s) h in
+    record { is = f ∙ sym (ap (starts_with b) (past s at h)); within = λ e. absurd (true≢false (sym e ∙ f)) }

@@ -2,7 +2,9 @@
 use Prim.Native.Nat.{ℕ, suc, ◌+◌, ◌-◌, ◌*◌, ◌^◌, ◌≤◌, ◌<◌}
 use mathlib.Core.Path.{◌≡◌, refl, sym, ap, ◌∙◌, subst}
 use mathlib.Core.Bool.{Bool, true, false}
+use mathlib.Core.Logic.{◌⊎◌, inl, inr}
 use mathlib.Core.List.{List, [], ◌∷◌}
+use native.Mathlib.Nat.{le_refl}
 use native.Mathlib.Omega.{arith}
 use borrow.Author.Tests.{lt-ltb, le-ltb, le-leb, lt-leb, ltb-true}
 use mir.Val.{Fits}
@@ -17,13 +19,8 @@ use Rattle.text_numerals.specs.Numeral.{most_number, most_decimals, float_of}
 use Rattle.text_numerals.specs.inside.Reading.{Read, got, refused, is_digit, Run, digits_from, without_point, decimals_from, unsigned_from, number_from, symbol_from, name_from}
 use Rattle.text_numerals.proofs.Quotient.{quotient}
 use Rattle.text_numerals.proofs.Signs.{minus-float}
-use Rattle.text_number_reader.specs.Results.{number_is, name_is, number_told, name_told, NumberAt, NameAt, EveryNumberAnswer, EveryNameAnswer, digits_is, count_in, past_in, DigitsAt, Starts}
-use Rattle.text_number_reader.specs.declared.NumberRead.{NumberRead}
-use Rattle.text_number_reader.specs.declared.NumberRead.TheVariants as number
-use Rattle.text_number_reader.specs.declared.NameRead.{NameRead}
-use Rattle.text_number_reader.specs.declared.NameRead.TheVariants as name
-use Rattle.text_number_reader.specs.declared.DigitsRead.{DigitsRead}
-use Rattle.text_number_reader.specs.declared.DigitsRead.TheVariants as digits
+use Rattle.std.specs.Prelude.{Option, Some, None}
+use Rattle.text_number_reader.specs.Results.{read_is, read_told, ReadAt, NumberAt, NameAt, EveryNumberAnswer, EveryNameAnswer, digits_is, count_in, past_in, DigitsAt, Starts}
 use Rattle.text_number_reader.proofs.Bytes.{here, past, rest-drop}
 
 -- ---- one byte
@@ -46,36 +43,25 @@ digit-no-high b h k = cc (le-leb 48 b h, lt-leb b 57 k)
 pub behind : (s : List ℕ) (p : ℕ) → p ≤ length s → p ≡ length s - length (drop p s)
 behind s p h = omega (arith, length-drop p s)
 
-module _ (s : List ℕ) where
-  pub number_of : (v : Float) (p : ℕ) {x : Read Float} → p ≤ length s → got v (drop p s) ≡ x → NumberAt s x (number.Of v p)
-  unfolding number_told
-  number_of v p h e = record { told = ap (number.Of v) (behind s p h) ∙ ap (number_told s) e; is = e }
+module _ {A : Type 0} (s : List ℕ) where
+  pub read_of : (v : A) (p : ℕ) {x : Read A} → p ≤ length s → got v (drop p s) ≡ x → ReadAt s x (Some (v, p))
+  unfolding read_told
+  read_of v p h e = record { told = ap (λ (q : ℕ). Some (v, q)) (behind s p h) ∙ ap (read_told s) e; is = e }
 
-  pub number-no : {x : Read Float} → refused ≡ x → NumberAt s x number.Refused
-  unfolding number_told
-  number-no e = record { told = ap (number_told s) e; is = e }
+  pub read-no : {x : Read A} → refused ≡ x → {r : Option (A × ℕ)} → r ≡ None → ReadAt s x r
+  unfolding read_told
+  read-no e f = record { told = f ∙ ap (read_told s) e; is = ap (read_is s) f ∙ e }
 
-  pub number-as : {x y : Read Float} {r : NumberRead} → x ≡ y → NumberAt s x r → NumberAt s y r
-  number-as e a = record { told = a.told ∙ ap (number_told s) e; is = a.is ∙ e }
-
-  pub name_of : (v p : ℕ) {x : Read ℕ} → p ≤ length s → got v (drop p s) ≡ x → NameAt s x (name.Of v p)
-  unfolding name_told
-  name_of v p h e = record { told = ap (name.Of v) (behind s p h) ∙ ap (name_told s) e; is = e }
-
-  pub name-no : {x : Read ℕ} → refused ≡ x → NameAt s x name.Refused
-  unfolding name_told
-  name-no e = record { told = ap (name_told s) e; is = e }
-
-  pub name-as : {x y : Read ℕ} {r : NameRead} → x ≡ y → NameAt s x r → NameAt s y r
-  name-as e a = record { told = a.told ∙ ap (name_told s) e; is = a.is ∙ e }
+  pub read-as : {x y : Read A} {r : Option (A × ℕ)} → x ≡ y → ReadAt s x r → ReadAt s y r
+  read-as e a = record { told = a.told ∙ ap (read_told s) e; is = a.is ∙ e }
 
 pub every-number-answer : EveryNumberAnswer
-unfolding number_told
+unfolding read_told
 every-number-answer s (got x after) = refl
 every-number-answer s refused = refl
 
 pub every-name-answer : EveryNameAnswer
-unfolding name_told
+unfolding read_told
 every-name-answer s (got n after) = refl
 every-name-answer s refused = refl
 
@@ -94,7 +80,7 @@ module _ (s : List ℕ) (at start most : ℕ) where
 
   -- the digits end at i
   told_at : (n i : ℕ) → Reading n i → got (record { number = n; count = i - at }) (drop i s) ≡ digits_from most start 0 (drop at s)
-      → DigitsAt s (digits_from most start 0 (drop at s)) (digits.Of n (i - at) i)
+      → DigitsAt s (digits_from most start 0 (drop at s)) (Some (n, i - at, i))
   told_at n i g e = record { is = e; within = λ k. omega (arith, g.on, g.upto) }
 
   module _ (n i : ℕ) (g : Reading n i) (h : i < length s) where
@@ -102,18 +88,15 @@ module _ (s : List ℕ) (at start most : ℕ) where
     front : digits_from most n (i - at) (get_or s i 0 ∷ drop (i + 1) s) ≡ digits_from most start 0 (drop at s)
     front = ap (digits_from most n (i - at)) (sym (here s i h)) ∙ g.same
 
-    ends_at : is_digit (get_or s i 0) ≡ false → DigitsAt s (digits_from most start 0 (drop at s)) (digits.Of n (i - at) i)
+    ends_at : is_digit (get_or s i 0) ≡ false → DigitsAt s (digits_from most start 0 (drop at s)) (Some (n, i - at, i))
     unfolding digits_from
     ends_at e = told_at n i g (ap (got (record { number = n; count = i - at })) (here s i h) ∙ rw e at front)
 
-    pub ends_low : get_or s i 0 < 48 → DigitsAt s (digits_from most start 0 (drop at s)) (digits.Of n (i - at) i)
-    ends_low l = ends_at (digit-no-low (get_or s i 0) l)
-
-    pub ends-high : 48 ≤ get_or s i 0 → 57 < get_or s i 0 → DigitsAt s (digits_from most start 0 (drop at s)) (digits.Of n (i - at) i)
-    ends-high l k = ends_at (digit-no-high (get_or s i 0) l k)
+    pub ends_outside : (get_or s i 0 < 48) ⊎ ((48 ≤ get_or s i 0) × (57 < get_or s i 0)) → DigitsAt s (digits_from most start 0 (drop at s)) (Some (n, i - at, i))
+    ends_outside o = elim o [ inl l ↦ ends_at (digit-no-low (get_or s i 0) l) | inr h ↦ ends_at (digit-no-high (get_or s i 0) h.0 h.1) ]
 
     module _ (l : 48 ≤ get_or s i 0) (k : get_or s i 0 ≤ 57) where
-      pub too_large : most ≤ n * 10 + (get_or s i 0 - 48) → DigitsAt s (digits_from most start 0 (drop at s)) digits.Refused
+      pub too_large : most ≤ n * 10 + (get_or s i 0 - 48) → DigitsAt s (digits_from most start 0 (drop at s)) None
       unfolding digits_from
       too_large m = record { is = rw (digit-yes (get_or s i 0) l k, le-ltb (n * 10 + (get_or s i 0 - 48)) most m) at front; within = λ j. omega arith }
 
@@ -123,9 +106,14 @@ module _ (s : List ℕ) (at start most : ℕ) where
           let c : i + 1 - at ≡ suc (i - at) = omega (arith, g.on) in
           record { on = omega (arith, g.on); upto = omega (arith, g.on, g.upto); below = m; same = rw c (rw (digit-yes (get_or s i 0) l k, lt-ltb (n * 10 + (get_or s i 0 - 48)) most m) at front) }
 
-  pub ends : (n i : ℕ) → Reading n i → length s ≤ i → DigitsAt s (digits_from most start 0 (drop at s)) (digits.Of n (i - at) i)
+  pub ends : (n i k : ℕ) → Reading n i → length s ≤ i → k ≡ length s - at → DigitsAt s (digits_from most start 0 (drop at s)) (Some (n, k, length s))
   unfolding digits_from
-  ends n i g h = told_at n i g (ap (got (record { number = n; count = i - at })) (past s i h) ∙ rw (past s i h) at g.same)
+  ends n i k g h e =
+      let j : k ≡ i - at = omega (arith, g.on, g.upto) in
+      record {
+        is = (λ z. got (record { number = n; count = j z }) (past s (length s) (le_refl (length s)) z)) ∙ rw (past s i h) at g.same;
+        within = λ _. le_refl (length s);
+      }
 
 abbrev number_in : Read Run → ℕ
 number_in (got r after) = r.number
@@ -144,17 +132,17 @@ below-from most n k (b ∷ bs) {m} {c} {after} h e =
 -- ---- what a call gave
 
 -- what was matched of a call's result, as a reading
-matched : (s : List ℕ) {x : Read Run} {r k : DigitsRead} → digits_is s r ≡ x → r ≡ k → x ≡ digits_is s k
+matched : (s : List ℕ) {x : Read Run} {r k : Option (ℕ × ℕ × ℕ)} → digits_is s r ≡ x → r ≡ k → x ≡ digits_is s k
 matched s e f = sym e ∙ ap (digits_is s) f
 
 -- the position past one digit or more
-within_of : (s : List ℕ) {x : Read Run} {r : DigitsRead} {n k p : ℕ} → DigitsAt s x r → r ≡ digits.Of n k p → 0 < k → p ≤ length s
-within_of s {n} {k} {p} d f h = subst (λ (q : DigitsRead). 0 < count_in q → past_in q ≤ length s) f d.within h
+within_of : (s : List ℕ) {x : Read Run} {r : Option (ℕ × ℕ × ℕ)} {n k p : ℕ} → DigitsAt s x r → r ≡ Some (n, k, p) → 0 < k → p ≤ length s
+within_of s {n} {k} {p} d f h = subst (λ (q : Option (ℕ × ℕ × ℕ)). 0 < count_in q → past_in q ≤ length s) f d.within h
 
-pub digits-below : (s : List ℕ) (at start most : ℕ) {n k p : ℕ} {r : DigitsRead} → DigitsAt s (digits_from most start 0 (drop at s)) r → r ≡ digits.Of n k p → start < most → n < most
+pub digits-below : (s : List ℕ) (at start most : ℕ) {n k p : ℕ} {r : Option (ℕ × ℕ × ℕ)} → DigitsAt s (digits_from most start 0 (drop at s)) r → r ≡ Some (n, k, p) → start < most → n < most
 digits-below s at start most e f h = below-from most start 0 (drop at s) h (matched s e.is f)
 
-pub symbol-fits : (s : List ℕ) (at : ℕ) {n k p : ℕ} {r : DigitsRead} → DigitsAt s (digits_from 65536 0 0 (drop at s)) r → r ≡ digits.Of n k p → Fits w16 n
+pub symbol-fits : (s : List ℕ) (at : ℕ) {n k p : ℕ} {r : Option (ℕ × ℕ × ℕ)} → DigitsAt s (digits_from 65536 0 0 (drop at s)) r → r ≡ Some (n, k, p) → Fits w16 n
 symbol-fits s at e f = record { fits = digits-below s at 0 65536 e f (omega arith) }
 
 -- ---- what a number means
@@ -167,33 +155,33 @@ value-minus minus n d h k e f = ap neg (value-plain false n d h k e refl) ∙ mi
 
 -- ---- decimals
 
-module _ (s : List ℕ) (at : ℕ) (minus : Bool) (n : ℕ) {r : DigitsRead} (e : DigitsAt s (digits_from most_number n 0 (drop at s)) r) where
-  module _ {m k p : ℕ} (f : r ≡ digits.Of m k p) where
-    pub decimals-none : k ≡ 0 → NumberAt s (decimals_from minus n (drop at s)) number.Refused
+module _ (s : List ℕ) (at : ℕ) (minus : Bool) (n : ℕ) {r : Option (ℕ × ℕ × ℕ)} (e : DigitsAt s (digits_from most_number n 0 (drop at s)) r) where
+  module _ {m k p : ℕ} (f : r ≡ Some (m, k, p)) where
+    pub decimals-bad : (k ≡ 0) ⊎ ((k ≡ 0 → ⊥) × (3 < k)) → NumberAt s (decimals_from minus n (drop at s)) None
     unfolding decimals_from
-    decimals-none h = number-no s (sym (rw (matched s e.is f, h)))
+    decimals-bad o =
+        elim o [
+          | inl h ↦ read-no s (sym (rw (matched s e.is f, h))) refl
+          | inr h ↦ read-no s (sym (rw (matched s e.is f, le-leb 1 k (omega arith), lt-leb k 3 h.1))) refl
+        ]
 
-    pub decimals-many : 3 < k → NumberAt s (decimals_from minus n (drop at s)) number.Refused
-    unfolding decimals_from
-    decimals-many h = number-no s (sym (rw (matched s e.is f, le-leb 1 k (omega arith), lt-leb k 3 h)))
-
-    pub decimals-are : (k ≡ 0 → ⊥) → k ≤ 3 → {x : Float} → x ≡ float_of minus m k → NumberAt s (decimals_from minus n (drop at s)) (number.Of x p)
+    pub decimals-are : (k ≡ 0 → ⊥) → k ≤ 3 → {x : Float} → x ≡ float_of minus m k → NumberAt s (decimals_from minus n (drop at s)) (Some (x, p))
     unfolding decimals_from
     decimals-are h l {x} g =
         let o : 1 ≤ k = omega arith in
-        number_of s x p (within_of s e f o) (ap (λ (y : Float). got y (drop p s)) g ∙ sym (rw (matched s e.is f, le-leb 1 k o, le-leb k 3 l)))
+        read_of s x p (within_of s e f o) (ap (λ (y : Float). got y (drop p s)) g ∙ sym (rw (matched s e.is f, le-leb 1 k o, le-leb k 3 l)))
 
-  pub decimals-no : r ≡ digits.Refused → NumberAt s (decimals_from minus n (drop at s)) number.Refused
+  pub decimals-no : r ≡ None → {x : Option (Float × ℕ)} → x ≡ None → NumberAt s (decimals_from minus n (drop at s)) x
   unfolding decimals_from
-  decimals-no f = number-no s (sym (rw (matched s e.is f)))
+  decimals-no f = read-no s (sym (rw (matched s e.is f)))
 
 -- ---- behind the sign
 
-module _ (s : List ℕ) (at : ℕ) (minus : Bool) {r : DigitsRead} (e : DigitsAt s (digits_from most_number 0 0 (drop at s)) r) where
-  module _ {m k p : ℕ} (f : r ≡ digits.Of m k p) where
-    pub unsigned-none : k ≡ 0 → NumberAt s (unsigned_from minus (drop at s)) number.Refused
+module _ (s : List ℕ) (at : ℕ) (minus : Bool) {r : Option (ℕ × ℕ × ℕ)} (e : DigitsAt s (digits_from most_number 0 0 (drop at s)) r) where
+  module _ {m k p : ℕ} (f : r ≡ Some (m, k, p)) where
+    pub unsigned-none : k ≡ 0 → NumberAt s (unsigned_from minus (drop at s)) None
     unfolding unsigned_from
-    unsigned-none h = number-no s (sym (rw (matched s e.is f, h)))
+    unsigned-none h = read-no s (sym (rw (matched s e.is f, h))) refl
 
     module _ (h : k ≡ 0 → ⊥) {t : Bool} (g : Starts s p 46 t) where
       one : 1 ≤ k
@@ -202,55 +190,55 @@ module _ (s : List ℕ) (at : ℕ) (minus : Bool) {r : DigitsRead} (e : DigitsAt
       some : leb 1 k ≡ true
       some = le-leb 1 k one
 
-      pub unsigned-point : t ≡ true → {x : NumberRead} → NumberAt s (decimals_from minus m (drop (p + 1) s)) x → NumberAt s (unsigned_from minus (drop at s)) x
+      pub unsigned-point : t ≡ true → {x : Option (Float × ℕ)} → NumberAt s (decimals_from minus m (drop (p + 1) s)) x → NumberAt s (unsigned_from minus (drop at s)) x
       unfolding unsigned_from
-      unsigned-point y = number-as s (ap (decimals_from minus m) (sym (rest-drop s p)) ∙ sym (rw (matched s e.is f, some, sym g.is ∙ y)))
+      unsigned-point y = read-as s (ap (decimals_from minus m) (sym (rest-drop s p)) ∙ sym (rw (matched s e.is f, some, sym g.is ∙ y)))
 
-      pub unsigned-plain : t ≡ false → {x : Float} → x ≡ float_of minus m 0 → NumberAt s (unsigned_from minus (drop at s)) (number.Of x p)
+      pub unsigned-plain : t ≡ false → {x : Float} → x ≡ float_of minus m 0 → NumberAt s (unsigned_from minus (drop at s)) (Some (x, p))
       unfolding unsigned_from without_point
       unsigned-plain y {x} z =
-          number_of s x p (within_of s e f one) (ap (λ (w : Float). got w (drop p s)) z ∙ sym (rw (matched s e.is f, some, sym g.is ∙ y)))
+          read_of s x p (within_of s e f one) (ap (λ (w : Float). got w (drop p s)) z ∙ sym (rw (matched s e.is f, some, sym g.is ∙ y)))
 
-  pub unsigned-no : r ≡ digits.Refused → NumberAt s (unsigned_from minus (drop at s)) number.Refused
+  pub unsigned-no : r ≡ None → {x : Option (Float × ℕ)} → x ≡ None → NumberAt s (unsigned_from minus (drop at s)) x
   unfolding unsigned_from
-  unsigned-no f = number-no s (sym (rw (matched s e.is f)))
+  unsigned-no f = read-no s (sym (rw (matched s e.is f)))
 
 -- ---- a number
 
 module _ (s : List ℕ) (at : ℕ) {t : Bool} (g : Starts s at 45 t) where
-  pub number-minus : t ≡ true → {x : NumberRead} → NumberAt s (unsigned_from true (drop (at + 1) s)) x → NumberAt s (number_from (drop at s)) x
+  pub number-minus : t ≡ true → {x : Option (Float × ℕ)} → NumberAt s (unsigned_from true (drop (at + 1) s)) x → NumberAt s (number_from (drop at s)) x
   unfolding number_from
-  number-minus y = number-as s (ap (unsigned_from true) (sym (rest-drop s at)) ∙ sym (cond-true _ _ (sym g.is ∙ y)))
+  number-minus y = read-as s (ap (unsigned_from true) (sym (rest-drop s at)) ∙ sym (cond-true _ _ (sym g.is ∙ y)))
 
-  pub number-plain : t ≡ false → {x : NumberRead} → NumberAt s (unsigned_from false (drop at s)) x → NumberAt s (number_from (drop at s)) x
+  pub number-plain : t ≡ false → {x : Option (Float × ℕ)} → NumberAt s (unsigned_from false (drop at s)) x → NumberAt s (number_from (drop at s)) x
   unfolding number_from
-  number-plain y = number-as s (sym (cond-false _ _ (sym g.is ∙ y)))
+  number-plain y = read-as s (sym (cond-false _ _ (sym g.is ∙ y)))
 
 -- ---- a name
 
 module _ (s : List ℕ) (at : ℕ) {t : Bool} (g : Starts s at 48 t) where
-  pub symbol-zero : t ≡ true → NameAt s (symbol_from (drop at s)) (name.Of 0 (at + 1))
+  pub symbol-zero : t ≡ true → NameAt s (symbol_from (drop at s)) (Some (0, at + 1))
   unfolding symbol_from
-  symbol-zero y = name_of s 0 (at + 1) (omega (arith, g.within y)) (ap (got 0) (sym (rest-drop s at)) ∙ sym (cond-true _ _ (sym g.is ∙ y)))
+  symbol-zero y = read_of s 0 (at + 1) (omega (arith, g.within y)) (ap (got 0) (sym (rest-drop s at)) ∙ sym (cond-true _ _ (sym g.is ∙ y)))
 
-  module _ (y : t ≡ false) {r : DigitsRead} (e : DigitsAt s (digits_from 65536 0 0 (drop at s)) r) where
-    pub symbol-none : {m k p : ℕ} → r ≡ digits.Of m k p → k ≡ 0 → NameAt s (symbol_from (drop at s)) name.Refused
+  module _ (y : t ≡ false) {r : Option (ℕ × ℕ × ℕ)} (e : DigitsAt s (digits_from 65536 0 0 (drop at s)) r) where
+    pub symbol-none : {m k p : ℕ} → r ≡ Some (m, k, p) → k ≡ 0 → NameAt s (symbol_from (drop at s)) None
     unfolding symbol_from
-    symbol-none f h = name-no s (sym (rw (sym g.is ∙ y, matched s e.is f, h)))
+    symbol-none f h = read-no s (sym (rw (sym g.is ∙ y, matched s e.is f, h))) refl
 
-    pub symbol-is : {m k p : ℕ} → r ≡ digits.Of m k p → (k ≡ 0 → ⊥) → NameAt s (symbol_from (drop at s)) (name.Of m p)
+    pub symbol-is : {m k p : ℕ} → r ≡ Some (m, k, p) → (k ≡ 0 → ⊥) → NameAt s (symbol_from (drop at s)) (Some (m, p))
     unfolding symbol_from
-    symbol-is {m} {k} {p} f h = let o : 1 ≤ k = omega arith in name_of s m p (within_of s e f o) (sym (rw (sym g.is ∙ y, matched s e.is f, le-leb 1 k o)))
+    symbol-is {m} {k} {p} f h = let o : 1 ≤ k = omega arith in read_of s m p (within_of s e f o) (sym (rw (sym g.is ∙ y, matched s e.is f, le-leb 1 k o)))
 
-    pub symbol-no : r ≡ digits.Refused → NameAt s (symbol_from (drop at s)) name.Refused
+    pub symbol-no : r ≡ None → {x : Option (ℕ × ℕ)} → x ≡ None → NameAt s (symbol_from (drop at s)) x
     unfolding symbol_from
-    symbol-no f = name-no s (sym (rw (sym g.is ∙ y, matched s e.is f)))
+    symbol-no f = read-no s (sym (rw (sym g.is ∙ y, matched s e.is f)))
 
 module _ (s : List ℕ) (at : ℕ) {t : Bool} (g : Starts s at 115 t) where
-  pub name-symbol : t ≡ true → {x : NameRead} → NameAt s (symbol_from (drop (at + 1) s)) x → NameAt s (name_from (drop at s)) x
+  pub name-symbol : t ≡ true → {x : Option (ℕ × ℕ)} → NameAt s (symbol_from (drop (at + 1) s)) x → NameAt s (name_from (drop at s)) x
   unfolding name_from
-  name-symbol y = name-as s (ap symbol_from (sym (rest-drop s at)) ∙ sym (cond-true _ _ (sym g.is ∙ y)))
+  name-symbol y = read-as s (ap symbol_from (sym (rest-drop s at)) ∙ sym (cond-true _ _ (sym g.is ∙ y)))
 
-  pub no_name : t ≡ false → NameAt s (name_from (drop at s)) name.Refused
+  pub no_name : t ≡ false → NameAt s (name_from (drop at s)) None
   unfolding name_from
-  no_name y = name-no s (sym (cond-false _ _ (sym g.is ∙ y)))
+  no_name y = read-no s (sym (cond-false _ _ (sym g.is ∙ y))) refl

@@ -1,12 +1,6 @@
 -- What the code's results stand for: what was read, and the bytes behind it. Definitions and statements only.
-use Rattle.std.specs.Prelude.{ℕ, ◌-◌, ◌<◌, ◌≤◌, ◌≡◌, Bool, true, List, length, drop, Float}
+use Rattle.std.specs.Prelude.{ℕ, ◌-◌, ◌<◌, ◌≤◌, ◌≡◌, Bool, true, List, length, drop, Float, Option, Some, None}
 use Rattle.text_numerals.specs.inside.Reading.{Read, got, refused, Run, starts_with}
-use Rattle.text_number_reader.specs.declared.NumberRead.{NumberRead}
-use Rattle.text_number_reader.specs.declared.NumberRead.TheVariants as number
-use Rattle.text_number_reader.specs.declared.NameRead.{NameRead}
-use Rattle.text_number_reader.specs.declared.NameRead.TheVariants as name
-use Rattle.text_number_reader.specs.declared.DigitsRead.{DigitsRead}
-use Rattle.text_number_reader.specs.declared.DigitsRead.TheVariants as digits
 
 -- the position where the bytes behind it begin
 abbrev pub position : List ℕ → List ℕ → ℕ
@@ -15,30 +9,36 @@ position s after = length s - length after
 -- ---- a number, a name
 
 -- by its value and the bytes behind it
-abbrev pub number_is : List ℕ → NumberRead → Read Float
-number_is s (number.Of x p) = got x (drop p s)
-number_is s number.Refused = refused
+abbrev pub read_is : {A : Type 0} → List ℕ → Option (A × ℕ) → Read A
+read_is s (Some r) = got r.0 (drop r.1 s)
+read_is s None = refused
 
-abbrev pub name_is : List ℕ → NameRead → Read ℕ
-name_is s (name.Of n p) = got n (drop p s)
-name_is s name.Refused = refused
+abbrev pub number_is : List ℕ → Option (Float × ℕ) → Read Float
+number_is s r = read_is s r
+
+abbrev pub name_is : List ℕ → Option (ℕ × ℕ) → Read ℕ
+name_is s r = read_is s r
 
 -- the result itself: its value and the position past it
-unfoldable pub number_told : List ℕ → Read Float → NumberRead
-number_told s (got x after) = number.Of x (position s after)
-number_told s refused = number.Refused
+unfoldable pub read_told : {A : Type 0} → List ℕ → Read A → Option (A × ℕ)
+read_told s (got x after) = Some (x, position s after)
+read_told s refused = None
 
-unfoldable pub name_told : List ℕ → Read ℕ → NameRead
-name_told s (got n after) = name.Of n (position s after)
-name_told s refused = name.Refused
+abbrev pub number_told : List ℕ → Read Float → Option (Float × ℕ)
+number_told s x = read_told s x
 
-pub record NumberAt (s : List ℕ) (x : Read Float) (r : NumberRead) : Type 0 where
-  pub told : r ≡ number_told s x
-  pub is : number_is s r ≡ x
+abbrev pub name_told : List ℕ → Read ℕ → Option (ℕ × ℕ)
+name_told s x = read_told s x
 
-pub record NameAt (s : List ℕ) (x : Read ℕ) (r : NameRead) : Type 0 where
-  pub told : r ≡ name_told s x
-  pub is : name_is s r ≡ x
+pub record ReadAt {A : Type 0} (s : List ℕ) (x : Read A) (r : Option (A × ℕ)) : Type 0 where
+  pub told : r ≡ read_told s x
+  pub is : read_is s r ≡ x
+
+abbrev pub NumberAt : List ℕ → Read Float → Option (Float × ℕ) → Type 0
+NumberAt s x r = ReadAt s x r
+
+abbrev pub NameAt : List ℕ → Read ℕ → Option (ℕ × ℕ) → Type 0
+NameAt s x r = ReadAt s x r
 
 -- ---- document 02's number of each case: 0, or 18 where what stands there is none
 
@@ -46,13 +46,15 @@ abbrev pub number_of : {A : Type 0} → Read A → ℕ
 number_of (got x after) = 0
 number_of refused = 18
 
-abbrev pub number_answer : NumberRead → ℕ
-number_answer (number.Of x p) = 0
-number_answer number.Refused = 18
+abbrev pub read_answer : {A : Type 0} → Option A → ℕ
+read_answer (Some r) = 0
+read_answer None = 18
 
-abbrev pub name_answer : NameRead → ℕ
-name_answer (name.Of n p) = 0
-name_answer name.Refused = 18
+abbrev pub number_answer : Option (Float × ℕ) → ℕ
+number_answer r = read_answer r
+
+abbrev pub name_answer : Option (ℕ × ℕ) → ℕ
+name_answer r = read_answer r
 
 abbrev pub EveryNumberAnswer : Type 0
 EveryNumberAnswer = (s : List ℕ) (x : Read Float) → number_answer (number_told s x) ≡ number_of x
@@ -60,21 +62,21 @@ EveryNumberAnswer = (s : List ℕ) (x : Read Float) → number_answer (number_to
 abbrev pub EveryNameAnswer : Type 0
 EveryNameAnswer = (s : List ℕ) (x : Read ℕ) → name_answer (name_told s x) ≡ number_of x
 
--- ---- digits
+-- ---- digits: the number that they make, how many they are and the position past them
 
-abbrev pub digits_is : List ℕ → DigitsRead → Read Run
-digits_is s (digits.Of n k p) = got (record { number = n; count = k }) (drop p s)
-digits_is s digits.Refused = refused
+abbrev pub digits_is : List ℕ → Option (ℕ × ℕ × ℕ) → Read Run
+digits_is s (Some r) = got (record { number = r.0; count = r.1 }) (drop r.2 s)
+digits_is s None = refused
 
-abbrev pub count_in : DigitsRead → ℕ
-count_in (digits.Of n k p) = k
-count_in digits.Refused = 0
+abbrev pub count_in : Option (ℕ × ℕ × ℕ) → ℕ
+count_in (Some r) = r.1
+count_in None = 0
 
-abbrev pub past_in : DigitsRead → ℕ
-past_in (digits.Of n k p) = p
-past_in digits.Refused = 0
+abbrev pub past_in : Option (ℕ × ℕ × ℕ) → ℕ
+past_in (Some r) = r.2
+past_in None = 0
 
-pub record DigitsAt (s : List ℕ) (x : Read Run) (r : DigitsRead) : Type 0 where
+pub record DigitsAt (s : List ℕ) (x : Read Run) (r : Option (ℕ × ℕ × ℕ)) : Type 0 where
   pub is : digits_is s r ≡ x
   pub within : 0 < count_in r → past_in r ≤ length s
 

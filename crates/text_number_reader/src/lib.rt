@@ -1,4 +1,4 @@
-// Numbers and names in text, read at any position among bytes. A result is what was read and the position past it.
+// Numbers and names in text, read at any position among bytes. A result is what was read and the position past it, or none.
 #![tactic(auto)]
 
 ghost use Rattle.std.specs.Prelude.{◌≡◌, ◌^◌, ◌<◌, ◌≤◌, drop};
@@ -25,58 +25,31 @@ const MOST_DECIMALS: usize = 3;
 // Symbols are below this.
 const SYMBOLS: u32 = 65536;
 
-#[derive(Clone, Copy)]
-pub enum NumberRead {
-    Of(f32, usize),
-    Refused,
-}
-
-#[derive(Clone, Copy)]
-pub enum NameRead {
-    Of(u16, usize),
-    Refused,
-}
-
-// The number that digits make, and how many they are.
-#[derive(Clone, Copy)]
-pub enum DigitsRead {
-    Of(u32, usize, usize),
-    Refused,
-}
-
 // Whether this byte stands at a position.
 pub fn starts_with(s: &[u8], at: usize, b: u8) -> bool
     ensures { Starts s.now at b result }
 {
-    if at < s.len() {
-        return s[at] == b;
-    }
-    false
+    at < s.len() && s[at] == b
 }
 
-// Every digit from a position on, behind the number `start`; the number stays below `most`.
-fn digits_at(s: &[u8], at: usize, start: u32, most: u32) -> DigitsRead
+// Every digit from a position on, behind the number `start`: the number that they make, how many they are and the position past them. The number
+// stays below `most`.
+fn digits_at(s: &[u8], at: usize, start: u32, most: u32) -> Option<(u32, usize, usize)>
     requires { (start < most) × (most ≤ most_number) }
     ensures { DigitsAt s.now (digits_from most start 0 (drop at s.now)) result }
 {
     let mut n = start;
-    let mut i = at;
-    while i < s.len() {
+    for i in at..s.len() {
         let b = s[i];
-        if b < ZERO {
-            return DigitsRead::Of(n, i - at, i);
+        if b < ZERO || NINE < b {
+            return Some((n, i - at, i));
         }
-        if NINE < b {
-            return DigitsRead::Of(n, i - at, i);
+        n = n * 10 + (b - ZERO) as u32;
+        if most <= n {
+            return None;
         }
-        let m = n * 10 + ((b - ZERO) as u32);
-        if most <= m {
-            return DigitsRead::Refused;
-        }
-        n = m;
-        i += 1;
     }
-    DigitsRead::Of(n, i - at, i)
+    Some((n, s.len().saturating_sub(at), s.len()))
 }
 
 // 10 to the power d.
@@ -105,44 +78,33 @@ fn value(minus: bool, n: u32, d: usize) -> f32
 }
 
 // Behind the point: one to three decimals.
-fn decimals_at(s: &[u8], at: usize, minus: bool, n: u32) -> NumberRead
+fn decimals_at(s: &[u8], at: usize, minus: bool, n: u32) -> Option<(f32, usize)>
     requires { n < most_number }
     ensures { NumberAt s.now (decimals_from minus n (drop at s.now)) result }
 {
-    match digits_at(s, at, n, MOST_NUMBER) {
-        DigitsRead::Of(all, count, next) => {
-            if count == 0 {
-                return NumberRead::Refused;
-            }
-            if MOST_DECIMALS < count {
-                return NumberRead::Refused;
-            }
-            NumberRead::Of(value(minus, all, count), next)
-        }
-        DigitsRead::Refused => NumberRead::Refused,
+    let (all, count, next) = digits_at(s, at, n, MOST_NUMBER)?;
+    if count == 0 || MOST_DECIMALS < count {
+        return None;
     }
+    Some((value(minus, all, count), next))
 }
 
 // Behind the sign: one digit or more, and then a point or none.
-fn unsigned_at(s: &[u8], at: usize, minus: bool) -> NumberRead
+fn unsigned_at(s: &[u8], at: usize, minus: bool) -> Option<(f32, usize)>
     ensures { NumberAt s.now (unsigned_from minus (drop at s.now)) result }
 {
-    match digits_at(s, at, 0, MOST_NUMBER) {
-        DigitsRead::Of(whole, count, next) => {
-            if count == 0 {
-                return NumberRead::Refused;
-            }
-            if starts_with(s, next, POINT) {
-                return decimals_at(s, next + 1, minus, whole);
-            }
-            NumberRead::Of(value(minus, whole, 0), next)
-        }
-        DigitsRead::Refused => NumberRead::Refused,
+    let (whole, count, next) = digits_at(s, at, 0, MOST_NUMBER)?;
+    if count == 0 {
+        return None;
     }
+    if starts_with(s, next, POINT) {
+        return decimals_at(s, next + 1, minus, whole);
+    }
+    Some((value(minus, whole, 0), next))
 }
 
 // A number.
-pub fn number_at(s: &[u8], at: usize) -> NumberRead
+pub fn number_at(s: &[u8], at: usize) -> Option<(f32, usize)>
     ensures { NumberAt s.now (number_from (drop at s.now)) result }
 {
     if starts_with(s, at, MINUS) {
@@ -152,29 +114,25 @@ pub fn number_at(s: &[u8], at: usize) -> NumberRead
 }
 
 // Behind the s: a lone 0, or digits of which the first is none.
-fn symbol_at(s: &[u8], at: usize) -> NameRead
+fn symbol_at(s: &[u8], at: usize) -> Option<(u16, usize)>
     ensures { NameAt s.now (symbol_from (drop at s.now)) result }
 {
     if starts_with(s, at, ZERO) {
-        return NameRead::Of(0, at + 1);
+        return Some((0, at + 1));
     }
-    match digits_at(s, at, 0, SYMBOLS) {
-        DigitsRead::Of(symbol, count, next) => {
-            if count == 0 {
-                return NameRead::Refused;
-            }
-            NameRead::Of(symbol as u16, next)
-        }
-        DigitsRead::Refused => NameRead::Refused,
+    let (symbol, count, next) = digits_at(s, at, 0, SYMBOLS)?;
+    if count == 0 {
+        return None;
     }
+    Some((symbol as u16, next))
 }
 
 // A name: an s and a symbol.
-pub fn name_at(s: &[u8], at: usize) -> NameRead
+pub fn name_at(s: &[u8], at: usize) -> Option<(u16, usize)>
     ensures { NameAt s.now (name_from (drop at s.now)) result }
 {
     if starts_with(s, at, NAME_LETTER) {
         return symbol_at(s, at + 1);
     }
-    NameRead::Refused
+    None
 }

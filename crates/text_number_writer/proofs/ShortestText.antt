@@ -13,10 +13,8 @@ use Rattle.text_numerals.specs.Nearest.{sign_of}
 use Rattle.text_numerals.specs.Shortest.{Reads}
 use Rattle.text_numerals.proofs.Quotient.{quotient}
 use Rattle.text_numerals.proofs.Signs.{minus-float}
+use Rattle.std.specs.Prelude.{Option, Some, None}
 use Rattle.text_number_writer.specs.Answers.{TextIs, Around, Least, NoNumber, LeastIs, EveryAnswer}
-use Rattle.text_number_writer.specs.declared.Found.{Found}
-use Rattle.text_number_writer.specs.declared.Found.TheVariants as found
-use Rattle.text_number_writer.specs.declared.NumberText.TheVariants as text
 use Rattle.text_number_writer.proofs.Candidates.{passed, failed}
 
 -- ---- one value
@@ -33,7 +31,7 @@ value-minus s n d c h e f = ap neg (over n d c h.0 h.1 e.0) ∙ minus-float n d 
 
 -- ---- with d decimals
 pub first : (x : Float) (d n : ℕ) {b : Bool} → T (fits binary32 x) → d ≤ most_decimals → Around x d n × (n < 16777215) → b ≡ eq (float_of (sign_of x) n d) x → b ≡ true
-    → LeastIs x d (found.Number n)
+    → LeastIs x d (Some n)
 unfolding LeastIs Around
 first x d n t D a e f = record {
   below = omega (arith, a.1);
@@ -52,7 +50,7 @@ left x d n k D a e f h r =
     ]
 
 pub second : (x : Float) (d n : ℕ) {b c : Bool} → T (fits binary32 x) → d ≤ most_decimals → Around x d n × (n < 16777215) → b ≡ eq (float_of (sign_of x) n d) x → b ≡ false
-    → c ≡ eq (float_of (sign_of x) (n + 1) d) x → c ≡ true → LeastIs x d (found.Number (n + 1))
+    → c ≡ eq (float_of (sign_of x) (n + 1) d) x → c ≡ true → LeastIs x d (Some (n + 1))
 unfolding LeastIs
 second x d n t D a e f g h = record {
   below = omega (arith, a.1);
@@ -61,7 +59,7 @@ second x d n t D a e f g h = record {
 }
 
 pub neither : (x : Float) (d n : ℕ) {b c : Bool} → d ≤ most_decimals → Around x d n × (n < 16777215) → b ≡ eq (float_of (sign_of x) n d) x → b ≡ false
-    → c ≡ eq (float_of (sign_of x) (n + 1) d) x → c ≡ false → LeastIs x d found.None
+    → c ≡ eq (float_of (sign_of x) (n + 1) d) x → c ≡ false → LeastIs x d None
 unfolding LeastIs
 neither x d n D a e f g h k l r = failed x (n + 1) d (omega (arith, a.1)) D (sym g ∙ h) (subst (λ (m : ℕ). Reads x m d) (left x d n k D a e f l r) r)
 
@@ -75,17 +73,17 @@ pub record Looked (x : Float) (d : ℕ) : Type 0 where
 pub start : (x : Float) → Looked x 0
 start x = record { some = omega arith; none = λ c h. absurd (let z : c < 0 = h in omega arith) }
 
-pub on : (x : Float) (d : ℕ) {r : Found} → Looked x d → d < 4 → LeastIs x d r → r ≡ found.None → Looked x (d + 1)
+pub on : (x : Float) (d : ℕ) {r : Option ℕ} → Looked x d → d < 4 → LeastIs x d r → r ≡ None → Looked x (d + 1)
 unfolding LeastIs
 on x d w h l e = record { some = omega arith; none = λ c k. elim (eq-or-lt_of_le (let z : c ≤ d = omega arith in z)) [ inl q ↦ subst (NoNumber x) (sym q) (subst (LeastIs x d) e l) | inr q ↦ w.none c q ] }
 
-pub done : (x : Float) (d n : ℕ) {r : Found} → Looked x d → d < 4 → LeastIs x d r → r ≡ found.Number n → TextIs x (text.Text n d)
+pub done : (x : Float) (d n : ℕ) {r : Option ℕ} → Looked x d → d < 4 → LeastIs x d r → r ≡ Some n → TextIs x (Some (n, d))
 unfolding LeastIs TextIs
 done x d n w h l e =
     let m : Least x d n = subst (LeastIs x d) e l in
     record { below = m.below; few = omega arith; reads = m.reads; fewest = λ k c g q r. w.none c q k g r; least = m.least }
 
-pub never : (x : Float) (d : ℕ) → Looked x d → 4 ≤ d → TextIs x text.None
+pub never : (x : Float) (d : ℕ) → Looked x d → 4 ≤ d → TextIs x None
 unfolding TextIs
 never x d w h n c l g r = w.none c (omega arith) n l r
 
@@ -93,6 +91,6 @@ never x d w h n c l g r = w.none c (omega arith) n l r
 
 pub every-answer : EveryAnswer
 unfolding TextIs
-every-answer x (text.Text n d) s =
-    record { no_text = λ e. absurd (let z : ◌≡◌ {A = ℕ} 0 19 = e in omega arith); refused = λ h. absurd (h n d s.below s.few s.reads) }
-every-answer x text.None s = record { no_text = λ e. s; refused = λ h. refl }
+every-answer x (Some r) s =
+    record { no_text = λ e. absurd (let z : ◌≡◌ {A = ℕ} 0 19 = e in omega arith); refused = λ h. absurd (h r.0 r.1 s.below s.few s.reads) }
+every-answer x None s = record { no_text = λ e. s; refused = λ h. refl }

@@ -8,25 +8,11 @@ ghost use Rattle.text_numerals.specs.Nearest.{sign_of};
 ghost use Rattle.text_number_writer.specs.Push.{empty_text, pushed, push_all};
 ghost use Rattle.text_number_writer.specs.Answers.{TextIs, Around, LeastIs};
 
-// A number's text: all its digits as one number, and how many of them are decimals; or none.
-#[derive(Clone, Copy)]
-pub enum NumberText {
-    Text(u32, u8),
-    None,
-}
-
 // A line of text as it grows.
 #[derive(Clone, Copy)]
 pub struct LineText {
     pub bytes: [u8; 128],
     pub len: usize,
-}
-
-// The smallest number that reads as a float with so many decimals, or none.
-#[derive(Clone, Copy)]
-enum Found {
-    Number(u32),
-    None,
 }
 
 // It and the next are the largest numbers that a text can have.
@@ -39,28 +25,16 @@ fn power_of_ten(j: u8) -> u32
     requires { j < 8 }
     ensures { (result ≡ 10 ^ j) × (0 < result) }
 {
-    if j < 1 {
-        return 1;
+    match j {
+        0 => 1,
+        1 => 10,
+        2 => 100,
+        3 => 1000,
+        4 => 10000,
+        5 => 100000,
+        6 => 1000000,
+        _ => 10000000,
     }
-    if j < 2 {
-        return 10;
-    }
-    if j < 3 {
-        return 100;
-    }
-    if j < 4 {
-        return 1000;
-    }
-    if j < 5 {
-        return 10000;
-    }
-    if j < 6 {
-        return 100000;
-    }
-    if j < 7 {
-        return 1000000;
-    }
-    10000000
 }
 
 // ---- a float's shortest text
@@ -116,33 +90,32 @@ fn part(x: f32, d: u8) -> u32
     LAST_PAIR
 }
 
-fn least(x: f32, d: u8) -> Found
+// The smallest number that reads as x with d decimals, or none.
+fn least(x: f32, d: u8) -> Option<u32>
     requires { d ≤ 3 }
     ensures { LeastIs x d result }
 {
     let n = part(x, d);
     let next = n + 1;
     if reads(x, n, d) {
-        return Found::Number(n);
+        return Some(n);
     }
     if reads(x, next, d) {
-        return Found::Number(next);
+        return Some(next);
     }
-    Found::None
+    None
 }
 
-pub fn shortest(x: f32) -> NumberText
+// A number's text: all its digits as one number, and how many of them are decimals; or none.
+pub fn shortest(x: f32) -> Option<(u32, u8)>
     ensures { TextIs x result }
 {
-    let mut d: u8 = 0;
-    while d < 4 {
-        let found = least(x, d);
-        if let Found::Number(n) = found {
-            return NumberText::Text(n, d);
+    for d in 0..4 {
+        if let Some(n) = least(x, d) {
+            return Some((n, d));
         }
-        d = d + 1;
     }
-    NumberText::None
+    None
 }
 
 // ---- a line of text
@@ -165,7 +138,7 @@ pub fn push(t: LineText, b: u8) -> LineText
     if len < 128 {
         bytes[len] = b;
         return LineText {
-            bytes: bytes,
+            bytes,
             len: len + 1,
         };
     }
@@ -176,10 +149,8 @@ pub fn push_word(t: LineText, word: &[u8]) -> LineText
     ensures { result ≡ push_all t word.now }
 {
     let mut text = t;
-    let mut i: usize = 0;
-    while i < word.len() {
-        text = push(text, word[i]);
-        i = i + 1;
+    for b in word {
+        text = push(text, *b);
     }
     text
 }
@@ -199,9 +170,7 @@ fn push_digits(t: LineText, n: u32, k: u8) -> LineText
     ensures { result ≡ push_all t (digit_bytes (lowest k n)) }
 {
     let mut text = t;
-    let mut j = k;
-    while 0 < j {
-        j = j - 1;
+    for j in (0..k).rev() {
         text = push(text, digit_at(n, j));
     }
     text

@@ -1,7 +1,7 @@
 -- The loop over the lines of a text. Assumes nothing.
 use Prim.Native.Nat.{ℕ, zero, suc, ◌+◌, ◌-◌, ◌≤◌, ◌<◌}
 use mathlib.Core.Path.{◌≡◌, refl, sym, ap, ap₂, ◌∙◌}
-use mathlib.Core.Bool.{Bool, true, false, cond, true≢false}
+use mathlib.Core.Bool.{Bool, true, false, cond}
 use mathlib.Core.List.{List, []}
 use native.Mathlib.Numerals.{add-one}
 use native.Mathlib.Omega.{arith}
@@ -23,8 +23,9 @@ use Rattle.score_reader.proofs.Readers.{fault-not-taken}
 use Rattle.text_format.specs.Content.{Content, line_content, most_lines, judged_from, judgement}
 use Rattle.text_format.specs.inside.Reading.{line_from, Text, lines, bad, then_lines, unless_none, lines_from, judged, text_of}
 use Rattle.text_format.specs.inside.Reading as text
-use Rattle.text_event_reader.specs.Results.{no_line, line_told}
-use Rattle.text_event_reader.specs.declared.TextLineRead.{TextLineRead}
+use Rattle.text_event_reader.specs.Results.{position, line_told}
+use Rattle.std.specs.Prelude.{Option, Some, None}
+use Rattle.std.proofs.lemmas.Option.{same_Some, none-some}
 use Rattle.text_event_reader.proofs.Leaves.{Leaves, line-leaves}
 use Rattle.text_reader.specs.Texts.{text_told, bad_at, first_of, counted_to, line_at}
 use Rattle.text_reader.specs.declared.TextRead.{TextRead}
@@ -32,38 +33,40 @@ use Rattle.base_formats.specs.Format as fields
 
 -- ---- one line
 
--- a line that stands at a position
-pub record Standing (s : List ℕ) (at : ℕ) (l : TextLineRead) : Type 0 where
+-- a line that stands at a position, what was read of it, and the position past it
+pub record Standing (s : List ℕ) (at : ℕ) (l : LineRead) (next : ℕ) : Type 0 where
   pub content : Content
-  pub there : line_from (drop at s) ≡ got content (drop l.next s)
-  pub read : l.read ≡ line_read (line_content content)
-  pub fewer : length (drop l.next s) < length (drop at s)
+  pub there : line_from (drop at s) ≡ got content (drop next s)
+  pub read : l ≡ line_read (line_content content)
+  pub fewer : length (drop next s) < length (drop at s)
 
-pub standing : (s : List ℕ) (at : ℕ) {l : TextLineRead} → l ≡ line_at s at → l.stands ≡ true → Standing s at l
-unfolding line_told no_line
-standing s at {l} e y = go (line_from (drop at s)) refl (line-leaves (drop at s)) e
+pub standing : (s : List ℕ) (at : ℕ) {l : LineRead} {next : ℕ} → line_at s at ≡ Some (l, next) → Standing s at l next
+unfolding line_told
+standing s at {l} {next} e = go (line_from (drop at s)) refl (line-leaves (drop at s)) e
   where
-    go : (x : Read Content) → line_from (drop at s) ≡ x → Leaves 1 (drop at s) x → l ≡ line_told s x → Standing s at l
+    go : (x : Read Content) → line_from (drop at s) ≡ x → Leaves 1 (drop at s) x → line_told s x ≡ Some (l, next) → Standing s at l next
     go (got sd r) f b e =
         let n = length-drop at s in
         let k : r ≡ drop (at + b.passed) s = b.is ∙ drop-drop b.passed at s in
         let m : length r ≡ length s - (at + b.passed) = ap length k ∙ length-drop (at + b.passed) s in
-        let p : l.next ≡ at + b.passed = ap (λ (w : TextLineRead). w.next) e ∙ omega (arith, b.within, b.some_of) in
-        let q : r ≡ drop l.next s = k ∙ ap (λ (j : ℕ). drop j s) (sym p) in
+        let w : ◌≡◌ {A = LineRead × ℕ} (l, next) (line_read (line_content sd), position s r) = sym (same_Some _ _ e) in
+        let o : position s r ≡ at + b.passed = omega (arith, m, n, b.within, b.some_of) in
+        let p : next ≡ at + b.passed = ap (λ (x : LineRead × ℕ). x.1) w ∙ o in
+        let q : r ≡ drop next s = k ∙ ap (λ (j : ℕ). drop j s) (sym p) in
         record {
           content = sd;
           there = f ∙ ap (got sd) q;
-          read = ap (λ (w : TextLineRead). w.read) e;
+          read = ap (λ (x : LineRead × ℕ). x.0) w;
           fewer = omega (arith, b.within, b.some_of, ap length q);
         }
-    go refused f b e = absurd (true≢false (sym y ∙ ap (λ (w : TextLineRead). w.stands) e))
+    go refused f b e = absurd (none-some (l, next) e)
 
-pub no-standing : (s : List ℕ) (at : ℕ) {l : TextLineRead} → l ≡ line_at s at → l.stands ≡ false → line_from (drop at s) ≡ refused
-unfolding line_told no_line
-no-standing s at {l} e y = go (line_from (drop at s)) e
+pub no-standing : (s : List ℕ) (at : ℕ) → line_at s at ≡ None → line_from (drop at s) ≡ refused
+unfolding line_told
+no-standing s at e = go (line_from (drop at s)) e
   where
-    go : (x : Read Content) → l ≡ line_told s x → x ≡ refused
-    go (got sd r) e = absurd (true≢false (sym (ap (λ (w : TextLineRead). w.stands) e) ∙ y))
+    go : (x : Read Content) → line_told s x ≡ None → x ≡ refused
+    go (got sd r) e = absurd (none-some (line_read (line_content sd), position s r) (sym e))
     go refused e = refl
 
 -- ---- the lines from a position on
@@ -159,22 +162,22 @@ module _ (s : List ℕ) where
       pub too_many : most_lines ≤ i → {r : TextRead} → r ≡ bad_at i → r ≡ text_told (text_of s)
       too_many k e = e ∙ sym (ap (final fault i) (lines-many s (length s - (i + 1)) i at h k)) ∙ from-here
 
-      module _ (k : i < most_lines) {l : TextLineRead} (e : l ≡ line_at s at) where
-        pub stops : l.stands ≡ false → {r : TextRead} → r ≡ bad_at i → r ≡ text_told (text_of s)
-        stops y f = f ∙ sym (ap (final fault i) (lines_none s (length s - (i + 1)) i at h k (no-standing s at e y))) ∙ from-here
+      module _ (k : i < most_lines) {x : Option (LineRead × ℕ)} (e : x ≡ line_at s at) where
+        pub stops : x ≡ None → {r : TextRead} → r ≡ bad_at i → r ≡ text_told (text_of s)
+        stops y f = f ∙ sym (ap (final fault i) (lines_none s (length s - (i + 1)) i at h k (no-standing s at (sym e ∙ y)))) ∙ from-here
 
-        pub again : l.stands ≡ true → {f : ScoreRead} → f ≡ first_of fault l.read.answer i → Reading f l.next (i + 1)
-        again y {f} w =
-            let t = standing s at e y in
+        pub again : {l : LineRead} {next : ℕ} → x ≡ Some (l, next) → {f : ScoreRead} → f ≡ first_of fault l.answer i → Reading f next (i + 1)
+        again {l} {next} y {f} w =
+            let t = standing s at (sym e ∙ y) in
             let n = length s - (i + 1) in
             let f-is : f ≡ first_of fault (line_read (line_content t.content)).answer i = w ∙ ap (λ (z : LineRead). first_of fault z.answer i) t.read in
             record {
               upto = omega arith;
               room = omega (arith, g.room, t.fewer);
               same =
-                  ap₂ (λ (x : ScoreRead) (j : ℕ). final x j (lines_from n j (drop l.next s))) f-is (add-one i)
-                  ∙ sym (final-more fault i t.content (lines_from n (suc i) (drop l.next s)))
-                  ∙ sym (ap (final fault i) (lines_more s n i at h k t.content (drop l.next s) t.there)) ∙ from-here;
+                  ap₂ (λ (x : ScoreRead) (j : ℕ). final x j (lines_from n j (drop next s))) f-is (add-one i)
+                  ∙ sym (final-more fault i t.content (lines_from n (suc i) (drop next s)))
+                  ∙ sym (ap (final fault i) (lines_more s n i at h k t.content (drop next s) t.there)) ∙ from-here;
             }
 
     pub ends : length s ≤ at → {r : TextRead} → r ≡ counted_to fault i → r ≡ text_told (text_of s)

@@ -18,7 +18,8 @@ use Rattle.score_reader.proofs.Readers.{fault-not-taken}
 use Rattle.text_format.specs.Content.{Content, line_content, most_lines, judged_from, judgement}
 use Rattle.text_format.specs.inside.Reading.{line_from, Text, lines, bad, then_lines, lines_from, judged, text_of}
 use Rattle.text_format.specs.inside.Reading as text
-use Rattle.text_event_reader.specs.Results.{line_told}
+use Rattle.std.specs.Prelude.{Option, Some}
+use Rattle.text_event_reader.specs.Results.{position, line_told, step_of}
 use Rattle.text_reader.specs.Texts.{line_at, walked, Ahead}
 use Rattle.text_reader.proofs.LineLoop.{standing}
 use Rattle.base_formats.specs.Format as fields
@@ -124,19 +125,22 @@ read_first (suc n) i (b ∷ bs) sd ss e = by_number (leb most_lines i) e
 
 -- the next line is the first of those ahead, and the others lie ahead of the position past it
 pub record Passed (s : List ℕ) (at : ℕ) (l : Line) (ls : List Line) : Type 0 where
-  pub answer : (line_at s at).read.answer ≡ Taken
-  pub line : (line_at s at).read.line ≡ l
-  pub ahead : Ahead s (line_at s at).next ls
+  pub stands : line_at s at ≡ Some (step_of (line_at s at))
+  pub answer : (step_of (line_at s at)).0.answer ≡ Taken
+  pub line : (step_of (line_at s at)).0.line ≡ l
+  pub ahead : Ahead s (step_of (line_at s at)).1 ls
 
 pub ahead-next : (s : List ℕ) (at : ℕ) (l : Line) (ls : List Line) → Ahead s at (l ∷ ls) → Passed s at l ls
 unfolding line_told line_read
 ahead-next s at l ls a =
     let j = judged-first a.number a.content l ls a.end a.are in
     let r = read_first a.bound a.number (drop at s) j.first j.others (a.there ∙ ap lines j.are) in
-    let t = standing s at refl (ap (λ (x : Read Content). (line_told s x).stands) r.line) in
-    let q : r.rest ≡ drop (line_at s at).next s = rest-is (sym r.line ∙ t.there) in
-    let w : (line_at s at).read ≡ line_read (fields.got l j.next) = ap (λ (x : Read Content). (line_told s x).read) r.line ∙ ap line_read j.line in
+    let e : line_at s at ≡ Some (line_read (line_content j.first), position s r.rest) = ap (line_told s) r.line in
+    let t = standing s at e in
+    let q : r.rest ≡ drop (step_of (line_at s at)).1 s = rest-is (sym r.line ∙ t.there) ∙ ap (λ (o : Option (LineRead × ℕ)). drop (step_of o).1 s) (sym e) in
+    let w : (step_of (line_at s at)).0 ≡ line_read (fields.got l j.next) = ap (λ (o : Option (LineRead × ℕ)). (step_of o).0) e ∙ ap line_read j.line in
     record {
+      stands = e ∙ ap (λ (o : Option (LineRead × ℕ)). Some (step_of o)) (sym e);
       answer = ap (λ (x : LineRead). x.answer) w;
       line = ap (λ (x : LineRead). x.line) w;
       ahead = record { bound = r.bound; number = suc a.number; content = j.others; end = a.end; there = ap (lines_from r.bound (suc a.number)) (sym q) ∙ r.others; are = j.judged-so };
@@ -153,7 +157,7 @@ walk s zero at (l ∷ ls) h a = absurd (omega arith)
 walk s (suc n) at [] h a = absurd (omega arith)
 walk s (suc n) at (l ∷ ls) h a =
     let p = ahead-next s at l ls a in
-    ap₂ (λ (x : Line) (y : List Line). x ∷ y) p.line (walk s n (line_at s at).next ls (omega arith) p.ahead)
+    ap₂ (λ (x : Line) (y : List Line). x ∷ y) p.line (walk s n (step_of (line_at s at)).1 ls (omega arith) p.ahead)
 
 -- walking over a text that is taken gives exactly its lines
 pub walk-all : (s : List ℕ) → (text_of s).answer ≡ Taken → walked s (length (text_of s).lines) 0 ≡ (text_of s).lines

@@ -33,15 +33,8 @@ fn bad_at(i: usize) -> TextRead
 fn first_of(fault: ScoreRead, answer: Answer, i: usize) -> ScoreRead
     ensures { result ≡ first_of fault answer i }
 {
-    let so_far = fault.answer;
-    if base_answer::is_taken(so_far) {
-        if base_answer::is_taken(answer) {
-            return fault;
-        }
-        return ScoreRead {
-            answer: answer,
-            line: i,
-        };
+    if base_answer::is_taken(fault.answer) && !base_answer::is_taken(answer) {
+        return ScoreRead { answer, line: i };
     }
     fault
 }
@@ -50,8 +43,7 @@ fn first_of(fault: ScoreRead, answer: Answer, i: usize) -> ScoreRead
 fn counted_to(fault: ScoreRead, i: usize) -> TextRead
     ensures { result ≡ counted_to fault i }
 {
-    let answer = fault.answer;
-    if base_answer::is_taken(answer) {
+    if base_answer::is_taken(fault.answer) {
         return TextRead {
             answer: Answer::Taken,
             line: 0,
@@ -59,7 +51,7 @@ fn counted_to(fault: ScoreRead, i: usize) -> TextRead
         };
     }
     TextRead {
-        answer: answer,
+        answer: fault.answer,
         line: fault.line,
         count: 0,
     }
@@ -80,15 +72,11 @@ pub fn read_text(s: &[u8]) -> TextRead
         if MOST_LINES <= i {
             return bad_at(i);
         }
-        let l = text_line_reader::line_at(s, at);
-        if l.stands {
-            let read = l.read;
-            let answer = read.answer;
-            fault = first_of(fault, answer, i);
-            at = l.next;
-        } else {
+        let Some((read, next)) = text_line_reader::line_at(s, at) else {
             return bad_at(i);
-        }
+        };
+        fault = first_of(fault, read.answer, i);
+        at = next;
         i += 1;
     }
     counted_to(fault, i)

@@ -16,7 +16,7 @@ use Rattle.base_laws.proofs.Choice.{cond-true, cond-false}
 use Rattle.base_answer.specs.Numbers.{number_of, is_taken}
 use Rattle.base_answer.specs.declared.Answer.TheVariants as answer
 use Rattle.base_formats.specs.Format.{got, all as all_of}
-use Rattle.score_line.specs.LineFormat.{zero_float, padded, label_of, label_parts, count_of, kind_of, values_of, used, values, line, valid}
+use Rattle.score_line.specs.LineFormat.{zero_float, padded, label_of, label_parts, count_of, kind_of, values_of, used, valid}
 use Rattle.score_line.specs.declared.When.TheVariants.{Timed}
 use Rattle.score_line.specs.declared.Event.{Event}
 use Rattle.score_line.specs.declared.Event.TheVariants.{Instr, Control, End, Tempo}

@@ -1,7 +1,7 @@
 -- What the writer answers and leaves, by its ways. Assumes nothing.
 use Prim.Native.Nat.{ℕ, zero, suc, ◌+◌, ◌^◌, ◌≤◌, ◌<◌}
 use mathlib.Core.Path.{◌≡◌, refl, sym, ap, ◌∙◌}
-use mathlib.Core.Bool.{Bool, true, false, true≢false}
+use mathlib.Core.Bool.{Bool, true, false}
 use mathlib.Core.List.{List}
 use mathlib.Core.Option.{Option, some, none-ne-some}
 use native.Mathlib.Nat.{add-zero, zero-add}
@@ -29,7 +29,7 @@ use Rattle.text_writer.specs.Writing.{Text, all, lacking, text_from, told_text, 
 use Rattle.text_writer.specs.inside.Passes.{measured_past, Measurable, Layable}
 use Rattle.text_writer.specs.Claims.{Told}
 use Rattle.text_writer.specs.Claims as claims
-use Rattle.text_writer.specs.declared.Measure.{Measure}
+use Rattle.std.specs.Prelude.{Result, Ok, Err}
 use Rattle.text_writer.proofs.Lines.{every-line-told}
 use Rattle.text_writer.proofs.Stored.{valid-stored}
 use Rattle.text_writer.proofs.Short.{text-short}
@@ -62,21 +62,21 @@ module _ (area : List ℕ) (n : ℕ) {f : ScoreRead} {b : Bool} (e : f ≡ area_
             text-short (slot_read area i).line w r (found-says (slot_read area i).line w r k);
       }
 
-module _ (area : List ℕ) (n : ℕ) {m : Measure} (size : m ≡ measured_past 0 (text_from 0 (area_lines area n 0))) where
+module _ (area : List ℕ) (n : ℕ) {m : Result ℕ ℕ} (size : m ≡ measured_past 0 (text_from 0 (area_lines area n 0))) where
   -- the lines of the text, where it is there
-  record Lines : Type 0 where
+  record Lines (bytes : ℕ) : Type 0 where
     lines : List form.TextLine
     are : text_from 0 (area_lines area n 0) ≡ all lines
-    long : m.bytes ≡ length (text_bytes lines)
+    long : bytes ≡ length (text_bytes lines)
 
-  there : m.there ≡ true → Lines
-  there t = go (text_from 0 (area_lines area n 0)) refl size
+  there : {bytes : ℕ} → m ≡ Ok bytes → Lines bytes
+  there {bytes} t = go (text_from 0 (area_lines area n 0)) refl (sym t ∙ size)
     where
-      go : (x : Text) → text_from 0 (area_lines area n 0) ≡ x → m ≡ measured_past 0 x → Lines
-      go (all ws) y z = record { lines = ws; are = y; long = ap (λ (k : Measure). k.bytes) z ∙ zero-add (length (text_bytes ws)) }
-      go (lacking i) y z = absurd (true≢false (sym t ∙ ap (λ (k : Measure). k.there) z))
+      go : (x : Text) → text_from 0 (area_lines area n 0) ≡ x → Ok bytes ≡ measured_past 0 x → Lines bytes
+      go (all ws) y z = let e : bytes ≡ 0 + length (text_bytes ws) = cc in record { lines = ws; are = y; long = e ∙ zero-add (length (text_bytes ws)) }
+      go (lacking i) y z = absurd (let e : ◌≡◌ {A = ℕ} 0 1 = cc in omega arith)
 
-  pub text-layable : (room : ℕ) → Measurable area n → m.there ≡ true → m.bytes ≤ room → Layable area n room
+  pub text-layable : (room : ℕ) {bytes : ℕ} → Measurable area n → m ≡ Ok bytes → bytes ≤ room → Layable area n room
   text-layable room u t l = let k = there t in record { measurable = u; lines = k.lines; are = k.are; within = omega (arith, k.long) }
 
 module _ (area : List ℕ) (n : ℕ) (s : List ℕ) {f : ScoreRead} {b : Bool} (e : f ≡ area_fault area n 0) (g : b ≡ is_taken f.answer) where
@@ -103,25 +103,29 @@ module _ (area : List ℕ) (n : ℕ) (s : List ℕ) {f : ScoreRead} {b : Bool} (
           let k = le-leb n most_lines few in
           record { answers = y ∙ sym (cond-true _ _ (is ∙ h) ∙ cond-true _ _ k); leaves = z ∙ sym (cond-true _ _ (is ∙ h) ∙ cond-true _ _ k) }
 
-      module _ {m : Measure} (size : m ≡ measured_past 0 (text_from 0 (area_lines area n 0))) where
-        pub text-taken : (new : List ℕ) → m.there ≡ true → m.bytes ≤ length s → new ≡ left_text (text_from 0 (area_lines area n 0)) s
-            → TextDone area n s new (record { answer = Taken; line = 0; bytes = m.bytes })
+      module _ {m : Result ℕ ℕ} (size : m ≡ measured_past 0 (text_from 0 (area_lines area n 0))) where
+        pub text-taken : (new : List ℕ) {bytes : ℕ} → m ≡ Ok bytes → bytes ≤ length s → new ≡ left_text (text_from 0 (area_lines area n 0)) s
+            → TextDone area n s new (record { answer = Taken; line = 0; bytes = bytes })
         text-taken new t l y =
             let k = there area n size t in
             let ws = text_bytes k.lines in
-            done new (cc (k.long, k.are, le-leb (length ws) (length s) (omega (arith, k.long)))) y
+            let room : length ws ≤ length s = omega (arith, k.long) in
+            done new (ap (λ (j : ℕ). record { answer = Taken; line = 0; bytes = j }) k.long ∙ sym (cond-true _ _ (le-leb (length ws) (length s) room))
+            ∙ ap (λ (v : Text). told_text v (length s)) (sym k.are)) y
 
-        pub text-short-room : {x : WriteResult} → m.there ≡ true → length s < m.bytes → x ≡ refusal NoRoom 0 → TextDone area n s s x
-        text-short-room t l y =
+        pub text-short-room : {x : WriteResult} {bytes : ℕ} → m ≡ Ok bytes → length s < bytes → x ≡ refusal NoRoom 0 → TextDone area n s s x
+        text-short-room {x} t l y =
             let k = there area n size t in
             let ws = text_bytes k.lines in
-            let z = lt-leb (length ws) (length s) (omega (arith, k.long)) in
-            done s (cc k.are) (cc k.are)
+            let short : length s < length ws = omega (arith, k.long) in
+            let z = lt-leb (length ws) (length s) short in
+            done s (y ∙ sym (cond-false _ _ z) ∙ ap (λ (v : Text). told_text v (length s)) (sym k.are))
+            (sym (cond-false _ _ z) ∙ ap (λ (v : Text). left_text v s) (sym k.are))
 
-        pub text-lacking : {x : WriteResult} → m.there ≡ false → x ≡ refusal NoText m.line → TextDone area n s s x
-        text-lacking {x} t y = go (text_from 0 (area_lines area n 0)) refl size
+        pub text-lacking : {x : WriteResult} {line : ℕ} → m ≡ Err line → x ≡ refusal NoText line → TextDone area n s s x
+        text-lacking {x} {line} t y = go (text_from 0 (area_lines area n 0)) refl (sym t ∙ size)
           where
-            go : (v : Text) → text_from 0 (area_lines area n 0) ≡ v → m ≡ measured_past 0 v → TextDone area n s s x
-            go (all ws) u z = absurd (true≢false (sym (ap (λ (k : Measure). k.there) z) ∙ t))
+            go : (v : Text) → text_from 0 (area_lines area n 0) ≡ v → Err line ≡ measured_past 0 v → TextDone area n s s x
+            go (all ws) u z = absurd (let e : ◌≡◌ {A = ℕ} 0 1 = cc in omega arith)
             go (lacking i) u z =
                 done s (cc) (cc)

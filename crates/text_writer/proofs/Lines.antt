@@ -25,7 +25,7 @@ use Rattle.text_format.specs.Form.{Behind, Label, Form, instr, control, tempo, e
 use Rattle.text_format.specs.Form as form
 use Rattle.text_line_writer.specs.inside.NumberText.{number_text}
 use Rattle.text_line_writer.specs.inside.LineText.{if_there, single, label_form, values_text, event_text, content_text, line_text}
-use Rattle.text_line_writer.specs.LineText.{Canonical, time_content, event_content, content_of, Single, CanonicalLabel, CanonicalTarget, CanonicalValues, CanonicalForm, IsTextOf, event_numbers, numbers_of, SomeNoText, here, later, NoTextForm, no-time, use-if-late, no_number}
+use Rattle.text_line_writer.specs.LineText.{Canonical, event_content, content_of, Single, CanonicalLabel, CanonicalTarget, CanonicalValues, CanonicalForm, IsTextOf, event_numbers, numbers_of, SomeNoText, here, later, NoTextForm, no-time, use-if-late, no_number}
 use Rattle.text_writer.specs.Claims.{Told, EveryLineTold}
 use Rattle.text_writer.specs.Claims as claims
 use Rattle.text_line_writer.proofs.Numbers.{sign-back, NumberTold, plain, none_of, number-told, number-plain}

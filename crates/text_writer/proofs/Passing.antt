@@ -1,7 +1,6 @@
 -- The two passes over the lines of an area. Assumes nothing.
 use Prim.Native.Nat.{ℕ, suc, ◌+◌, ◌-◌, ◌*◌, ◌≤◌, ◌<◌}
 use mathlib.Core.Path.{◌≡◌, refl, sym, ap, ◌∙◌}
-use mathlib.Core.Bool.{true, false, true≢false}
 use mathlib.Core.List.{List, [], ◌∷◌, ◌++◌, append_assoc, append-nil}
 use mathlib.Core.Option.{Option, none, some, map}
 use native.Mathlib.Nat.{add_assoc, add-zero, zero-add}
@@ -22,7 +21,9 @@ use Rattle.text_line_writer.specs.inside.LineText.{line_text}
 use Rattle.text_line_writer.specs.inside.Drafts.{Holds}
 use Rattle.text_writer.specs.Writing.{Text, all, lacking, before, text_from, left_text}
 use Rattle.text_writer.specs.inside.Passes.{measured_past, Measurable, Layable, Fits, Put}
-use Rattle.text_line_writer.specs.declared.Draft.{Draft}
+use Rattle.std.specs.Prelude.{Option as Optional, Some, None, Ok, Err}
+use Rattle.std.specs.Option.{IsSome, is_some}
+use Rattle.std.proofs.lemmas.Option.{same_Some, none-some}
 
 -- ---- a draft and its line
 
@@ -37,24 +38,24 @@ whole t bytes e h =
     let a = push-appends empty_text bytes refl (omega arith) in
     record { content = cc; len = cc (zero-add (length bytes)); room = cc }
 
-record There (l : Line) (d : Draft) : Type 0 where
+record There (l : Line) (t : LineText) : Type 0 where
   written : form.TextLine
   found : line_text l ≡ some written
-  text : d.text ≡ push_all empty_text (line_bytes written)
+  text : t ≡ push_all empty_text (line_bytes written)
 
-there : (l : Line) (d : Draft) → Holds d (map line_bytes (line_text l)) → d.there ≡ true → There l d
-there l d h e = go (line_text l) refl h
+there : (l : Line) (d : Optional LineText) (t : LineText) → Holds d (map line_bytes (line_text l)) → d ≡ Some t → There l t
+there l d t h e = go (line_text l) refl h
   where
-    go : (o : Option form.TextLine) → line_text l ≡ o → Holds d (map line_bytes o) → There l d
-    go none f k = absurd (true≢false (sym e ∙ k))
-    go (some w) f k = record { written = w; found = f; text = k.1 }
+    go : (o : Option form.TextLine) → line_text l ≡ o → Holds d (map line_bytes o) → There l t
+    go none f k = absurd (none-some t (sym k ∙ e))
+    go (some w) f k = record { written = w; found = f; text = same_Some _ _ (sym e ∙ k) }
 
-lacks : (l : Line) (d : Draft) → Holds d (map line_bytes (line_text l)) → d.there ≡ false → line_text l ≡ none
+lacks : (l : Line) (d : Optional LineText) → Holds d (map line_bytes (line_text l)) → d ≡ None → line_text l ≡ none
 lacks l d h e = go (line_text l) refl h
   where
     go : (o : Option form.TextLine) → line_text l ≡ o → Holds d (map line_bytes o) → line_text l ≡ none
     go none f k = f
-    go (some w) f k = absurd (true≢false (sym k.0 ∙ e))
+    go (some w) f k = absurd (none-some (push_all empty_text (line_bytes w)) (sym e ∙ k))
 
 -- ---- the lines that are left
 
@@ -93,31 +94,31 @@ module _ (area : List ℕ) (n : ℕ) where
   pub count-start : Counted 0 0
   count-start = record { upto = omega arith; bound = omega arith; same = ap (measured_past 0) (text-start area n) }
 
-  pub count-more : (total i : ℕ) {r : LineRead} (d : Draft) → Measurable area n → Counted total i → i < n → r ≡ slot_read area i
-      → Holds d (map line_bytes (line_text r.line)) → d.there ≡ true
-      → Counted (total + d.text.len) (i + 1)
-  count-more total i {r} d m c h e k f =
+  pub count-more : (total i : ℕ) {r : LineRead} (d : Optional LineText) (u : LineText) → Measurable area n → Counted total i → i < n → r ≡ slot_read area i
+      → Holds d (map line_bytes (line_text r.line)) → d ≡ Some u
+      → Counted (total + u.len) (i + 1)
+  count-more total i {r} d u m c h e k f =
       let x = (slot_read area i).line in
-      let t = there x d (rw e at k) f in
+      let t = there x d u (rw e at k) f in
       let w = t.written in
       let s : length (line_bytes w) ≤ line_room = m.short i h w t.found in
-      let p = whole d.text (line_bytes w) t.text s in
+      let p = whole u (line_bytes w) t.text s in
       let more = text_from (i + 1) (area_lines area (n - (i + 1)) (i + 1)) in
       record { upto = omega arith; bound = omega (arith, c.bound, p.len); same = cc (p.len, one_more total i w more, t.found, text-left area n i h, c.same) }
 
   -- the sum has a number
-  pub count_room : (total i : ℕ) {r : LineRead} (d : Draft) → Measurable area n → Counted total i → i < n → r ≡ slot_read area i
-      → Holds d (map line_bytes (line_text r.line)) → d.there ≡ true
-      → total + d.text.len < 18446744073709551616
-  count_room total i d m c h e k f = omega (arith, (count-more total i d m c h e k f).bound, m.few)
+  pub count_room : (total i : ℕ) {r : LineRead} (d : Optional LineText) (u : LineText) → Measurable area n → Counted total i → i < n → r ≡ slot_read area i
+      → Holds d (map line_bytes (line_text r.line)) → d ≡ Some u
+      → total + u.len < 18446744073709551616
+  count_room total i d u m c h e k f = omega (arith, (count-more total i d u m c h e k f).bound, m.few)
 
-  pub count-stop : (total i : ℕ) {r : LineRead} (d : Draft) → Counted total i → i < n → r ≡ slot_read area i → Holds d (map line_bytes (line_text r.line))
-      → d.there ≡ false
-      → record { there = false; line = i; bytes = 0 } ≡ measured_past 0 (text_from 0 (area_lines area n 0))
+  pub count-stop : (total i : ℕ) {r : LineRead} (d : Optional LineText) → Counted total i → i < n → r ≡ slot_read area i → Holds d (map line_bytes (line_text r.line))
+      → d ≡ None
+      → Err i ≡ measured_past 0 (text_from 0 (area_lines area n 0))
   count-stop total i {r} d c h e k f =
       cc (lacks (slot_read area i).line d (rw e at k) f, text-left area n i h, c.same)
 
-  pub count-end : (total i : ℕ) → Counted total i → n ≤ i → record { there = true; line = 0; bytes = total } ≡ measured_past 0 (text_from 0 (area_lines area n 0))
+  pub count-end : (total i : ℕ) → Counted total i → n ≤ i → Ok total ≡ measured_past 0 (text_from 0 (area_lines area n 0))
   unfolding text_bytes
   count-end total i c h = cc (add-zero total, text-end area n i h, c.same)
 
@@ -210,47 +211,51 @@ module _ (area : List ℕ) (n : ℕ) (first : List ℕ) where
     pub lay-length : length s ≡ length first
     lay-length = omega (arith, ap length c.stands, length-append (text_bytes c.done) (drop p first), length-drop p first, room, c.past)
 
-    module _ (below : i < n) {r : LineRead} (d : Draft) (read : r ≡ slot_read area i) (holds : Holds d (map line_bytes (line_text r.line))) where
+    module _ (below : i < n) {r : LineRead} (d : Optional LineText) (read : r ≡ slot_read area i) (holds : Holds d (map line_bytes (line_text r.line))) where
       next : First (line_text (slot_read area i).line) (text_from (i + 1) (area_lines area (n - (i + 1)) (i + 1))) c.rest
       next = first-of (line_text (slot_read area i).line) i (text_from (i + 1) (area_lines area (n - (i + 1)) (i + 1))) c.rest (sym (text-left area n i below) ∙ c.left)
 
-      line : Whole d.text (line_bytes next.one)
-      line =
-          let w = next.one in
-          let f = next.found in
-          let k : Holds d (map line_bytes (some w)) = rw (read, f) at holds in
-          whole d.text (line_bytes w) k.1 (h.measurable.short i below w next.found)
+      stands : d ≡ Some (push_all empty_text (line_bytes next.one))
+      stands = let k : Holds d (map line_bytes (some next.one)) = rw (read, next.found) at holds in k
+
+      -- the line has a text
+      pub lay-there : IsSome d
+      lay-there = ap is_some stands
 
       bytes_left : length (text_bytes c.rest) ≡ length (line_bytes next.one) + length (text_bytes next.others)
       unfolding text_bytes
       bytes_left = ap (λ (ws : List form.TextLine). length (text_bytes ws)) next.are ∙ length-append (line_bytes next.one) (text_bytes next.others)
 
-      pub lay-fits : Fits (length s) p d.text
-      lay-fits =
-          record {
-            whole = omega (arith, line.len, h.measurable.short i below next.one next.found);
-            long = line.room;
-            within = omega
-                (arith, line.len, bytes_left, room, lay-length, c.past);
-          }
+      module _ (u : LineText) (is : d ≡ Some u) where
+        line : Whole u (line_bytes next.one)
+        line = whole u (line_bytes next.one) (same_Some _ _ (sym is ∙ stands)) (h.measurable.short i below next.one next.found)
 
-      pub lay-more : {t : List ℕ} {q : ℕ} → Put s p d.text t q → Laying t q (i + 1)
-      lay-more {t} {q} k =
-          let w = next.one in
-          let b = text_bytes c.done in
-          let len = d.text.len in
-          let e = bytes-snoc c.done w in
-          let f = take_at b (drop p first) p (sym c.past) in
-          let g : drop (p + len) s ≡ drop (p + len) first = cc (drop-drop len p s, c.stands, drop_at b (drop p first) p (sym c.past), drop-drop len p first) in
-          record {
-            upto = omega arith;
-            done = c.done ++ (w ∷ []);
-            rest = next.others;
-            are = cc (c.are, next.are, append_assoc c.done (w ∷ []) next.others);
-            left = next.rest;
-            past = omega (arith, k.past, c.past, line.len, ap length e, length-append b (line_bytes w));
-            stands = cc (k.stands, f, c.stands, line.content, append_assoc b (line_bytes w) (drop (p + len) first), k.past);
-          }
+        pub lay-fits : Fits (length s) p u
+        lay-fits =
+            record {
+              whole = omega (arith, line.len, h.measurable.short i below next.one next.found);
+              long = line.room;
+              within = omega
+                  (arith, line.len, bytes_left, room, lay-length, c.past);
+            }
+
+        pub lay-more : {t : List ℕ} {q : ℕ} → Put s p u t q → Laying t q (i + 1)
+        lay-more {t} {q} k =
+            let w = next.one in
+            let b = text_bytes c.done in
+            let len = u.len in
+            let e = bytes-snoc c.done w in
+            let f = take_at b (drop p first) p (sym c.past) in
+            let g : drop (p + len) s ≡ drop (p + len) first = cc (drop-drop len p s, c.stands, drop_at b (drop p first) p (sym c.past), drop-drop len p first) in
+            record {
+              upto = omega arith;
+              done = c.done ++ (w ∷ []);
+              rest = next.others;
+              are = cc (c.are, next.are, append_assoc c.done (w ∷ []) next.others);
+              left = next.rest;
+              past = omega (arith, k.past, c.past, line.len, ap length e, length-append b (line_bytes w));
+              stands = cc (k.stands, f, c.stands, line.content, append_assoc b (line_bytes w) (drop (p + len) first), k.past);
+            }
 
     pub lay-end : n ≤ i → s ≡ left_text (text_from 0 (area_lines area n 0)) first
     lay-end m =

@@ -10,42 +10,20 @@ use base_answer::Answer;
 use score_writer::{MOST_LINES, WriteResult};
 use text_number_writer::LineText;
 
-// How many bytes lines are written in, or the first that has no text.
-#[derive(Clone, Copy)]
-struct Measure {
-    there: bool,
-    line: usize,
-    bytes: usize,
-}
-
-// One pass over the first n slots: how many bytes their text has, or the first line that has none.
-fn measured_lines(area: &[u32], n: usize) -> Measure
+// One pass over the first n slots: how many bytes their text has, or the number of the first line that has none.
+fn measured_lines(area: &[u32], n: usize) -> Result<usize, usize>
     requires { Measurable area.now n }
     ensures { result ≡ measured_past 0 (text_from 0 (area_lines area.now n 0)) }
 {
     let mut total: usize = 0;
-    let mut i: usize = 0;
-    while i < n {
-        let read = score_writer::slot_at(area, i);
-        let line = read.line;
-        let d = text_line_writer::line_text(line);
-        if d.there {
-            let text = d.text;
-            total += text.len;
-            i += 1;
-        } else {
-            return Measure {
-                there: false,
-                line: i,
-                bytes: 0,
-            };
-        }
+    for i in 0..n {
+        let line = score_writer::slot_at(area, i).line;
+        let Some(text) = text_line_writer::line_text(line) else {
+            return Err(i);
+        };
+        total += text.len;
     }
-    Measure {
-        there: true,
-        line: 0,
-        bytes: total,
-    }
+    Ok(total)
 }
 
 // Puts a line of text at a position, and answers the position past it.
@@ -55,10 +33,8 @@ fn put_text(out: &mut [u8], at: usize, text: LineText) -> usize
 {
     let len = text.len;
     let bytes = text.bytes;
-    let mut i: usize = 0;
-    while i < len {
+    for i in 0..len {
         out[at + i] = bytes[i];
-        i += 1;
     }
     at + len
 }
@@ -69,14 +45,10 @@ fn put_lines(area: &[u32], n: usize, out: &mut [u8])
     ensures { out.new ≡ left_text (text_from 0 (area_lines area.now n 0)) out.old }
 {
     let mut p: usize = 0;
-    let mut i: usize = 0;
-    while i < n {
-        let read = score_writer::slot_at(area, i);
-        let line = read.line;
-        let d = text_line_writer::line_text(line);
-        let text = d.text;
+    for i in 0..n {
+        let line = score_writer::slot_at(area, i).line;
+        let text = text_line_writer::line_text(line).unwrap();
         p = put_text(out, p, text);
-        i += 1;
     }
 }
 
@@ -86,25 +58,24 @@ pub fn write_text(area: &[u32], n: usize, out: &mut [u8]) -> WriteResult
     ensures { TextDone area.now n out.old out.new result }
 {
     let fault = score_writer::first_fault(area, n);
-    let answer = fault.answer;
-    if base_answer::is_taken(answer) {
-        if n <= MOST_LINES {
-            let text = measured_lines(area, n);
-            if text.there {
-                let bytes = text.bytes;
-                if bytes <= out.len() {
-                    put_lines(area, n, out);
-                    return WriteResult {
-                        answer: Answer::Taken,
-                        line: 0,
-                        bytes: bytes,
-                    };
-                }
-                return score_writer::refused(Answer::NoRoom, 0);
-            }
-            return score_writer::refused(Answer::NoText, text.line);
-        }
+    if !base_answer::is_taken(fault.answer) {
+        return score_writer::refused(fault.answer, fault.line);
+    }
+    if MOST_LINES < n {
         return score_writer::refused(Answer::OutOfRange, 0);
     }
-    score_writer::refused(answer, fault.line)
+    match measured_lines(area, n) {
+        Ok(bytes) => {
+            if out.len() < bytes {
+                return score_writer::refused(Answer::NoRoom, 0);
+            }
+            put_lines(area, n, out);
+            WriteResult {
+                answer: Answer::Taken,
+                line: 0,
+                bytes,
+            }
+        }
+        Err(line) => score_writer::refused(Answer::NoText, line),
+    }
 }

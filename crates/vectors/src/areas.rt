@@ -10,65 +10,69 @@ fn number(a: Answer) -> u64 {
 }
 
 // Into an area of so many words.
-pub fn decode(bytes: &[u8], words: usize) -> u64 {
+fn into_words<F: FnOnce(&mut [u32]) -> Answer>(words: usize, call: F) -> u64
+    requires { F.IsAlwaysCallable call }
+{
     let mut area = [0u32; 512];
     if words <= 512 {
-        let r = score_decoder::decode_score(bytes, &mut area[..words]);
-        let a = r.answer;
-        return number(a);
+        number(call(&mut area[..words]))
+    } else {
+        NO_ROOM
     }
-    NO_ROOM
+}
+
+pub fn decode(bytes: &[u8], words: usize) -> u64 {
+    into_words(words, |area| {
+        let r = score_decoder::decode_score(bytes, area);
+        r.answer
+    })
 }
 
 pub fn decode_unit(bytes: &[u8], words: usize) -> u64 {
-    let mut area = [0u32; 512];
-    if words <= 512 {
-        let r = score_decoder::decode_unit(bytes, &mut area[..words]);
-        let a = r.answer;
-        return number(a);
-    }
-    NO_ROOM
+    into_words(words, |area| {
+        let r = score_decoder::decode_unit(bytes, area);
+        r.answer
+    })
 }
 
 pub fn decode_text(bytes: &[u8], words: usize) -> u64 {
-    let mut area = [0u32; 512];
-    if words <= 512 {
-        let r = text_decoder::decode_text(bytes, &mut area[..words]);
-        let a = r.answer;
-        return number(a);
-    }
-    NO_ROOM
+    into_words(words, |area| {
+        let r = text_decoder::decode_text(bytes, area);
+        r.answer
+    })
 }
 
 // One line, into an area of so many bytes.
-pub fn write(slot: &[u32], bytes: usize) -> u64 {
+fn into_bytes<F: FnOnce(&mut [u8]) -> Answer>(bytes: usize, call: F) -> u64
+    requires { F.IsAlwaysCallable call }
+{
     let mut out = [0u8; 512];
     if bytes <= 512 {
-        let r = score_writer::write_score(slot, 1, &mut out[..bytes]);
-        let a = r.answer;
-        return number(a);
+        number(call(&mut out[..bytes]))
+    } else {
+        NO_ROOM
     }
-    NO_ROOM
+}
+
+pub fn write(slot: &[u32], bytes: usize) -> u64 {
+    into_bytes(bytes, |out| {
+        let r = score_writer::write_score(slot, 1, out);
+        r.answer
+    })
 }
 
 pub fn write_unit(slot: &[u32], bytes: usize) -> u64 {
-    let mut out = [0u8; 512];
-    if bytes <= 512 {
-        let r = score_writer::write_slot(slot, &mut out[..bytes]);
-        let a = r.answer;
-        return number(a);
-    }
-    NO_ROOM
+    into_bytes(bytes, |out| {
+        let r = score_writer::write_slot(slot, out);
+        r.answer
+    })
 }
 
 pub fn write_text(slot: &[u32], bytes: usize) -> u64 {
-    let mut out = [0u8; 512];
-    if bytes <= 512 {
-        let r = text_writer::write_text(slot, 1, &mut out[..bytes]);
-        let a = r.answer;
-        return number(a);
-    }
-    NO_ROOM
+    into_bytes(bytes, |out| {
+        let r = text_writer::write_text(slot, 1, out);
+        r.answer
+    })
 }
 
 // An end line with a time, for a host that holds lines by value.

@@ -1,7 +1,4 @@
 // The call that a line names.
-use crate::text;
-use crate::text::Head;
-
 #[derive(Clone, Copy)]
 pub enum Call {
     Piece,
@@ -37,129 +34,44 @@ pub enum Call {
     WriteText,
     Unpack,
     Name,
-    Unknown,
 }
 
-// The calls on a panel; the others are those on lent areas.
-pub fn named(text: &[u8], h: Head) -> Call {
-    if text::is_name(text, h, b"piece") {
-        return Call::Piece;
+// None where there is no call of the name.
+pub fn named(name: &[u8]) -> Option<Call> {
+    match name {
+        b"piece" => Some(Call::Piece),
+        b"fresh" => Some(Call::Fresh),
+        b"stick" => Some(Call::Stick),
+        b"unit" => Some(Call::Unit),
+        b"text" => Some(Call::Text),
+        b"text_line" => Some(Call::TextLine),
+        b"keypad" => Some(Call::Keypad),
+        b"keyboard" => Some(Call::Keyboard),
+        b"choose" => Some(Call::Choose),
+        b"cycle" => Some(Call::Cycle),
+        b"missed" => Some(Call::Missed),
+        b"silent" => Some(Call::Silent),
+        b"sounding" => Some(Call::Sounding),
+        b"ticks" => Some(Call::Ticks),
+        b"position" => Some(Call::Position),
+        b"level" => Some(Call::Level),
+        b"notes" => Some(Call::Notes),
+        b"first" => Some(Call::First),
+        b"change" => Some(Call::Change),
+        b"undo" => Some(Call::Undo),
+        b"lend" => Some(Call::Lend),
+        b"overwrite" => Some(Call::Overwrite),
+        b"byte" => Some(Call::Byte),
+        b"burst" => Some(Call::Burst),
+        b"burst_places" => Some(Call::BurstPlaces),
+        b"decode" => Some(Call::Decode),
+        b"decode_unit" => Some(Call::DecodeUnit),
+        b"decode_text" => Some(Call::DecodeText),
+        b"write_text" => Some(Call::WriteText),
+        b"write" => Some(Call::Write),
+        b"write_unit" => Some(Call::WriteUnit),
+        b"unpack" => Some(Call::Unpack),
+        b"name" => Some(Call::Name),
+        _ => None,
     }
-    if text::is_name(text, h, b"fresh") {
-        return Call::Fresh;
-    }
-    if text::is_name(text, h, b"stick") {
-        return Call::Stick;
-    }
-    if text::is_name(text, h, b"unit") {
-        return Call::Unit;
-    }
-    if text::is_name(text, h, b"text") {
-        return Call::Text;
-    }
-    if text::is_name(text, h, b"text_line") {
-        return Call::TextLine;
-    }
-    if text::is_name(text, h, b"keypad") {
-        return Call::Keypad;
-    }
-    if text::is_name(text, h, b"keyboard") {
-        return Call::Keyboard;
-    }
-    if text::is_name(text, h, b"choose") {
-        return Call::Choose;
-    }
-    if text::is_name(text, h, b"cycle") {
-        return Call::Cycle;
-    }
-    told_of(text, h)
-}
-
-fn told_of(text: &[u8], h: Head) -> Call {
-    if text::is_name(text, h, b"missed") {
-        return Call::Missed;
-    }
-    if text::is_name(text, h, b"silent") {
-        return Call::Silent;
-    }
-    if text::is_name(text, h, b"sounding") {
-        return Call::Sounding;
-    }
-    if text::is_name(text, h, b"ticks") {
-        return Call::Ticks;
-    }
-    if text::is_name(text, h, b"position") {
-        return Call::Position;
-    }
-    if text::is_name(text, h, b"level") {
-        return Call::Level;
-    }
-    if text::is_name(text, h, b"notes") {
-        return Call::Notes;
-    }
-    of_settings(text, h)
-}
-
-fn of_settings(text: &[u8], h: Head) -> Call {
-    if text::is_name(text, h, b"first") {
-        return Call::First;
-    }
-    if text::is_name(text, h, b"change") {
-        return Call::Change;
-    }
-    if text::is_name(text, h, b"undo") {
-        return Call::Undo;
-    }
-    if text::is_name(text, h, b"lend") {
-        return Call::Lend;
-    }
-    if text::is_name(text, h, b"overwrite") {
-        return Call::Overwrite;
-    }
-    if text::is_name(text, h, b"byte") {
-        return Call::Byte;
-    }
-    of_burst(text, h)
-}
-
-fn of_burst(text: &[u8], h: Head) -> Call {
-    if text::is_name(text, h, b"burst") {
-        return Call::Burst;
-    }
-    if text::is_name(text, h, b"burst_places") {
-        return Call::BurstPlaces;
-    }
-    on_area(text, h)
-}
-
-fn on_area(text: &[u8], h: Head) -> Call {
-    if text::is_name(text, h, b"decode") {
-        return Call::Decode;
-    }
-    if text::is_name(text, h, b"decode_unit") {
-        return Call::DecodeUnit;
-    }
-    if text::is_name(text, h, b"decode_text") {
-        return Call::DecodeText;
-    }
-    if text::is_name(text, h, b"write_text") {
-        return Call::WriteText;
-    }
-    if text::is_name(text, h, b"write") {
-        return Call::Write;
-    }
-    if text::is_name(text, h, b"write_unit") {
-        return Call::WriteUnit;
-    }
-    on_names(text, h)
-}
-
-fn on_names(text: &[u8], h: Head) -> Call {
-    if text::is_name(text, h, b"unpack") {
-        return Call::Unpack;
-    }
-    if text::is_name(text, h, b"name") {
-        return Call::Name;
-    }
-    Call::Unknown
 }

@@ -16,23 +16,23 @@ fn with_cycle(h: Heard) -> Heard {
     let mut block = [0i16; 320];
     let before = h.panel;
     let r = Panel::cycle(before, &mut block);
-    let panel = r.panel;
+    let panel = r.left;
     if sounds(&block) {
         return Heard {
-            panel: panel,
+            panel,
             silent: h.silent,
             sounding: h.sounding % 1000 + 1,
         };
     }
     if h.sounding == 0 {
         return Heard {
-            panel: panel,
+            panel,
             silent: h.silent % 1000 + 1,
             sounding: 0,
         };
     }
     Heard {
-        panel: panel,
+        panel,
         silent: h.silent,
         sounding: h.sounding,
     }
@@ -40,14 +40,12 @@ fn with_cycle(h: Heard) -> Heard {
 
 pub fn listened(panel: Panel) -> Heard {
     let mut h = Heard {
-        panel: panel,
+        panel,
         silent: 0,
         sounding: 0,
     };
-    let mut cycles: u32 = 300;
-    while cycles > 0 {
+    for _ in 0..300 {
         h = with_cycle(h);
-        cycles -= 1;
     }
     h
 }

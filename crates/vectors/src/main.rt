@@ -12,7 +12,7 @@ mod text;
 
 use session::Session;
 use std::io;
-use text::Tail;
+use text::{Numbers, Tail};
 
 const ROOM: usize = 65536;
 
@@ -21,50 +21,32 @@ fn told(rt: &HostRuntime, title: &[u8], expected: u64, got: u64) -> io::Result<(
     println!(rt; ": expected {expected}, got {got}")
 }
 
-fn told_from(
-    rt: &HostRuntime,
-    text: &[u8],
-    from: usize,
-    end: usize,
-    expected: u64,
-    got: u64,
-) -> io::Result<()> {
-    if from <= end && end <= text.len() {
-        told(rt, &text[from..end], expected, got)?;
-    }
-    Ok(())
-}
-
 // By its title; a line that has none only prepares, and is told, whole, where something else came.
-fn reported(rt: &HostRuntime, text: &[u8], at: usize, t: Tail, got: u64) -> io::Result<()> {
-    if t.title < t.end {
-        return told_from(rt, text, t.title, t.end, t.expected, got);
+fn reported(rt: &HostRuntime, line: &[u8], t: Tail<'_>, got: u64) -> io::Result<()> {
+    if !t.title.is_empty() {
+        return told(rt, t.title, t.expected, got);
     }
     if got != t.expected {
-        return told_from(rt, text, at, t.end, t.expected, got);
+        return told(rt, line, t.expected, got);
     }
     Ok(())
 }
 
-fn case_at(rt: &HostRuntime, text: &[u8], at: usize, d: Session) -> io::Result<Session> {
-    let mut numbers = [0u32; 512];
-    let h = text::head_at(text, at);
-    let t = text::tail_at(text, h, &mut numbers);
-    let after = session::carried_out(d, text, h, &numbers, t.count);
-    reported(rt, text, at, t, after.got)?;
+fn case_of(rt: &HostRuntime, line: &[u8], d: Session) -> io::Result<Session> {
+    let mut numbers = Numbers::none();
+    let h = text::head_of(line);
+    let t = text::tail_of(h, &mut numbers);
+    let after = session::carried_out(d, h, numbers.items());
+    reported(rt, line, t, after.got)?;
     Ok(after)
 }
 
 fn run(rt: &HostRuntime, text: &[u8]) -> io::Result<()> {
     let mut d = session::bare();
-    let mut at: usize = 0;
-    let mut left = text.len();
-    while left > 0 {
-        if !text::is_remark(text, at) {
-            d = case_at(rt, text, at, d)?;
+    for line in text.split(|b| text::ends_line(*b)) {
+        if !text::is_remark(line) {
+            d = case_of(rt, line, d)?;
         }
-        at = text::next_line(text, at);
-        left -= 1;
     }
     Ok(())
 }

@@ -1,4 +1,5 @@
 // Symbol tables unpacked, and names asked for.
+use base_answer::Answer;
 
 const NO_ROOM: u64 = 255;
 
@@ -13,19 +14,18 @@ fn told_with(number: u8, length: usize) -> u64 {
 pub fn unpack(bytes: &[u8], room: usize) -> u64 {
     let mut buffer = [0u8; 512];
     if room <= 512 {
-        let r = symbol_unpacker::unpack(bytes, &mut buffer[..room]);
-        let a = r.answer;
-        return told_with(base_answer::number(a), r.length);
+        return match symbol_unpacker::unpack(bytes, &mut buffer[..room]) {
+            Ok(length) => told_with(base_answer::number(Answer::Taken), length),
+            Err(a) => told_with(base_answer::number(a), 0),
+        };
     }
     NO_ROOM
 }
 
 // A name as a number: 256 times its length, and its first byte.
 fn told(name: &[u8]) -> u64 {
-    if 0 < name.len() {
-        return (name.len() % 256) as u64 * 256 + program_io::byte_at(name, 0) as u64;
-    }
-    0
+    name.first()
+        .map_or(0, |b| (name.len() % 256) as u64 * 256 + *b as u64)
 }
 
 // A symbol's name, where the piece's names are these bytes.

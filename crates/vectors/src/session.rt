@@ -1,12 +1,9 @@
 // The calls that a case can name, each on the panel of the piece or on the one that the case before left.
-ghost use Rattle.std.specs.Prelude.{◌≡◌, length};
-
 use crate::calls::Call;
 use crate::settings::{Area, Called};
-use crate::text::Head;
+use crate::text::{Head, MOST};
 use crate::{calls, listening, settings};
 use base_answer::Answer;
-use base_timebase::Checked;
 use panel::Panel;
 
 // A fresh panel of the piece and the settings area that its start left, both as the last call left them, and the number that came of it.
@@ -33,11 +30,11 @@ fn left_with(d: Session, panel: Panel, area: Area, got: u64) -> Session {
     let fresh = d.fresh;
     let begun = d.begun;
     Session {
-        fresh: fresh,
-        begun: begun,
-        panel: panel,
-        area: area,
-        got: got,
+        fresh,
+        begun,
+        panel,
+        area,
+        got,
     }
 }
 
@@ -54,8 +51,8 @@ fn beginning(c: Called) -> Session {
     Session {
         fresh: panel,
         begun: area,
-        panel: panel,
-        area: area,
+        panel,
+        area,
         got: c.answer,
     }
 }
@@ -65,22 +62,11 @@ pub fn bare() -> Session {
     beginning(settings::started(settings::unused(), b"", b"", 0))
 }
 
-fn byte_of(numbers: &[u32], at: usize) -> u8 {
-    if at < numbers.len() {
-        return (numbers[at] % 256) as u8;
-    }
-    0
-}
-
 // The numbers as bytes.
-fn bytes_of(numbers: &[u32]) -> [u8; 512]
-    ensures { 512 ≡ length result }
-{
-    let mut bytes = [0u8; 512];
-    let mut i: usize = 0;
-    while i < 512 {
-        bytes[i] = byte_of(numbers, i);
-        i += 1;
+fn bytes_of(numbers: &[u32]) -> [u8; MOST] {
+    let mut bytes = [0u8; MOST];
+    for (byte, n) in bytes.iter_mut().zip(numbers) {
+        *byte = (*n % 256) as u8;
     }
     bytes
 }
@@ -152,7 +138,7 @@ fn keyboard(d: Session, bytes: &[u8]) -> Session {
     let panel = d.panel;
     let r = Panel::play_keys(panel, bytes);
     let a = r.answer;
-    let after = r.panel;
+    let after = r.left;
     left(d, after, number(a))
 }
 
@@ -160,7 +146,7 @@ fn stick(d: Session, bytes: &[u8]) -> Session {
     let panel = d.panel;
     let r = Panel::load_score(panel, bytes);
     let a = r.answer;
-    let after = r.panel;
+    let after = r.left;
     left(d, after, number(a))
 }
 
@@ -168,7 +154,7 @@ fn typed(d: Session, bytes: &[u8]) -> Session {
     let panel = d.panel;
     let r = Panel::load_text(panel, bytes);
     let a = r.answer;
-    let after = r.panel;
+    let after = r.left;
     left(d, after, number(a))
 }
 
@@ -176,7 +162,7 @@ fn typed(d: Session, bytes: &[u8]) -> Session {
 fn typed_line(d: Session, bytes: &[u8]) -> Session {
     let panel = d.panel;
     let r = Panel::load_text(panel, bytes);
-    let after = r.panel;
+    let after = r.left;
     left(d, after, r.line as u64)
 }
 
@@ -184,7 +170,7 @@ fn unit(d: Session, bytes: &[u8]) -> Session {
     let panel = d.panel;
     let r = Panel::receive_unit(panel, bytes);
     let a = r.answer;
-    let after = r.panel;
+    let after = r.left;
     left(d, after, number(a))
 }
 
@@ -205,10 +191,8 @@ fn with_place(n: u64, place: u8) -> u64 {
 // Two digits for each place.
 fn digits(area: &[u8]) -> u64 {
     let mut n: u64 = 0;
-    let mut at: usize = 0;
-    while at < area.len() {
-        n = with_place(n, area[at]);
-        at += 1;
+    for place in area {
+        n = with_place(n, *place);
     }
     n
 }
@@ -216,7 +200,7 @@ fn digits(area: &[u8]) -> u64 {
 fn sent(panel: Panel, bytes: &[u8], area: &mut [u8]) -> Outcome {
     let r = Panel::receive_burst(panel, bytes, area);
     let a = r.answer;
-    let after = r.panel;
+    let after = r.left;
     Outcome {
         panel: after,
         answer: number(a),
@@ -230,7 +214,7 @@ fn sent_with(panel: Panel, places: usize, bytes: &[u8]) -> Outcome {
         return sent(panel, bytes, &mut area[..places]);
     }
     Outcome {
-        panel: panel,
+        panel,
         answer: NO_CALL,
         places: NO_CALL,
     }
@@ -254,7 +238,7 @@ fn keypad(d: Session, numbers: &[u32]) -> Session {
     let panel = d.panel;
     let r = Panel::enter_line(panel, numbers);
     let a = r.answer;
-    let after = r.panel;
+    let after = r.left;
     left(d, after, number(a))
 }
 
@@ -264,7 +248,7 @@ fn cycle(d: Session, samples: usize) -> Session {
         let panel = d.panel;
         let r = Panel::cycle(panel, &mut block[..samples]);
         let a = r.answer;
-        let after = r.panel;
+        let after = r.left;
         return left(d, after, number(a));
     }
     d
@@ -311,10 +295,10 @@ fn position(d: Session) -> Session {
     left(d, panel, Panel::position_in_ticks(panel))
 }
 
-fn ticks_of(c: Checked) -> u64 {
+fn ticks_of(c: Option<f32>) -> u64 {
     match c {
-        Checked::Value(x) => base_timebase::beats_to_ticks(x),
-        Checked::Outside => 0,
+        Some(x) => base_timebase::beats_to_ticks(x),
+        None => 0,
     }
 }
 
@@ -381,7 +365,6 @@ fn called(d: Session, c: Call, size: usize, bytes: &[u8], numbers: &[u32]) -> Se
         Call::WriteUnit => got(d, crate::areas::write_unit(numbers, size)),
         Call::Unpack => got(d, crate::naming::unpack(bytes, size)),
         Call::Name => got(d, crate::naming::name(symbol_of(size), bytes)),
-        Call::Unknown => got(d, NO_CALL),
     }
 }
 
@@ -396,40 +379,32 @@ fn started(d: Session, goes_on: bool) -> Session {
 
 fn repeated(
     d: Session,
-    c: Call,
+    c: Option<Call>,
     times: u32,
     size: usize,
     bytes: &[u8],
     numbers: &[u32],
 ) -> Session {
     let mut e = d;
-    let mut left = times;
-    while left > 0 {
-        e = called(e, c, size, bytes, numbers);
-        left -= 1;
+    for _ in 0..times {
+        e = match c {
+            Some(c) => called(e, c, size, bytes, numbers),
+            None => got(e, NO_CALL),
+        };
     }
     e
 }
 
-pub fn carried_out(
-    d: Session,
-    text: &[u8],
-    h: Head,
-    numbers: &[u32; 512],
-    count: usize,
-) -> Session {
-    let all = &numbers[..];
-    let bytes = bytes_of(all);
-    if count <= all.len() && count <= 512 {
-        let e = started(d, h.goes_on);
-        return repeated(
-            e,
-            calls::named(text, h),
-            h.times,
-            h.size,
-            &bytes[..count],
-            &all[..count],
-        );
-    }
-    d
+pub fn carried_out(d: Session, h: Head<'_>, numbers: &[u32]) -> Session {
+    let e = started(d, h.goes_on);
+    let bytes = bytes_of(numbers);
+    let n = numbers.len().min(MOST);
+    repeated(
+        e,
+        calls::named(h.name),
+        h.times,
+        h.size,
+        &bytes[..n],
+        numbers,
+    )
 }

@@ -1,6 +1,6 @@
 // The settings area of a case, and the calls that are lent it.
-use base_answer::Answer;
-use panel::{Fresh, Panel, PanelResult};
+use base_answer::{Answer, Answered};
+use panel::Panel;
 
 // The longest area that a case lends.
 pub const LONGEST: usize = 8192;
@@ -37,10 +37,7 @@ pub fn unused() -> Area {
 // From now on so many bytes are lent.
 pub fn lending(a: Area, lent: usize) -> Area {
     let bytes = a.bytes;
-    Area {
-        bytes: bytes,
-        lent: lent,
-    }
+    Area { bytes, lent }
 }
 
 fn put_at(bytes: &mut [u8], at: usize, s: &[u8]) {
@@ -52,7 +49,7 @@ pub fn overwritten(a: Area, at: usize, s: &[u8]) -> Area {
     let mut bytes = a.bytes;
     put_at(&mut bytes, at, s);
     Area {
-        bytes: bytes,
+        bytes,
         lent: a.lent,
     }
 }
@@ -64,35 +61,32 @@ pub fn byte_at(a: Area, at: usize) -> u64 {
 
 fn with_area(panel: Panel, bytes: [u8; LONGEST], lent: usize, answer: u64) -> Called {
     Called {
-        panel: panel,
-        area: Area {
-            bytes: bytes,
-            lent: lent,
-        },
-        answer: answer,
+        panel,
+        area: Area { bytes, lent },
+        answer,
     }
 }
 
 // The calls, lent the first bytes, or all where there are not so many.
-fn fresh_in(bytes: &mut [u8], lent: usize, orchestra: &[u8], first: &[u8], chosen: u16) -> Fresh {
-    if lent <= bytes.len() {
-        return Panel::fresh(orchestra, &mut bytes[..lent], first, chosen);
-    }
-    Panel::fresh(orchestra, bytes, first, chosen)
+fn fresh_in(
+    bytes: &mut [u8],
+    lent: usize,
+    orchestra: &[u8],
+    first: &[u8],
+    chosen: u16,
+) -> Answered<Panel> {
+    let n = lent.min(bytes.len());
+    Panel::fresh(orchestra, &mut bytes[..n], first, chosen)
 }
 
-fn change_in(panel: Panel, bytes: &mut [u8], lent: usize, handed: &[u8]) -> PanelResult {
-    if lent <= bytes.len() {
-        return Panel::change(panel, &mut bytes[..lent], handed);
-    }
-    Panel::change(panel, bytes, handed)
+fn change_in(panel: Panel, bytes: &mut [u8], lent: usize, handed: &[u8]) -> Answered<Panel> {
+    let n = lent.min(bytes.len());
+    Panel::change(panel, &mut bytes[..n], handed)
 }
 
-fn undo_in(panel: Panel, bytes: &[u8], lent: usize) -> PanelResult {
-    if lent <= bytes.len() {
-        return Panel::undo(panel, &bytes[..lent]);
-    }
-    Panel::undo(panel, bytes)
+fn undo_in(panel: Panel, bytes: &[u8], lent: usize) -> Answered<Panel> {
+    let n = lent.min(bytes.len());
+    Panel::undo(panel, &bytes[..n])
 }
 
 // A fresh start. On a refusal its panel, which has ended, stands.
@@ -100,7 +94,7 @@ pub fn started(a: Area, orchestra: &[u8], first: &[u8], chosen: u16) -> Called {
     let mut bytes = a.bytes;
     let f = fresh_in(&mut bytes, a.lent, orchestra, first, chosen);
     let answer = f.answer;
-    let panel = f.panel;
+    let panel = f.left;
     with_area(panel, bytes, a.lent, number(answer))
 }
 
@@ -108,7 +102,7 @@ pub fn changed(panel: Panel, a: Area, handed: &[u8]) -> Called {
     let mut bytes = a.bytes;
     let r = change_in(panel, &mut bytes, a.lent, handed);
     let answer = r.answer;
-    let after = r.panel;
+    let after = r.left;
     with_area(after, bytes, a.lent, number(answer))
 }
 
@@ -116,6 +110,6 @@ pub fn undone(panel: Panel, a: Area) -> Called {
     let bytes = a.bytes;
     let r = undo_in(panel, &bytes, a.lent);
     let answer = r.answer;
-    let after = r.panel;
+    let after = r.left;
     with_area(after, bytes, a.lent, number(answer))
 }

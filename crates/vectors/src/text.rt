@@ -1,63 +1,42 @@
 // A text of cases, a line each: `[+] [TIMES] CALL[(SIZE)] NUMBERS .. = EXPECTED # title`. TIMES, SIZE and EXPECTED are decimal, the
 // numbers hexadecimal, and `00*13` is the number 00 thirteen times. `"0 end|"` stands for the numbers of its letters, | for a newline.
 // The program's input says what each call is.
-// Past the end of the text all bytes are 0.
+// Kept: a line is bytes and no str, since it need not be UTF-8.
 
+// Most numbers of a line; those past them are left out.
 pub const MOST: usize = 512;
 
-fn byte_at(text: &[u8], at: usize) -> u8 {
-    if at < text.len() { text[at] } else { 0 }
-}
+// What reading a piece of a line gives: a number, and the rest of the line.
+type Read<'a> = (u64, &'a [u8]);
 
-fn after(at: usize) -> usize {
-    at.wrapping_add(1)
-}
-
-fn ends_line(b: u8) -> bool {
-    match b {
-        b'\n' | 0 => true,
-        _ => false,
-    }
+pub fn ends_line(b: u8) -> bool {
+    matches!(b, b'\n' | 0)
 }
 
 fn ends_word(b: u8) -> bool {
-    match b {
-        b'\n' | 0 | b' ' | b'(' | b')' | b'*' => true,
-        _ => false,
-    }
+    ends_line(b) || matches!(b, b' ' | b'(' | b')' | b'*')
 }
 
-pub fn line_end(text: &[u8], from: usize) -> usize {
-    let mut at = from;
-    while at < text.len() {
-        if ends_line(byte_at(text, at)) {
-            return at;
-        }
-        at += 1;
-    }
-    at
+fn begins_with(rest: &[u8], sign: u8) -> bool {
+    rest.first().copied() == Some(sign)
 }
 
-fn word_end(text: &[u8], from: usize) -> usize {
-    let mut at = from;
-    while at < text.len() {
-        if ends_word(byte_at(text, at)) {
-            return at;
-        }
-        at += 1;
-    }
-    at
+// A word, which may be empty, and what stands behind it.
+fn word_at(rest: &[u8]) -> (&[u8], &[u8]) {
+    let n = rest.iter().position(|b| ends_word(*b));
+    rest.split_at(n.unwrap_or(rest.len()).min(rest.len()))
 }
 
-fn past_spaces(text: &[u8], from: usize) -> usize {
-    let mut at = from;
-    while at < text.len() {
-        if byte_at(text, at) != b' ' {
-            return at;
-        }
-        at += 1;
+fn past_spaces(rest: &[u8]) -> &[u8] {
+    let n = rest.iter().position(|b| *b != b' ');
+    &rest[n.unwrap_or(rest.len()).min(rest.len())..]
+}
+
+fn past_sign(rest: &[u8], sign: u8) -> &[u8] {
+    match rest.split_first() {
+        Some((first, after)) if *first == sign => after,
+        _ => rest,
     }
-    at
 }
 
 // ---- numbers
@@ -70,30 +49,18 @@ fn digit_of(b: u8) -> u32 {
     }
 }
 
-fn with_hex(n: u32, b: u8) -> u32 {
-    n % 268435456 * 16 + digit_of(b) % 16
-}
-
-fn with_decimal(n: u64, b: u8) -> u64 {
-    n % 100000000000 * 10 + (digit_of(b) % 10) as u64
-}
-
-fn hex_of(text: &[u8], from: usize, end: usize) -> u32 {
+fn hex_of(word: &[u8]) -> u32 {
     let mut n: u32 = 0;
-    let mut at = from;
-    while at < end {
-        n = with_hex(n, byte_at(text, at));
-        at += 1;
+    for b in word {
+        n = n % 268435456 * 16 + digit_of(*b) % 16;
     }
     n
 }
 
-fn decimal_of(text: &[u8], from: usize, end: usize) -> u64 {
+fn decimal_of(word: &[u8]) -> u64 {
     let mut n: u64 = 0;
-    let mut at = from;
-    while at < end {
-        n = with_decimal(n, byte_at(text, at));
-        at += 1;
+    for b in word {
+        n = n % 100000000000 * 10 + (digit_of(*b) % 10) as u64;
     }
     n
 }
@@ -103,57 +70,53 @@ fn word_of(n: u64) -> u32 {
     (n % 4294967296) as u32
 }
 
-// A decimal number and the place behind it.
-#[derive(Clone, Copy)]
-struct Number {
-    value: u64,
-    next: usize,
-}
-
-fn number_at(text: &[u8], at: usize) -> Number {
-    let end = word_end(text, at);
-    Number {
-        value: decimal_of(text, at, end),
-        next: end,
-    }
+fn number_at(rest: &[u8]) -> Read<'_> {
+    let (word, rest) = word_at(rest);
+    (decimal_of(word), rest)
 }
 
 // What stands behind a sign, if the sign is there: `*13`, `(320`.
-fn behind(text: &[u8], at: usize, sign: u8, otherwise: u64) -> Number {
-    if byte_at(text, at) == sign {
-        return number_at(text, after(at));
+fn behind(rest: &[u8], sign: u8, otherwise: u64) -> Read<'_> {
+    if begins_with(rest, sign) {
+        return number_at(past_sign(rest, sign));
     }
-    Number {
-        value: otherwise,
-        next: at,
-    }
+    (otherwise, rest)
 }
 
 // ---- a line
 
-// The numbers of a line so far: how many, and the place behind the last.
+// The numbers of a line.
+// Kept: an array and how many of it count, no Vec: nothing in this program allocates.
 #[derive(Clone, Copy)]
-struct Filled {
+pub struct Numbers {
+    items: [u32; MOST],
     count: usize,
-    next: usize,
 }
 
-fn stored(numbers: &mut [u32; 512], at: usize, value: u32) -> usize {
-    if at < MOST {
-        numbers[at] = value;
-        return at + 1;
+impl Numbers {
+    pub fn none() -> Numbers {
+        Numbers {
+            items: [0; MOST],
+            count: 0,
+        }
     }
-    at
-}
 
-fn repeated(numbers: &mut [u32; 512], from: usize, value: u32, times: u32) -> usize {
-    let mut at = from;
-    let mut left = times;
-    while left > 0 {
-        at = stored(numbers, at, value);
-        left -= 1;
+    pub fn items(&self) -> &[u32] {
+        &self.items[..self.count.min(MOST)]
     }
-    at
+
+    fn push(&mut self, value: u32) {
+        if self.count < MOST {
+            self.items[self.count] = value;
+            self.count += 1;
+        }
+    }
+
+    fn push_letters(&mut self, letters: &[u8]) {
+        for b in letters {
+            self.push(letter(*b));
+        }
+    }
 }
 
 fn letter(b: u8) -> u32 {
@@ -163,186 +126,90 @@ fn letter(b: u8) -> u32 {
     }
 }
 
-// The place of the closing mark, or the line's end.
-fn quote_end(text: &[u8], from: usize) -> usize {
-    let mut at = from;
-    while at < text.len() {
-        let b = byte_at(text, at);
-        if b == b'"' || ends_line(b) {
-            return at;
+// A text between quotation marks, which may be repeated as a number is, into the numbers, and what stands behind it.
+fn quoted<'a>(rest: &'a [u8], numbers: &mut Numbers) -> &'a [u8] {
+    let n = rest.iter().position(|b| *b == b'"');
+    let (letters, end) = rest.split_at(n.unwrap_or(rest.len()).min(rest.len()));
+    let (times, next) = behind(past_sign(end, b'"'), b'*', 1);
+    for _ in 0..word_of(times) {
+        numbers.push_letters(letters);
+    }
+    past_spaces(next)
+}
+
+fn one_more<'a>(rest: &'a [u8], numbers: &mut Numbers) -> &'a [u8] {
+    if begins_with(rest, b'"') {
+        return quoted(past_sign(rest, b'"'), numbers);
+    }
+    let (word, end) = word_at(rest);
+    let (times, next) = behind(end, b'*', 1);
+    let value = hex_of(word);
+    for _ in 0..word_of(times) {
+        numbers.push(value);
+    }
+    past_spaces(next)
+}
+
+// The numbers up to the sign `=` or the end of the line, and what stands behind them.
+fn numbers_at<'a>(rest: &'a [u8], numbers: &mut Numbers) -> &'a [u8] {
+    let mut next = past_spaces(rest);
+    for _ in 0..MOST {
+        if next.is_empty() || begins_with(next, b'=') {
+            return next;
         }
-        at += 1;
+        next = one_more(next, numbers);
     }
-    at
+    next
 }
 
-fn letters(numbers: &mut [u32; 512], first: usize, text: &[u8], from: usize, end: usize) -> usize {
-    let mut to = first;
-    let mut at = from;
-    while at < end {
-        to = stored(numbers, to, letter(byte_at(text, at)));
-        at += 1;
-    }
-    to
-}
-
-fn letters_times(
-    numbers: &mut [u32; 512],
-    first: usize,
-    text: &[u8],
-    from: usize,
-    end: usize,
-    times: u32,
-) -> usize {
-    let mut to = first;
-    let mut left = times;
-    while left > 0 {
-        to = letters(numbers, to, text, from, end);
-        left -= 1;
-    }
-    to
-}
-
-// A text between quotation marks, which may be repeated as a number is.
-fn quoted(text: &[u8], f: Filled, from: usize, numbers: &mut [u32; 512]) -> Filled {
-    let end = quote_end(text, from);
-    let times = behind(text, past_sign(text, end, b'"'), b'*', 1);
-    Filled {
-        count: letters_times(numbers, f.count, text, from, end, word_of(times.value)),
-        next: past_spaces(text, times.next),
-    }
-}
-
-fn one_more(text: &[u8], f: Filled, numbers: &mut [u32; 512]) -> Filled {
-    let from = past_spaces(text, f.next);
-    if byte_at(text, from) == b'"' {
-        return quoted(text, f, after(from), numbers);
-    }
-    let end = word_end(text, from);
-    let times = behind(text, end, b'*', 1);
-    Filled {
-        count: repeated(
-            numbers,
-            f.count,
-            hex_of(text, from, end),
-            word_of(times.value),
-        ),
-        next: past_spaces(text, times.next),
-    }
-}
-
-// The numbers up to the sign `=` or the end of the line.
-fn numbers_at(text: &[u8], at: usize, numbers: &mut [u32; 512]) -> Filled {
-    let mut f = Filled {
-        count: 0,
-        next: past_spaces(text, at),
-    };
-    let mut left: usize = MOST;
-    while left > 0 {
-        let b = byte_at(text, f.next);
-        if b == b'=' || ends_line(b) {
-            return f;
-        }
-        f = one_more(text, f, numbers);
-        left -= 1;
-    }
-    f
-}
-
-// How a line begins: whether it goes on with the panel that the line before left, how often the call is made, where its name stands.
+// How a line begins: whether it goes on with the panel that the line before left, how often the call is made, its name and size.
 #[derive(Clone, Copy)]
-pub struct Head {
+pub struct Head<'a> {
     pub goes_on: bool,
     pub times: u32,
-    pub from: usize,
-    pub to: usize,
+    pub name: &'a [u8],
     pub size: usize,
-    next: usize,
+    next: &'a [u8],
 }
 
-fn is_digit(b: u8) -> bool {
-    match b {
-        b'0'..=b'9' => true,
-        _ => false,
+fn times_at(rest: &[u8]) -> Read<'_> {
+    match rest.first() {
+        Some(b'0'..=b'9') => number_at(rest),
+        _ => (1, rest),
     }
 }
 
-fn times_at(text: &[u8], at: usize) -> Number {
-    if is_digit(byte_at(text, at)) {
-        return number_at(text, at);
-    }
-    Number { value: 1, next: at }
-}
-
-fn past_sign(text: &[u8], at: usize, sign: u8) -> usize {
-    if byte_at(text, at) == sign {
-        return after(at);
-    }
-    at
-}
-
-pub fn head_at(text: &[u8], at: usize) -> Head {
-    let start = past_spaces(text, past_sign(text, at, b'+'));
-    let times = times_at(text, start);
-    let from = past_spaces(text, times.next);
-    let to = word_end(text, from);
-    let size = behind(text, to, b'(', 0);
+pub fn head_of(line: &[u8]) -> Head<'_> {
+    let (times, rest) = times_at(past_spaces(past_sign(line, b'+')));
+    let (name, rest) = word_at(past_spaces(rest));
+    let (size, rest) = behind(rest, b'(', 0);
     Head {
-        goes_on: byte_at(text, at) == b'+',
-        times: word_of(times.value),
-        from: from,
-        to: to,
-        size: word_of(size.value) as usize,
-        next: past_sign(text, size.next, b')'),
+        goes_on: begins_with(line, b'+'),
+        times: word_of(times),
+        name,
+        size: word_of(size) as usize,
+        next: past_sign(rest, b')'),
     }
 }
 
-// How a line ends: its numbers' count, what is expected, and where its title stands.
+// How a line ends: what is expected, and its title.
 #[derive(Clone, Copy)]
-pub struct Tail {
-    pub count: usize,
+pub struct Tail<'a> {
     pub expected: u64,
-    pub title: usize,
-    pub end: usize,
+    pub title: &'a [u8],
 }
 
-pub fn tail_at(text: &[u8], h: Head, numbers: &mut [u32; 512]) -> Tail {
-    let f = numbers_at(text, h.next, numbers);
-    let n = number_at(text, past_spaces(text, past_sign(text, f.next, b'=')));
-    let mark = past_spaces(text, n.next);
-    let title = past_spaces(text, past_sign(text, mark, b'#'));
+// The line's numbers are put into `numbers`.
+pub fn tail_of<'a>(h: Head<'a>, numbers: &mut Numbers) -> Tail<'a> {
+    let rest = numbers_at(h.next, numbers);
+    let (expected, rest) = number_at(past_spaces(past_sign(rest, b'=')));
     Tail {
-        count: f.count,
-        expected: n.value,
-        title: title,
-        end: line_end(text, title),
+        expected,
+        title: past_spaces(past_sign(past_spaces(rest), b'#')),
     }
-}
-
-// Whether the name of the call is this one.
-pub fn is_name(text: &[u8], h: Head, name: &[u8]) -> bool {
-    let n = name.len();
-    if h.to < h.from || h.to - h.from != n {
-        return false;
-    }
-    let from = h.from;
-    let mut i: usize = 0;
-    while i < n {
-        if byte_at(text, from.wrapping_add(i)) != name[i] {
-            return false;
-        }
-        i += 1;
-    }
-    true
 }
 
 // Lines that hold no case: empty ones, and those that begin with the sign #.
-pub fn is_remark(text: &[u8], at: usize) -> bool {
-    let b = byte_at(text, at);
-    b == b'#' || ends_line(b)
-}
-
-// The place of the next line.
-pub fn next_line(text: &[u8], at: usize) -> usize {
-    after(line_end(text, at))
+pub fn is_remark(line: &[u8]) -> bool {
+    line.is_empty() || begins_with(line, b'#')
 }

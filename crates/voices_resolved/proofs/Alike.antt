@@ -1,12 +1,13 @@
 -- Voices that do the same to every note they have made give the same cycle, and so the same plain player.
 use mathlib.Core.Path.{◌≡◌, refl, ap, ◌∙◌}
-use mathlib.Core.Bool.{cond, ◌&&◌}
+use mathlib.Core.Bool.{false, cond, ◌&&◌}
 use mathlib.Core.List.{List, [], ◌∷◌}
 use Prim.Native.Nat.{ℕ, zero, suc}
 use lib.Dec.{ltb, eqb}
 use lib.ListN.{length, take, replicate}
 use lib.Ieee.{Float, binary32, of_bits}
 use lib.Ieee.Bits.{of_bits-fits}
+use Rattle.std.specs.Option.{option_map_or}
 use Rattle.score_line.specs.declared.Label.{Label}
 use Rattle.score_line.specs.declared.Event.{Event}
 use Rattle.score_line.specs.declared.Event.TheVariants.{Instr, Control, End, Tempo}
@@ -93,11 +94,11 @@ module _ {S : Type 0} (Good : S → Type 0) where
 
     one_same : (label x : ℕ) (value : Float) (n : Note S) → controlled_by v label x value n ≡ controlled_by w label x value n
     unfolding controlled_by
-    one_same label x value n = ap (λ (s : S). cond (n.labelled && eqb label n.label) (with_state n s) n) (a.control x value n.state)
+    one_same label x value n = ap (λ (s : S). cond (option_map_or (eqb label) n.label false) (with_state n s) n) (a.control x value n.state)
 
     one-good : (label x : ℕ) (value : Float) (n : Note S) → Good n.state → Good (controlled_by w label x value n).state
     unfolding controlled_by
-    one-good label x value n h = either_way (λ (m : Note S). Good m.state) (n.labelled && eqb label n.label) (a.control-good x value n.state h) h
+    one-good label x value n h = either_way (λ (m : Note S). Good m.state) (option_map_or (eqb label) n.label false) (a.control-good x value n.state h) h
 
     each-good : (label x : ℕ) (value : Float) (ns : List (Note S)) → Notes ns → Notes (each (controlled_by w label x value) ns)
     unfolding each

@@ -1,6 +1,6 @@
 -- What the tree's voices and fields are to a line: refusal 4 and control lines.
 use mathlib.Core.Path.{◌≡◌, refl}
-use mathlib.Core.Bool.{false, cond, ◌&&◌}
+use mathlib.Core.Bool.{Bool, false, cond, ◌&&◌}
 use mathlib.Core.List.{List, [], ◌∷◌, ◌++◌, map}
 use Prim.Native.Nat.{ℕ, zero, suc, ◌≤◌, ◌<◌}
 use native.Mathlib.Omega.{arith}
@@ -11,16 +11,23 @@ use borrow.Author.Tests.{ne_eqb}
 use Rattle.score_line.specs.declared.Event.TheVariants.{Instr, Control, End, Tempo}
 use Rattle.orchestra_syntax.specs.Tree.{imports_kind}
 use Rattle.orchestra_syntax.specs.Names.{Named, names_of}
-use Rattle.code_program.specs.declared.FieldCount.TheVariants.{Count, NoSuch}
+use Rattle.std.specs.Prelude.{Option, Some, None}
+use Rattle.std.specs.Option.{is_some, unwrap_or}
+use Rattle.code_program.specs.InstrumentTable.{lookup_in, blank, field_count_found}
+use Rattle.code_program.specs.declared.Instrument as row
 use Rattle.player_model.proofs.Lists.{by-test}
 use Rattle.voices_compiled.specs.Voices.{named}
 use Rattle.orchestra_semantics.specs.Meaning.{no_symbol, instrument_of}
 use Rattle.voices_resolved.specs.Tree.{import_of, imports_of}
 use Rattle.voices_resolved.specs.Claims.{FieldsTree, imported, ControlNames}
 
+counted : (o : Option row.Instrument) {b : Bool} {n : ℕ} → is_some o ≡ b → (unwrap_or o blank).fields ≡ n → field_count_found o ≡ cond b (Some n) None
+counted (Some x) e h = λ i. cond (e i) (Some (h i)) None
+counted None {n = n} e h = λ i. cond (e i) (Some n) None
+
 pub fields-tree : FieldsTree
 fields-tree is table code vals r (Instr label name duration) =
-    λ i. cond (r.known name i) (Count ((r.rows name).fields i)) NoSuch
+    counted (lookup_in name table) (r.known name) (r.rows name).fields
 fields-tree is table code vals r (Control label x value) = refl
 fields-tree is table code vals r End = refl
 fields-tree is table code vals r (Tempo t) = refl

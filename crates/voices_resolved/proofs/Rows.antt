@@ -1,10 +1,12 @@
 -- A row for each instrument, in order, is enough for a program to represent a tree.
 use mathlib.Core.Path.{◌≡◌, refl, sym, ap, ◌∙◌, subst}
-use mathlib.Core.Bool.{true, cond}
+use mathlib.Core.Bool.{cond}
 use mathlib.Core.List.{List, [], ◌∷◌, map}
 use Prim.Native.Nat.{ℕ}
 use lib.Dec.{eqb}
 use lib.Ieee.{Float}
+use Rattle.std.specs.Prelude.{Some}
+use Rattle.std.specs.Option.{is_some, unwrap_or}
 use Rattle.orchestra_syntax.specs.Tree.{Instrument, done}
 use Rattle.orchestra_syntax.specs.Names.{has, title_of, named, named_by}
 use Rattle.orchestra_syntax.specs.inside.Placed.{put}
@@ -26,13 +28,13 @@ module _ (code : List ℕ) (vals : List Float) where
       record { fields = refl; imports = refl; start = 0; icode = refl; kcode = refl; acode = refl; sounds = sounds vals 0 done tt }
 
   known_in : (is : List Instrument) (table : List row.Instrument) → Rows code vals is table → (name : ℕ)
-      → (lookup_in name table).there ≡ has name (map title_of is)
+      → is_some (lookup_in name table) ≡ has name (map title_of is)
   unfolding lookup_in has Rows
   known_in [] [] h name = refl
   known_in [] (x ∷ xs) h name = absurd h
   known_in (i ∷ is) [] h name = absurd h
   known_in (i ∷ is) (x ∷ xs) h name =
-      ap (λ (n : ℕ). (cond (eqb n name) (record { there = true; instrument = x }) (lookup_in name xs)).there) h.0
+      ap (λ (n : ℕ). is_some (cond (eqb n name) (Some x) (lookup_in name xs))) h.0
       ∙ by-test (eqb i.name name) (λ e. rw e) (λ e. rw e (known_in is xs h.1.1 name))
 
   row_of : (is : List Instrument) (table : List row.Instrument) → Rows code vals is table → (name : ℕ)
@@ -43,7 +45,7 @@ module _ (code : List ℕ) (vals : List Float) where
   row_of (i ∷ is) [] h name = absurd h
   row_of (i ∷ is) (x ∷ xs) h name =
       subst
-      (λ (n : ℕ). Row code vals (cond (eqb i.name name) i (instrument_of is name)) (cond (eqb n name) (record { there = true; instrument = x }) (lookup_in name xs)).instrument)
+      (λ (n : ℕ). Row code vals (cond (eqb i.name name) i (instrument_of is name)) (unwrap_or (cond (eqb n name) (Some x) (lookup_in name xs)) blank))
       (sym h.0) (by-test (eqb i.name name) (λ e. rw e h.1.0) (λ e. rw e (row_of is xs h.1.1 name)))
 
   pub represents : (is : List Instrument) (table : List row.Instrument) → Rows code vals is table → Represents is table code vals

@@ -1,13 +1,11 @@
 -- The voices of an orchestra's tree: what a line's note does in steps 3, 4 and 5 of document 01's cycle.
-use Rattle.std.specs.Prelude.{cond, List, ◌++◌, map, ℕ, length, take, replicate, eqb, Float}
+use Rattle.std.specs.Prelude.{cond, List, ◌++◌, map, ℕ, length, take, replicate, eqb, Float, Option, Some, None}
 use Rattle.orchestra_syntax.specs.Tree.{Statements, Instrument, imports_kind}
 use Rattle.orchestra_syntax.specs.Names.{Named, has, title_of, names_of}
 use Rattle.orchestra_syntax.specs.inside.Placed.{placed}
 use Rattle.orchestra_semantics.specs.inside.Placed.{places, birth, cycle}
 use Rattle.score_line.specs.declared.Event.{Event}
 use Rattle.score_line.specs.declared.Event.TheVariants.{Instr, Control, End, Tempo}
-use Rattle.code_program.specs.declared.FieldCount.{FieldCount}
-use Rattle.code_program.specs.declared.FieldCount.TheVariants.{Count, NoSuch}
 use Rattle.player_model.specs.Cycle.{Voices, Ran}
 use Rattle.voices_compiled.specs.Voices.{VoiceState, named}
 use Rattle.orchestra_semantics.specs.Meaning.{instrument_of, no_symbol}
@@ -50,8 +48,8 @@ module _ (is : List Instrument) where
 -- ---- refusal 4
 
 -- how many fields a line's instrument has, or that there is no such instrument
-abbrev pub fields_of : List Instrument → Event → FieldCount
-fields_of is (Instr label name duration) = cond (has name (map title_of is)) (Count (length (instrument_of is name).fields)) NoSuch
-fields_of is (Control label x value) = NoSuch
-fields_of is End = NoSuch
-fields_of is (Tempo t) = NoSuch
+abbrev pub fields_of : List Instrument → Event → Option ℕ
+fields_of is (Instr label name duration) = cond (has name (map title_of is)) (Some (length (instrument_of is name).fields)) None
+fields_of is (Control label x value) = None
+fields_of is End = None
+fields_of is (Tempo t) = None

@@ -6,6 +6,7 @@ use Prim.Native.Nat.{ℕ, zero, suc, ◌+◌}
 use lib.Dec.{ltb, eqb}
 use lib.ListN.{length, take, replicate}
 use lib.Ieee.{Float, binary32, of_bits}
+use Rattle.std.specs.Option.{option_map_or}
 use Rattle.base_timebase.specs.Time.{cycle_in}
 use Rattle.score_line.specs.declared.Event.{Event}
 use Rattle.score_line.specs.declared.Event.TheVariants.{Instr, Control, End, Tempo}
@@ -84,7 +85,7 @@ module _ {S S' : Type 0} (R : S → S' → Type 0) (Ok : Line → Event → Type
   unfolding filter goes_on
   kept {p} {p'} e =
       along (λ xs ys. NotesAs R (filter (goes_on p) xs) (filter (goes_on p') ys)) tt (λ x y xs ys g h r.
-      chosen (NotesAs R) (goes_on p x) (goes_on p' y) (λ j. not (g.released j) && (g.endless j || ltb (e j) (g.end j))) (g, r) r)
+      chosen (NotesAs R) (goes_on p x) (goes_on p' y) (λ j. not (g.released j) && option_map_or (ltb (e j)) (g.end j) true) (g, r) r)
 
   -- a note-off marks the same note
   marked-alike : (channel key : ℕ) (xs : List (Note S)) (ys : List (Note S')) → NotesAs R xs ys → NotesAs R (release_oldest channel key xs) (release_oldest channel key ys)
@@ -92,7 +93,7 @@ module _ {S S' : Type 0} (R : S → S' → Type 0) (Ok : Line → Event → Type
   marked-alike channel key =
       along (λ xs ys. NotesAs R (release_oldest channel key xs) (release_oldest channel key ys)) tt (λ x y xs ys g h r.
       chosen (NotesAs R) (is_held channel key x) (is_held channel key y)
-      (λ j. g.keyed j && eqb (g.channel j) channel && eqb (g.key j) key && not (g.released j))
+      (λ j. option_map_or (λ (k : ℕ × ℕ). eqb k.0 channel && eqb k.1 key) (g.key j) false && not (g.released j))
       (let marked_ended : NoteAs R (release x) (release y) = search in (marked_ended, h)) (g, r))
 
   module _ {v : Voices S} {w : Voices S'} (a : Related v w) where
@@ -113,7 +114,7 @@ module _ {S S' : Type 0} (R : S → S' → Type 0) (Ok : Line → Event → Type
     one l label x y m n o h =
         let c = a.control l label x y m.state n.state o h.state in
         let set : NoteAs R (with_state m (v.control x y m.state)) (with_state n (w.control x y n.state)) = search in
-        chosen (NoteAs R) _ _ (λ j. h.labelled j && eqb label (h.label j)) set h
+        chosen (NoteAs R) _ _ (λ j. option_map_or (eqb label) (h.label j) false) set h
 
     event : (l : Line) (ms : List (Note S)) (ns : List (Note S')) (ev : Event) → Ok l ev → NotesAs R ms ns → NotesAs R (control_event v ms ev) (control_event w ns ev)
     unfolding each

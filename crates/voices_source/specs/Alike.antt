@@ -5,13 +5,9 @@ use Rattle.player_model.specs.PlayerState.{PlayerState}
 
 module _ {S S' : Type 0} (R : S → S' → Type 0) where
   pub record NoteAs (m : Note S) (n : Note S') : Type 0 where
-    pub labelled : m.labelled ≡ n.labelled
     pub label : m.label ≡ n.label
-    pub endless : m.endless ≡ n.endless
     pub end : m.end ≡ n.end
     pub priority : m.priority ≡ n.priority
-    pub keyed : m.keyed ≡ n.keyed
-    pub channel : m.channel ≡ n.channel
     pub key : m.key ≡ n.key
     pub released : m.released ≡ n.released
     pub state : R m.state n.state

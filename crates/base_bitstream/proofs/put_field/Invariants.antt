@@ -7,6 +7,3 @@ use Rattle.base_bitstream.proofs.put_field.Given as goal
 
 abbrev pub invariant-loop-i : goal.invariant-loop-i
 invariant-loop-i l = (l.i ≤ l.n) × (length l.s ≡ length l.initial.s) × (bits_of l.s ≡ paste (bits_of l.initial.s) l.at (field l.n l.v) l.i)
-
-abbrev pub decreases-loop-i : goal.decreases-loop-i
-decreases-loop-i l = l.n - l.i

@@ -14,6 +14,3 @@ use Rattle.code_program.proofs.find.Given as goal
 
 abbrev pub invariant-loop-i : goal.invariant-loop-i
 invariant-loop-i l = (l.i ≤ l.m) × (l.m ≤ 8) × (lookup_in l.name (drop l.i (take l.m l.table)) ≡ lookup_in l.name (take l.m l.table))
-
-abbrev pub decreases-loop-i : goal.decreases-loop-i
-decreases-loop-i l = l.m - l.i

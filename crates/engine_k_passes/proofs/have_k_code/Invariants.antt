@@ -5,6 +5,3 @@ use Rattle.engine_k_passes.proofs.have_k_code.Given as goal
 
 abbrev pub invariant-loop-j : goal.invariant-loop-j
 invariant-loop-j l = Looking (instruments_of l.instruments) l.notes l.m l.j
-
-abbrev pub decreases-loop-j : goal.decreases-loop-j
-decreases-loop-j l = l.m - l.j

@@ -5,6 +5,3 @@ use Rattle.engine_k_passes.proofs.run_serially.Given as goal
 
 abbrev pub invariant-loop-j : goal.invariant-loop-j
 invariant-loop-j l = Stepping (instruments_of l.instruments) l.code l.vals l.notes l.m l.room l.a l.j
-
-abbrev pub decreases-loop-j : goal.decreases-loop-j
-decreases-loop-j l = l.m - l.j

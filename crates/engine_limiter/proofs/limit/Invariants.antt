@@ -6,6 +6,3 @@ use Rattle.engine_limiter.proofs.limit.Given as goal
 
 abbrev pub invariant-loop-i : goal.invariant-loop-i
 invariant-loop-i l = Limiting l.ceiling l.mix (limited l.ceiling l.mix l.initial.block) (length l.initial.block) l.block l.i
-
-abbrev pub decreases-loop-i : goal.decreases-loop-i
-decreases-loop-i l = length l.initial.block - l.i

@@ -19,7 +19,7 @@ use Rattle.engine_serial.proofs.run_notes.Goals as goal
 
 pub loop-j-init : goal.loop-j-init
 loop-j-init c =
-    let w = c.at_most-m.ensures in
+    let w = c.min-m.ensures in
     (omega (arith, w), omega (arith, w), running_none _ _ _ _ _ c.well_formed.1.1.1.0.1.0.1, ap numbers_in c.working_area-room.ensures)
 
 pub loop-j-preserved : goal.loop-j-preserved
@@ -29,7 +29,7 @@ loop-j-preserved c =
     let e = at.invariant.3 in (
       omega arith,
       at.invariant.1,
-      running-step _ _ _ _ _ _ _ _ _ c.well_formed.1.1.1.0.1.0.1 (omega arith) _ c.find-f.ensures _ (ran.note ∙ ran-here _ _ _ _ _ _ e) _ (ran.mix ∙ mixed-here _ _ _ _ _ _ e) at.invariant.2,
+      running-step _ _ _ _ _ _ _ _ _ c.well_formed.1.1.1.0.1.0.1 (omega arith) _ c.instrument_or_blank-i.ensures _ (ran.note ∙ ran-here _ _ _ _ _ _ e) _ (ran.mix ∙ mixed-here _ _ _ _ _ _ e) at.invariant.2,
       ran.same ∙ e,
     )
 
@@ -40,7 +40,7 @@ shape_of-mix c =
 pub returns : goal.returns
 returns c =
     let r = c.loop-j.invariant.2 in
-    let w = c.at_most-m.ensures in
+    let w = c.min-m.ensures in
     let i = c.loop-j.invariant.0 in
     let v = voices (instruments_of c.args.instruments) c.args.code.now c.args.vals.now in
     let e : run_from v (notes_in c.args.notes c.loop-j.j) c.args.mix.now ≡ run_from v (notes_in c.args.notes c.args.count) c.args.mix.now =

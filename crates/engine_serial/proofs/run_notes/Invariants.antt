@@ -7,6 +7,3 @@ use Rattle.engine_serial.proofs.run_notes.Given as goal
 
 abbrev pub invariant-loop-j : goal.invariant-loop-j
 invariant-loop-j l = (l.j ≤ l.m) × (l.m ≤ 16) × Running (instruments_of l.instruments) l.code l.vals l.notes l.a l.initial.mix l.mix l.j × (numbers_in l.room ≡ numbers_in (working_area_of l.vals))
-
-abbrev pub decreases-loop-j : goal.decreases-loop-j
-decreases-loop-j l = l.m - l.j

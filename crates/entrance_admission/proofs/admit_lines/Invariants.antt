@@ -9,6 +9,3 @@ use Rattle.entrance_admission.proofs.admit_lines.Given as goal
 
 abbrev pub invariant-loop-i : goal.invariant-loop-i
 invariant-loop-i l = (l.m ≤ 65) × Pushing l.timed (instruments_of l.instruments) l.old l.lines l.m l.q l.i
-
-abbrev pub decreases-loop-i : goal.decreases-loop-i
-decreases-loop-i l = l.m - l.i

@@ -10,6 +10,3 @@ use Rattle.entrance_burst.proofs.submit_units.Given as goal
 
 abbrev pub invariant-loop-i : goal.invariant-loop-i
 invariant-loop-i l = Sending l.ended (instruments_of l.instruments) l.initial.q l.s (units_in (burst_of l.s)) l.m l.initial.answers l.q l.at l.i l.answers
-
-abbrev pub decreases-loop-i : goal.decreases-loop-i
-decreases-loop-i l = l.m - l.i

@@ -8,8 +8,8 @@ use Rattle.entrance_readers.proofs.score_lines.Goals as goal
 
 pub loop-i-init : goal.loop-i-init
 loop-i-init c = (
-  omega (arith, c.at_most-m.ensures),
-  score-start _ c.requires _ c.first-c.ensures _ c.at_most-m.ensures _ c.blank_line-none.ensures,
+  omega (arith, c.min-m.ensures),
+  score-start _ c.requires _ c.first-c.ensures _ c.min-m.ensures _ c.blank_line-none.ensures,
 )
 
 pub loop-i-preserved : goal.loop-i-preserved

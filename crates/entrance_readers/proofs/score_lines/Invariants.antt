@@ -8,6 +8,3 @@ use Rattle.entrance_readers.proofs.score_lines.Given as goal
 
 abbrev pub invariant-loop-i : goal.invariant-loop-i
 invariant-loop-i l = (l.m ≤ 65) × Gathered (Ahead (bits_of l.s)) (score_of (bits_of l.s)).lines l.m l.lines l.c l.i
-
-abbrev pub decreases-loop-i : goal.decreases-loop-i
-decreases-loop-i l = l.m - l.i

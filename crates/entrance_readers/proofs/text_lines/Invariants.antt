@@ -7,6 +7,3 @@ use Rattle.entrance_readers.proofs.text_lines.Given as goal
 
 abbrev pub invariant-loop-i : goal.invariant-loop-i
 invariant-loop-i l = (l.m ≤ 65) × Gathered (Ahead l.s) (text_of l.s).lines l.m l.lines l.at l.i
-
-abbrev pub decreases-loop-i : goal.decreases-loop-i
-decreases-loop-i l = l.m - l.i

@@ -5,7 +5,7 @@ use Rattle.midi_messages.proofs.feed_data.Goals as goal
 pub returns-then-wants-eq1 : goal.returns-then-wants-eq1
 unfolding feed_data
 returns-then-wants-eq1 c =
-    search eq-eqb
+    rw c.classify.ensures (search eq-eqb)
 
 pub returns : goal.returns
 unfolding feed_data

@@ -4,7 +4,4 @@ use Rattle.midi_messages.proofs.Gathering.{Inv}
 use Rattle.midi_messages.proofs.read_call.Given as goal
 
 abbrev pub invariant-loop-i : goal.invariant-loop-i
-invariant-loop-i l = Inv l.bytes l.nothing l.g l.p l.i
-
-abbrev pub decreases-loop-i : goal.decreases-loop-i
-decreases-loop-i l = length l.bytes - l.i
+invariant-loop-i l = Inv l.bytes l.g l.p l.i

@@ -1,29 +1,26 @@
-use mathlib.Core.Path.{sym, ◌∙◌}
+use mathlib.Core.Path.{◌≡◌}
 use native.Mathlib.Omega.{arith}
+use Rattle.std.specs.Prelude.{Ok, Err}
+use Rattle.std.proofs.lemmas.Result.{err_from_is_err_and}
 use Rattle.midi_queue.proofs.Behind.{press-refuses, press-full, press-fits}
 use Rattle.midi_queue.proofs.enqueue.Goals as goal
 
-pub returns-then-not-is_taken : goal.returns-then-not-is_taken
-returns-then-not-is_taken c =
-    press-refuses _ _ _ c.read_call-g.ensures (sym c.is_taken.ensures ∙ c.if-not-is_taken.true)
+pub returns-in_err-g : goal.returns-in_err-g
+returns-in_err-g c =
+    let r : c.read_call.result ≡ Err c.in_err-g.field-0.0 = grind arith in
+    let p = err_from_is_err_and c.from_residual.result c.from_residual.ensures.1 in
+    rw (p.1, p.2) (press-refuses c.args.waiting _ c.read_call.ensures r)
 
 pub overflow_sub-n : goal.overflow_sub-n
 overflow_sub-n c =
-    omega (arith, c.at_most-n.ensures)
+    omega (arith, c.min-n.ensures)
 
 pub returns-then-n-g : goal.returns-then-n-g
 returns-then-n-g c =
-    press-full _ c.well_formed.0.1.1.0.1.0.1 _ c.at_most-n.ensures _ _ c.read_call-g.ensures (sym c.is_taken.ensures ∙ c.if-not-is_taken.false) c.if-n-g.true
-
-pub appended-laid-requires : goal.appended-laid-requires
-appended-laid-requires c =
-    omega (arith, c.if-n-g.false, c.at_most-n.ensures)
-
-pub overflow_add-result : goal.overflow_add-result
-overflow_add-result c =
-    omega (arith, c.if-n-g.false, c.at_most-n.ensures)
+    let r : c.read_call.result ≡ Ok c.in_ok-g.g = grind arith in
+    press-full c.args.waiting c.well_formed.0.1.1.0.1.0.1 _ c.min-n.ensures _ c.read_call.ensures r c.if-n-g.true
 
 pub returns : goal.returns
 returns c =
-    press-fits _ c.well_formed.0.1.1.0.1.0.1 _ c.at_most-n.ensures _ _ c.read_call-g.ensures (sym c.is_taken.ensures ∙ c.if-not-is_taken.false) c.if-n-g.false
-    _ c.appended-laid.ensures
+    let r : c.read_call.result ≡ Ok c.in_ok-g.g = grind arith in
+    press-fits c.args.waiting c.well_formed.0.1.1.0.1.0.1 _ c.min-n.ensures _ c.read_call.ensures r c.if-n-g.false _ c.appended.ensures

@@ -15,7 +15,7 @@ use Rattle.note_events.proofs.control_lines.Goals as goal
 pub loop-i-init : goal.loop-i-init
 unfolding controlled_all fold
 loop-i-init c =
-    (omega (arith, c.at_most-w.ensures), omega (arith, c.at_most-w.ensures), refl, over-self c.args.notes.count c.args.notes.notes)
+    (omega (arith, c.min-w.ensures), omega (arith, c.min-w.ensures), refl, over-self c.args.notes.count c.args.notes.notes)
 
 pub loop-i-preserved : goal.loop-i-preserved
 loop-i-preserved c =
@@ -35,5 +35,5 @@ returns c =
     let at = c.loop-i in (
       at.invariant.2,
       at.invariant.3 ∙ ap (λ (ls : List Line). over (controlled_all (instruments_of c.args.instruments) (take c.args.notes.count c.args.notes.notes) ls) c.args.notes.notes)
-          (take-end c.args.lines c.args.m 64 _ c.well_formed.1.1.0.1.0.1 _ c.at_most-w.ensures at.invariant.0 c.loop-i-test.false),
+          (take-end c.args.lines c.args.m 64 _ c.well_formed.1.1.0.1.0.1 _ c.min-w.ensures at.invariant.0 c.loop-i-test.false),
     )

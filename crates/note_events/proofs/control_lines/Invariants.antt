@@ -9,6 +9,3 @@ use Rattle.note_events.proofs.control_lines.Given as goal
 abbrev pub invariant-loop-i : goal.invariant-loop-i
 invariant-loop-i l = (l.i ≤ l.w) × (l.w ≤ 64) × (l.v.count ≡ l.initial.v.count)
     × (l.v.notes ≡ over (controlled_all (instruments_of l.instruments) (take l.initial.v.count l.initial.v.notes) (take l.i l.lines)) l.initial.v.notes)
-
-abbrev pub decreases-loop-i : goal.decreases-loop-i
-decreases-loop-i l = l.w - l.i

@@ -15,7 +15,7 @@ use Rattle.note_events.proofs.control_notes.Goals as goal
 pub loop-j-init : goal.loop-j-init
 unfolding each
 loop-j-init c =
-    (omega (arith, c.at_most-m.ensures), omega (arith, c.at_most-m.ensures), refl)
+    (omega (arith, c.min-m.ensures), omega (arith, c.min-m.ensures), refl)
 
 pub loop-j-preserved : goal.loop-j-preserved
 loop-j-preserved c =
@@ -23,7 +23,7 @@ loop-j-preserved c =
     let l : length c.args.v.notes ≡ 16 = c.well_formed.1.0.1.1.0.1.0.1 in (
       omega arith,
       at.invariant.1,
-      each_over _ c.args.v.notes _ _ _ _ (omega arith) at.invariant.2 (control-in _ _ _ _ _ _ _ c.find-f.ensures c.controlled_note-y.ensures),
+      each_over _ c.args.v.notes _ _ _ _ (omega arith) at.invariant.2 (control-in _ _ _ _ _ _ _ c.instrument_or_blank-i.ensures c.controlled_note-y.ensures),
     )
 
 pub returns : goal.returns
@@ -33,5 +33,5 @@ returns c =
       refl,
       c.loop-j.invariant.2
           ∙ ap (λ (ns : List Note). over (each g ns) c.args.v.notes)
-          (take-end c.args.v.notes c.args.v.count 16 _ l _ c.at_most-m.ensures c.loop-j.invariant.0 c.loop-j-test.false),
+          (take-end c.args.v.notes c.args.v.count 16 _ l _ c.min-m.ensures c.loop-j.invariant.0 c.loop-j-test.false),
     )

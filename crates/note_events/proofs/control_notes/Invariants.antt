@@ -8,6 +8,3 @@ use Rattle.note_events.proofs.control_notes.Given as goal
 
 abbrev pub invariant-loop-j : goal.invariant-loop-j
 invariant-loop-j l = (l.j ≤ l.m) × (l.m ≤ 16) × (l.a ≡ over (each (controlled_in (instruments_of l.instruments) l.label l.variable l.value) (take l.j l.notes)) l.notes)
-
-abbrev pub decreases-loop-j : goal.decreases-loop-j
-decreases-loop-j l = l.m - l.j

@@ -10,7 +10,7 @@ use Rattle.note_events.proofs.play_message.Goals as goal
 pub returns-then-v-most : goal.returns-then-v-most
 returns-then-v-most c =
     start-room _ _ c.args.v _ _ c.well_formed.1.1.1.0.1.1.0.1.0.1 c.if-v-most.true c.requires.2 c.with_note.ensures
-    (press-starts _ _ _ _ _ _ _ c.if-m.true _ c.find-f.ensures _ c.note_from_key-note.ensures)
+    (press-starts _ _ _ _ _ _ _ c.if-m.true _ c.instrument_or_blank-x.ensures _ c.note_from_key-note.ensures)
 
 pub returns-then-m : goal.returns-then-m
 returns-then-m c =

@@ -17,11 +17,11 @@ use Rattle.note_events.proofs.play_messages.Goals as goal
 pub loop-next-init : goal.loop-next-init
 unfolding after_messages fold
 loop-next-init c = (
-  omega (arith, c.at_most-count.ensures),
-  omega (arith, c.at_most-count.ensures),
+  omega (arith, c.min-count.ensures),
+  omega (arith, c.min-count.ensures),
   omega (arith, c.requires),
   c.requires.1,
-  starting-none _ c.well_formed.1.1.1.0.1.1.0.1.0.1 (omega (arith, c.at_most.ensures)),
+  starting-none _ c.well_formed.1.1.1.0.1.1.0.1.0.1 (omega (arith, c.min.ensures)),
 )
 
 pub play_message-v-requires : goal.play_message-v-requires
@@ -43,9 +43,9 @@ returns c =
     let a = c.args in
     let v = voices (instruments_of a.instruments) a.code.now a.vals.now in
     let l : length a.old.notes ≡ 16 = c.well_formed.1.1.1.0.1.1.0.1.0.1 in
-    let m-eq = take-end a.messages a.m 64 _ c.well_formed.1.1.1.1.1.0.1.0.1 _ c.at_most-count.ensures c.loop-next.invariant.0 c.loop-next-test.false in
-    let n-eq : take c.at_most.result a.old.notes ≡ take a.old.count a.old.notes =
-    ap (λ (k : ℕ). take k a.old.notes) c.at_most.ensures ∙ take_min a.old.notes a.old.count 16 l in (
+    let m-eq = take-end a.messages a.m 64 _ c.well_formed.1.1.1.1.1.0.1.0.1 _ c.min-count.ensures c.loop-next.invariant.0 c.loop-next-test.false in
+    let n-eq : take c.min.result a.old.notes ≡ take a.old.count a.old.notes =
+    ap (λ (k : ℕ). take k a.old.notes) c.min.ensures ∙ take_min a.old.notes a.old.count 16 l in (
       starting-end _ _ _ c.loop-next.invariant.4
           ∙ (λ i. started_over (after_messages v a.most a.chosen (record { notes = each note_of (n-eq i); missed = a.old.missed }) (m-eq i)) a.old.notes),
       omega (arith, c.loop-next.invariant.2),

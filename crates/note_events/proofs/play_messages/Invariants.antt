@@ -10,6 +10,3 @@ use Rattle.note_events.proofs.play_messages.Given as goal
 abbrev pub invariant-loop-next : goal.invariant-loop-next
 invariant-loop-next l = (l.next ≤ l.count) × (l.count ≤ 64) × (l.v.missed ≤ 64 + l.next) × (l.most ≤ 16)
     × Starting (after_messages (voices (instruments_of l.instruments) l.code l.vals) l.most l.chosen (started_in l.initial.v.notes l.initial.v.count l.initial.v.missed) (take l.next l.messages)) l.initial.v.notes l.v
-
-abbrev pub decreases-loop-next : goal.decreases-loop-next
-decreases-loop-next l = l.count - l.next

@@ -11,7 +11,7 @@ use Rattle.note_events.proofs.start_line.Goals as goal
 pub returns-then-v-most : goal.returns-then-v-most
 returns-then-v-most c =
     start-room _ _ c.args.v _ _ c.well_formed.1.1.1.0.1.1.0.1.0.1 c.if-v-most.true c.requires.3 c.with_note.ensures
-    (start-instr _ _ _ _ _ _ _ _ _ _ _ c.in-Instr.is _ (born-found _ _ _ _ _ _ _ _ _ c.find-f.ensures _ c.note_from_line-note.ensures))
+    (start-instr _ _ _ _ _ _ _ _ _ _ _ c.in-Instr.is _ (born-found _ _ _ _ _ _ _ _ _ c.instrument_or_blank-x.ensures _ c.note_from_line-note.ensures))
 
 pub returns-then-not-l : goal.returns-then-not-l
 returns-then-not-l c =
@@ -34,7 +34,7 @@ with_note-requires-in-Instr c =
 
 pub returns-else-v-place : goal.returns-else-v-place
 returns-else-v-place c =
-    let born = born-found _ _ _ _ _ _ _ _ _ c.find-f-in-Instr.ensures _ c.note_from_line-note-in-Instr.ensures in
+    let born = born-found _ _ _ _ _ _ _ _ _ c.instrument_or_blank-x-in-Instr.ensures _ c.note_from_line-note-in-Instr.ensures in
     start-cut _ _ c.args.v _ _ _ c.well_formed.1.1.1.0.1.1.0.1.0.1 c.if-v-most.false c.requires.0
     (born-priority _ _ _ _ _ _ _ _ _ born (not-false _ c.if-not-l.false)) _ c.oldest_without_priority-place.ensures (omega (arith, c.if-v-place.false))
     c.cut_off.ensures c.with_note-in-Instr.ensures

@@ -17,12 +17,12 @@ use Rattle.note_events.proofs.start_notes.Goals as goal
 pub loop-i-init : goal.loop-i-init
 unfolding started fold
 loop-i-init c = (
-  omega (arith, c.at_most-w.ensures),
-  omega (arith, c.at_most-w.ensures),
+  omega (arith, c.min-w.ensures),
+  omega (arith, c.min-w.ensures),
   omega arith,
   c.requires.0,
   c.requires.1,
-  starting-none _ c.well_formed.1.1.1.0.1.1.0.1.0.1 (omega (arith, c.at_most.ensures)),
+  starting-none _ c.well_formed.1.1.1.0.1.1.0.1.0.1 (omega (arith, c.min.ensures)),
 )
 
 pub start_line-v-requires : goal.start_line-v-requires
@@ -47,9 +47,9 @@ returns c =
     let v = voices (instruments_of a.instruments) a.code.now a.vals.now in
     let l : length a.due.lines ≡ 64 = c.well_formed.1.1.1.1.0.1.1.0.1.0.1 in
     let k : length a.old.notes ≡ 16 = c.well_formed.1.1.1.0.1.1.0.1.0.1 in
-    let l_eq = take-end a.due.lines a.due.count 64 _ l _ c.at_most-w.ensures c.loop-i.invariant.0 c.loop-i-test.false in
-    let n-eq : take c.at_most.result a.old.notes ≡ take a.old.count a.old.notes =
-    ap (λ (k : ℕ). take k a.old.notes) c.at_most.ensures ∙ take_min a.old.notes a.old.count 16 k in (
+    let l_eq = take-end a.due.lines a.due.count 64 _ l _ c.min-w.ensures c.loop-i.invariant.0 c.loop-i-test.false in
+    let n-eq : take c.min.result a.old.notes ≡ take a.old.count a.old.notes =
+    ap (λ (k : ℕ). take k a.old.notes) c.min.ensures ∙ take_min a.old.notes a.old.count 16 k in (
       starting-end _ _ _ c.loop-i.invariant.5
           ∙ (λ i. started_over (started v a.most a.position (each note_of (n-eq i)) (l_eq i)) a.old.notes),
       omega (arith, c.loop-i.invariant.2),

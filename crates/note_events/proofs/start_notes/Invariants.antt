@@ -10,6 +10,3 @@ use Rattle.note_events.proofs.start_notes.Given as goal
 abbrev pub invariant-loop-i : goal.invariant-loop-i
 invariant-loop-i l = (l.i ≤ l.w) × (l.w ≤ 64) × (l.v.missed ≤ l.i) × (l.position ≤ position_limit) × (l.most ≤ 16)
     × Starting (started (voices (instruments_of l.instruments) l.code l.vals) l.most l.position (notes_in l.initial.v.notes l.initial.v.count) (take l.i l.lines)) l.initial.v.notes l.v
-
-abbrev pub decreases-loop-i : goal.decreases-loop-i
-decreases-loop-i l = l.w - l.i

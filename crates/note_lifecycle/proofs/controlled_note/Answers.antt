@@ -1,15 +1,12 @@
-use Rattle.note_lifecycle.proofs.OneNote.{control-yes, control-other, control-none}
+use mathlib.Core.Path.{sym, ◌∙◌}
+use Rattle.note_lifecycle.proofs.OneNote.{same-label, control-yes, control-other}
 use Rattle.note_lifecycle.proofs.controlled_note.Goals as goal
 
-pub returns-then-n-label : goal.returns-then-n-label
-returns-then-n-label c =
-    control-yes _ _ _ _ _ c.if-n.true c.if-n-label.true
+pub returns-then-eq : goal.returns-then-eq
+returns-then-eq c =
+    control-yes _ _ _ _ _ (sym (same-label c.args.label c.args.n.label) ∙ sym c.eq.ensures ∙ c.if-eq.true)
     _ c.wide.ensures _ c.set_import-held.ensures _ c.with_values.ensures
 
-pub returns-else-n-label : goal.returns-else-n-label
-returns-else-n-label c =
-    control-other _ _ _ _ _ c.if-n.true c.if-n-label.false
-
-pub returns-else-n : goal.returns-else-n
-returns-else-n c =
-    control-none _ _ _ _ _ c.if-n.false
+pub returns : goal.returns
+returns c =
+    control-other _ _ _ _ _ (sym (same-label c.args.label c.args.n.label) ∙ sym c.eq.ensures ∙ c.if-eq.false)

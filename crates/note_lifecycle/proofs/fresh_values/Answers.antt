@@ -10,6 +10,6 @@ use Rattle.note_lifecycle.proofs.fresh_values.Goals as goal
 pub returns : goal.returns
 returns c =
     let a = c.args in
-    let e : c.at_most-n.result - 0 ≡ min a.fields (min a.count 8) = omega (arith, c.at_most-n.ensures, c.at_most.ensures) in
+    let e : c.min-n.result - 0 ≡ min a.fields (min a.count 8) = omega (arith, c.min-n.ensures, c.min.ensures) in
     c.initial_values.ensures ∙ ap fresh_of (ap (λ (k : ℕ). take k a.given) e ∙ take-both a.fields (min a.count 8) a.given
     ∙ ap (take a.fields) (take_min a.given a.count 8 (omega arith)))

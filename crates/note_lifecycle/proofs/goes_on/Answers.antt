@@ -6,12 +6,12 @@ unfolding goes_on
 returns-then-n c =
     rw c.if-n.true
 
-pub returns-then-n-2 : goal.returns-then-n-2
+pub returns-in-Some : goal.returns-in-Some
 unfolding goes_on
-returns-then-n-2 c =
-    rw (c.if-n.false, c.if-n-2.true)
+returns-in-Some c =
+    rw (c.if-n.false, c.in-Some.is)
 
-pub returns-else-n-2 : goal.returns-else-n-2
+pub returns-in-None : goal.returns-in-None
 unfolding goes_on
-returns-else-n-2 c =
-    rw (c.if-n.false, c.if-n-2.false)
+returns-in-None c =
+    rw (c.if-n.false, c.in-None.is)

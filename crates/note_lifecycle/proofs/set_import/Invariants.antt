@@ -6,6 +6,3 @@ use Rattle.note_lifecycle.proofs.set_import.Given as goal
 
 abbrev pub invariant-loop-j : goal.invariant-loop-j
 invariant-loop-j l = (l.j ≤ 16) × (length l.out ≡ 16) × (take l.j l.out ≡ take l.j (named l.variable l.value l.imports l.values))
-
-abbrev pub decreases-loop-j : goal.decreases-loop-j
-decreases-loop-j l = 16 - l.j

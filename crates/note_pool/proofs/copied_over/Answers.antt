@@ -10,7 +10,7 @@ use Rattle.note_pool.proofs.copied_over.Goals as goal
 
 pub loop-i-init : goal.loop-i-init
 loop-i-init c =
-    (omega (arith, c.at_most-m.ensures), omega (arith, c.at_most-m.ensures), c.well_formed.1.1.0.1.0.1, refl)
+    (omega (arith, c.min-m.ensures), omega (arith, c.min-m.ensures), c.well_formed.1.1.0.1.0.1, refl)
 
 pub loop-i-preserved : goal.loop-i-preserved
 loop-i-preserved c =
@@ -22,4 +22,4 @@ loop-i-preserved c =
 pub returns : goal.returns
 returns c =
     c.loop-i.invariant.3
-    ∙ ap (λ (l : List Note). over l c.args.old) (take-end c.args.new c.args.count 16 _ c.well_formed.0.1.0.1 _ c.at_most-m.ensures c.loop-i.invariant.0 c.loop-i-test.false)
+    ∙ ap (λ (l : List Note). over l c.args.old) (take-end c.args.new c.args.count 16 _ c.well_formed.0.1.0.1 _ c.min-m.ensures c.loop-i.invariant.0 c.loop-i-test.false)

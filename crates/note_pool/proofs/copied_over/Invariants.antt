@@ -6,6 +6,3 @@ use Rattle.note_pool.proofs.copied_over.Given as goal
 
 abbrev pub invariant-loop-i : goal.invariant-loop-i
 invariant-loop-i l = (l.i ≤ l.m) × (l.m ≤ 16) × (length l.a ≡ 16) × (l.a ≡ over (take l.i l.new) l.initial.a)
-
-abbrev pub decreases-loop-i : goal.decreases-loop-i
-decreases-loop-i l = l.m - l.i

@@ -8,6 +8,3 @@ use Rattle.note_pool.proofs.cut_off.Given as goal
 abbrev pub invariant-loop-i : goal.invariant-loop-i
 invariant-loop-i l = (l.place ≤ l.i) × (l.i ≤ l.m) × (l.m + 1 ≡ l.v.count) × (l.v.count ≤ 16) × (length l.a ≡ 16)
     × (l.a ≡ over (without_element l.place (take (l.i + 1) l.notes)) l.notes)
-
-abbrev pub decreases-loop-i : goal.decreases-loop-i
-decreases-loop-i l = l.m - l.i

@@ -5,6 +5,3 @@ use Rattle.note_pool.proofs.oldest_without_priority.Given as goal
 
 abbrev pub invariant-loop-oldest : goal.invariant-loop-oldest
 invariant-loop-oldest l = (l.oldest ≤ l.count) × (l.count ≤ 16) × Past (take l.count l.notes) l.oldest
-
-abbrev pub decreases-loop-oldest : goal.decreases-loop-oldest
-decreases-loop-oldest l = l.count - l.oldest

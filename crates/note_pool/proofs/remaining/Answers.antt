@@ -12,7 +12,7 @@ use Rattle.note_pool.proofs.remaining.Goals.{then-goes_on, else-goes_on}
 
 pub loop-i-init : goal.loop-i-init
 loop-i-init c =
-    (omega (arith, c.at_most-m.ensures), omega (arith, c.at_most-m.ensures), packed_none _ _)
+    (omega (arith, c.min-m.ensures), omega (arith, c.min-m.ensures), packed_none _ _)
 
 pub loop-i-preserved : goal.loop-i-preserved
 loop-i-preserved c =
@@ -26,7 +26,7 @@ loop-i-preserved c =
 
 pub returns : goal.returns
 returns c =
-    let e = take-end c.args.notes c.args.count 16 _ c.well_formed.0.1.0.1 _ c.at_most-m.ensures c.loop-i.invariant.0 c.loop-i-test.false in (
+    let e = take-end c.args.notes c.args.count 16 _ c.well_formed.0.1.0.1 _ c.min-m.ensures c.loop-i.invariant.0 c.loop-i-test.false in (
       c.loop-i.invariant.2.count ∙ ap (λ (l : List Note). length (filter (goes_on_in c.args.position) l)) e,
       c.loop-i.invariant.2.held ∙ ap (λ (l : List Note). over (filter (goes_on_in c.args.position) l) c.args.notes) e,
       omega arith,

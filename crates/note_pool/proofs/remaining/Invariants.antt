@@ -5,6 +5,3 @@ use Rattle.note_pool.proofs.remaining.Given as goal
 
 abbrev pub invariant-loop-i : goal.invariant-loop-i
 invariant-loop-i l = (l.i ≤ l.m) × (l.m ≤ 16) × Packed (goes_on_in l.position) l.notes l.a l.k l.i
-
-abbrev pub decreases-loop-i : goal.decreases-loop-i
-decreases-loop-i l = l.m - l.i

@@ -1,13 +1,12 @@
 -- The measure of the readers that call each other: the tokens left.
-use Rattle.orchestra_tokens.specs.inside.Token.{toks}
 use Rattle.orchestra_expressions.specs.Areas.{left}
 use Rattle.orchestra_expression_parser.proofs.+expr_last_more.Given as goal
 
 abbrev pub decreases-expr : goal.decreases-expr
-decreases-expr l = left (toks l.kinds.now l.words.now l.reals.now) l.got
+decreases-expr l = left l.tokens.now l.got
 
 abbrev pub decreases-last : goal.decreases-last
-decreases-last l = left (toks l.kinds.now l.words.now l.reals.now) l.got
+decreases-last l = left l.tokens.now l.got
 
 abbrev pub decreases-more : goal.decreases-more
-decreases-more l = left (toks l.kinds.now l.words.now l.reals.now) l.got
+decreases-more l = left l.tokens.now l.got

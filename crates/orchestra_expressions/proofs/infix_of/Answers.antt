@@ -1,5 +1,5 @@
 use Rattle.orchestra_expressions.proofs.Tables.{sign-goes-on}
-use Rattle.std.proofs.Common.{rules, ne_eqb}
+use Rattle.std.proofs.Common.{rules}
 use Rattle.orchestra_expressions.proofs.infix_of.Goals as goal
 
 pub returns-in-24 : goal.returns-in-24
@@ -49,8 +49,3 @@ returns-in-34 c =
 pub returns-in-35 : goal.returns-in-35
 returns-in-35 c =
     search (sign-goes-on 35)
-
-pub returns-in_default : goal.returns-in_default
-returns-in_default c =
-    let n = c.in_default.in_default-own.rest in
-    simp (c.in-Sign.is, ne_eqb _ _ n.1, ne_eqb _ _ n.0.1, ne_eqb _ _ n.0.0.1, ne_eqb _ _ n.0.0.0.1, ne_eqb _ _ n.0.0.0.0.1, ne_eqb _ _ n.0.0.0.0.0.1, ne_eqb _ _ n.0.0.0.0.0.0.1, ne_eqb _ _ n.0.0.0.0.0.0.0.1, ne_eqb _ _ n.0.0.0.0.0.0.0.0.1, ne_eqb _ _ n.0.0.0.0.0.0.0.0.0.1, ne_eqb _ _ n.0.0.0.0.0.0.0.0.0.0.1, ne_eqb _ _ n.0.0.0.0.0.0.0.0.0.0.0.1, ne_eqb _ _ n.0.0.0.0.0.0.0.0.0.0.0.0.1)

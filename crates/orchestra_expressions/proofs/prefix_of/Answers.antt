@@ -1,5 +1,5 @@
 use Rattle.orchestra_expressions.proofs.Tables.{sign-starts}
-use Rattle.std.proofs.Common.{rules, ne_eqb}
+use Rattle.std.proofs.Common.{rules}
 use Rattle.orchestra_expressions.proofs.Moves.{whole-head}
 use Rattle.orchestra_expressions.proofs.prefix_of.Goals as goal
 
@@ -46,8 +46,3 @@ returns-in-33 c =
 pub returns-in-36 : goal.returns-in-36
 returns-in-36 c =
     search (sign-starts 36)
-
-pub returns-in_default : goal.returns-in_default
-returns-in_default c =
-    let n = c.in_default.in_default-own.rest in
-    simp (c.in-Sign.is, ne_eqb _ _ n.1, ne_eqb _ _ n.0.1, ne_eqb _ _ n.0.0.1, ne_eqb _ _ n.0.0.0.1, ne_eqb _ _ n.0.0.0.0.1, ne_eqb _ _ n.0.0.0.0.0.1, ne_eqb _ _ n.0.0.0.0.0.0.1, ne_eqb _ _ n.0.0.0.0.0.0.0.1, ne_eqb _ _ n.0.0.0.0.0.0.0.0.1)

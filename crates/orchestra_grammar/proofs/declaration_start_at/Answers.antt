@@ -1,12 +1,12 @@
+use Rattle.std.proofs.Common.{refl}
 use Rattle.orchestra_expressions.proofs.Toks.{here, past}
 use Rattle.orchestra_grammar.specs.Starts.{declaration_start_l}
-use borrow.Author.Rules.{rules}
 use Rattle.orchestra_grammar.proofs.declaration_start_at.Goals as goal
 
-pub returns-then-at-kinds : goal.returns-then-at-kinds
-returns-then-at-kinds c =
-    search (here declaration_start_l)
+pub returns-then-at-tokens : goal.returns-then-at-tokens
+returns-then-at-tokens c =
+    here declaration_start_l c.args.tokens.now c.args.at _ c.if-at-tokens.true c.declaration_start_of.ensures
 
-pub returns-else-at-kinds : goal.returns-else-at-kinds
-returns-else-at-kinds c =
-    search (past declaration_start_l)
+pub returns-else-at-tokens : goal.returns-else-at-tokens
+returns-else-at-tokens c =
+    past declaration_start_l c.args.tokens.now c.args.at c.if-at-tokens.false refl

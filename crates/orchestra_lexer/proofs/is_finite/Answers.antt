@@ -1,11 +1,6 @@
-use Rattle.orchestra_lexer.proofs.Standing.{finite-yes, finite-no}
-use borrow.Author.Rules.{rules}
+use Rattle.orchestra_lexer.proofs.Standing.{finite-is}
 use Rattle.orchestra_lexer.proofs.is_finite.Goals as goal
 
-pub returns-in-Value : goal.returns-in-Value
-returns-in-Value c =
-    search finite-yes
-
-pub returns-in-Outside : goal.returns-in-Outside
-returns-in-Outside c =
-    search finite-no
+pub returns : goal.returns
+returns c =
+    search finite-is

@@ -2,22 +2,22 @@ use Rattle.orchestra_lexer.proofs.Standing.{valid-symbol, valid-number, valid-wh
 use borrow.Author.Rules.{rules}
 use Rattle.orchestra_lexer.proofs.is_valid.Goals as goal
 
-pub returns-then-k : goal.returns-then-k
-returns-then-k c =
+pub returns-in-240 : goal.returns-in-240
+returns-in-240 c =
     search valid-symbol
 
-pub returns-then-k-2 : goal.returns-then-k-2
-returns-then-k-2 c =
+pub returns-in-241 : goal.returns-in-241
+returns-in-241 c =
     search valid-number
 
-pub returns-then-k-3 : goal.returns-then-k-3
-returns-then-k-3 c =
+pub returns-in-242 : goal.returns-in-242
+returns-in-242 c =
     search valid-whole
 
-pub returns-then-k-eq0 : goal.returns-then-k-eq0
-returns-then-k-eq0 c =
-    search valid-none
-
-pub returns : goal.returns
-returns c =
+pub returns-then-k-ne0 : goal.returns-then-k-ne0
+returns-then-k-ne0 c =
     search valid-sign
+
+pub returns-else-k-ne0 : goal.returns-else-k-ne0
+returns-else-k-ne0 c =
+    search valid-none

@@ -14,9 +14,9 @@ pub returns-then-k : goal.returns-then-k
 returns-then-k c =
     search ends-closed
 
-pub returns-then-not-listed : goal.returns-then-not-listed
-returns-then-not-listed c =
-    ends-bad c.loop-at.invariant _ c.loop-at-test.true refl c.if-k.false c.is_valid-listed.ensures (rw c.if-not-listed.true) c.bad.ensures
+pub returns-then-not-is_valid : goal.returns-then-not-is_valid
+returns-then-not-is_valid c =
+    ends-bad c.loop-at.invariant _ c.loop-at-test.true refl c.if-k.false c.is_valid.ensures (rw c.if-not-is_valid.true)
 
 pub loop-at-preserved : goal.loop-at-preserved
 loop-at-preserved c =

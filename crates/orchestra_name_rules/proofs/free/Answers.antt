@@ -5,7 +5,3 @@ use Rattle.orchestra_name_rules.proofs.free.Goals as goal
 pub returns-then-n-most : goal.returns-then-n-most
 returns-then-n-most c =
     search free-is
-
-pub returns : goal.returns
-returns c =
-    search full_is

@@ -1,7 +1,6 @@
 -- The measure of a reader that calls itself: the tokens left.
-use Rattle.orchestra_tokens.specs.inside.Token.{toks}
 use Rattle.orchestra_expressions.specs.Areas.{left}
 use Rattle.orchestra_parser.proofs.+names.Given as goal
 
 abbrev pub decreases-names : goal.decreases-names
-decreases-names l = left (toks l.kinds.now l.words.now l.reals.now) l.got
+decreases-names l = left l.tokens.now l.got

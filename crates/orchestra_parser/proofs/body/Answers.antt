@@ -1,6 +1,5 @@
 use borrow.Author.Rules.{rules}
 use native.Mathlib.Omega.{arith}
-use Rattle.orchestra_tokens.specs.inside.Token.{toks}
 use Rattle.orchestra_expressions.specs.Reader.{seq, sign}
 use Rattle.orchestra_expressions.proofs.Runs.{runs_seq, runs-sign, ready-sign, ready-less, ready-took}
 use Rattle.orchestra_grammar.specs.Reader as R
@@ -18,6 +17,5 @@ statements-c-requires c =
 
 pub returns : goal.returns
 returns c =
-    let T = toks c.args.kinds.now c.args.words.now c.args.reals.now in
-    runs_seq (λ p. seq (R.declarations p) (λ q. seq (R.statements q) (sign 18))) (runs-sign T 17 _ c.expect-a.ensures)
-    (runs_seq (λ q. seq (R.statements q) (sign 18)) c.declarations-b.ensures (runs_seq (sign 18) c.statements-c.ensures (runs-sign T 18 _ c.expect.ensures)))
+    runs_seq (λ p. seq (R.declarations p) (λ q. seq (R.statements q) (sign 18))) (runs-sign c.args.tokens.now 17 _ c.expect-a.ensures)
+    (runs_seq (λ q. seq (R.statements q) (sign 18)) c.declarations-b.ensures (runs_seq (sign 18) c.statements-c.ensures (runs-sign c.args.tokens.now 18 _ c.expect.ensures)))

@@ -1,6 +1,5 @@
 use borrow.Author.Rules.{rules}
 use native.Mathlib.Omega.{arith}
-use Rattle.orchestra_tokens.specs.inside.Token.{toks}
 use Rattle.orchestra_syntax.specs.inside.Program.{instr_op}
 use Rattle.orchestra_expressions.specs.Reader.{seq, sign}
 use Rattle.orchestra_expressions.proofs.Runs.{runs_seq, runs-sign, ready-sign, ready-less, ready-took}
@@ -19,6 +18,5 @@ fields-c-requires c =
 
 pub returns : goal.returns
 returns c =
-    let T = toks c.args.kinds.now c.args.words.now c.args.reals.now in
     runs_seq (λ p. seq (sign 15 p) (λ q. seq (R.fields q) (sign 16))) c.name-a.ensures
-    (runs_seq (λ q. seq (R.fields q) (sign 16)) (runs-sign T 15 _ c.expect-b.ensures) (runs_seq (sign 16) c.fields-c.ensures (runs-sign T 16 _ c.expect.ensures)))
+    (runs_seq (λ q. seq (R.fields q) (sign 16)) (runs-sign c.args.tokens.now 15 _ c.expect-b.ensures) (runs_seq (sign 16) c.fields-c.ensures (runs-sign c.args.tokens.now 16 _ c.expect.ensures)))

@@ -1,6 +1,5 @@
 use borrow.Author.Rules.{rules}
 use native.Mathlib.Omega.{arith}
-use Rattle.orchestra_tokens.specs.inside.Token.{toks}
 use Rattle.orchestra_expressions.specs.Reader.{seq}
 use Rattle.orchestra_expressions.proofs.Runs.{runs_seq, runs-sign, ready-sign, ready-less, ready-took}
 use Rattle.orchestra_grammar.specs.Reader as R
@@ -18,5 +17,4 @@ body-requires c =
 
 pub returns : goal.returns
 returns c =
-    let T = toks c.args.kinds.now c.args.words.now c.args.reals.now in
-    runs_seq (λ p. seq (R.header p) R.body) (runs-sign T 1 _ c.expect-a.ensures) (runs_seq R.body c.header-b.ensures c.body.ensures)
+    runs_seq (λ p. seq (R.header p) R.body) (runs-sign c.args.tokens.now 1 _ c.expect-a.ensures) (runs_seq R.body c.header-b.ensures c.body.ensures)

@@ -1,5 +1,4 @@
 use borrow.Author.Rules.{rules}
-use Rattle.orchestra_tokens.specs.inside.Token.{toks}
 use Rattle.orchestra_expressions.specs.Reader.{sign}
 use Rattle.orchestra_expressions.proofs.Runs.{runs_seq, runs-sign}
 use Rattle.orchestra_parser.proofs.listed.Goals as goal
@@ -10,4 +9,4 @@ names-a-requires c =
 
 pub returns : goal.returns
 returns c =
-    runs_seq (sign 20) c.names-a.ensures (runs-sign (toks c.args.kinds.now c.args.words.now c.args.reals.now) 20 _ c.expect.ensures)
+    runs_seq (sign 20) c.names-a.ensures (runs-sign c.args.tokens.now 20 _ c.expect.ensures)

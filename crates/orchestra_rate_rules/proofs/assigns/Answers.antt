@@ -5,7 +5,3 @@ use Rattle.orchestra_rate_rules.proofs.assigns.Goals as goal
 pub returns-then-q-r : goal.returns-then-q-r
 returns-then-q-r c =
     search assigns-yes
-
-pub returns : goal.returns
-returns c =
-    search assigns-no

@@ -8,6 +8,3 @@ use Rattle.orchestra_reader.proofs.starts_of.Given as goal
 
 abbrev pub invariant-loop-pc : goal.invariant-loop-pc
 invariant-loop-pc l = Inv l.ops (starting l.count l.places) l.pc
-
-abbrev pub decreases-loop-pc : goal.decreases-loop-pc
-decreases-loop-pc l = length l.ops - l.pc

@@ -7,6 +7,3 @@ use Rattle.orchestra_rules.proofs.obeys_rate_rules.Given as goal
 
 abbrev pub invariant-loop-pc : goal.invariant-loop-pc
 invariant-loop-pc l = Rated l.ops l.args l.q l.pc
-
-abbrev pub decreases-loop-pc : goal.decreases-loop-pc
-decreases-loop-pc l = length l.ops - l.pc

@@ -7,6 +7,3 @@ use Rattle.orchestra_rules.proofs.place_names.Given as goal
 
 abbrev pub invariant-loop-pc : goal.invariant-loop-pc
 invariant-loop-pc l = Put l.ops l.initial.args l.args l.symbols l.kinds l.count l.pc
-
-abbrev pub decreases-loop-pc : goal.decreases-loop-pc
-decreases-loop-pc l = length l.ops - l.pc

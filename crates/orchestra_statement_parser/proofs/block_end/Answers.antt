@@ -1,5 +1,4 @@
 use borrow.Author.Rules.{rules}
-use Rattle.orchestra_tokens.specs.inside.Token.{toks}
 use Rattle.orchestra_syntax.specs.inside.Program.{ins}
 use Rattle.orchestra_expressions.specs.Reader as E
 use Rattle.orchestra_expressions.proofs.Runs.{runs_seq, runs-sign, runs-emit, ready-sign, ready-place}
@@ -11,6 +10,6 @@ emit-requires c =
 
 pub returns : goal.returns
 returns c =
-    let T = toks c.args.kinds.now c.args.words.now c.args.reals.now in
+    let T = c.args.tokens.now in
     let r₁ = ready-sign 18 c.requires c.expect-a.ensures in
     runs_seq (E.emit (ins c.args.op)) (runs-sign T 18 c.args.got c.expect-a.ensures) (runs-emit (ins c.args.op) r₁ c.emit.ensures.answer c.emit.ensures.code)

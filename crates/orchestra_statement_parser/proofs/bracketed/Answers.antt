@@ -1,6 +1,5 @@
 use borrow.Author.Rules.{rules}
 use native.Mathlib.Omega.{arith}
-use Rattle.orchestra_tokens.specs.inside.Token.{toks}
 use Rattle.orchestra_syntax.specs.inside.Program.{ins}
 use Rattle.orchestra_expressions.specs.Reader.{reader, seq, sign}
 use Rattle.orchestra_expressions.specs.Reader as E
@@ -19,7 +18,7 @@ emit-requires c =
 
 pub returns : goal.returns
 returns c =
-    let T = toks c.args.kinds.now c.args.words.now c.args.reals.now in
+    let T = c.args.tokens.now in
     let r₃ = ready-sign 16 (ready-expr 0 (ready-sign 15 c.requires c.expect-a.ensures) c.expr-b.ensures) c.expect-c.ensures in
     let r₄ = ready-sign c.args.s r₃ c.expect-d.ensures in
     runs_seq (λ p. seq (reader.expr 0 p) (λ q. seq (sign 16 q) (λ r. seq (sign c.args.s r) (E.emit (ins c.args.op))))) (runs-sign T 15 c.args.got c.expect-a.ensures)

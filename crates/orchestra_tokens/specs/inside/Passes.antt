@@ -1,19 +1,15 @@
 -- What the first pass over an orchestra's bytes keeps and finds.
-use Rattle.std.specs.Prelude.{ℕ, ◌+◌, Bool, true, ◌&&◌, cond, List, [], length, drop, get_or, eqb, leb}
+use Rattle.std.specs.Prelude.{Result, Ok, Err, ℕ, ◌+◌, Bool, true, ◌&&◌, cond, List, [], length, drop, get_or, eqb, leb}
 use Rattle.base_answer.specs.declared.Answer.{Answer}
-use Rattle.base_answer.specs.declared.Answer.TheVariants.{Taken, BadToken, TooLarge}
+use Rattle.base_answer.specs.declared.Answer.TheVariants.{BadToken, TooLarge}
 use Rattle.orchestra_tokens.specs.inside.Scanning.{Scanned, none, some, token_from, tokens_of}
 use Rattle.orchestra_tokens.specs.Measures.{most_tokens, most_brackets, longest_stretch, opened, since, brackets_within, stretches_within}
 use Rattle.orchestra_tokens.specs.declared.Token.{Token}
 use Rattle.orchestra_tokens.specs.declared.Measure.{Measure}
-use Rattle.orchestra_tokens.specs.declared.ScanResult.{ScanResult}
 
 -- the token that stands at a place
 abbrev pub standing : List ℕ → ℕ → Token
 standing bs at = token_from (get_or bs at 0) (drop (at + 1) bs)
-
-abbrev pub found : Answer → ℕ → ScanResult
-found a n = record { answer = a; count = n }
 
 abbrev pub measure : ℕ → ℕ → ℕ → Bool → Measure
 measure c o r f = record { count = c; depth = o; run = r; fits = f }
@@ -28,17 +24,17 @@ next m k =
 abbrev pub measures_hold : Measure → List Token → Bool
 measures_hold m ts = m.fits && (leb (m.count + length ts) most_tokens && (brackets_within m.depth ts && stretches_within m.run ts))
 
--- the answer and the number of tokens, where m was measured and the tokens left are those got
-abbrev pub finished : Measure → Scanned → ScanResult
-finished m none = found BadToken 0
-finished m (some ts) = cond (measures_hold m ts) (found Taken (m.count + length ts)) (found TooLarge 0)
+-- the number of tokens or the refusal, where m was measured and the tokens left are those got
+abbrev pub finished : Measure → Scanned → Result ℕ Answer
+finished m none = Err BadToken
+finished m (some ts) = cond (measures_hold m ts) (Ok (m.count + length ts)) (Err TooLarge)
 
 -- at the end token, with as many bytes left as it and those after it are
-abbrev pub closed_of : Measure → ℕ → ScanResult
+abbrev pub closed_of : Measure → ℕ → Result ℕ Answer
 closed_of m left = finished m (cond (eqb left 1) (some []) none)
 
 abbrev pub start : Measure
 start = measure 0 0 0 true
 
-unfoldable pub scanned : List ℕ → ScanResult
+unfoldable pub scanned : List ℕ → Result ℕ Answer
 scanned bs = finished start (tokens_of bs)

@@ -5,15 +5,15 @@ use borrow.Author.Rules.{rules}
 use borrow.Author.Tests.{not-true, not-false}
 use Rattle.settings_records.specs.Changes.{none_in_use, change_of, area_changed}
 use Rattle.settings_records.specs.declared.InUse.{InUse}
-use Rattle.settings_records.specs.declared.Changed.{Changed}
+use Rattle.base_answer.specs.declared.Answered.{Answered}
 use Rattle.player_start.proofs.OneStart.{bad-record, unaccepted, absent, started}
 use Rattle.player_start.proofs.fresh_start.Goals as goal
 
 -- a change with none in use
-on_none : {k : InUse} {c : Changed} (area first : List ℕ) → k ≡ none_in_use → c ≡ change_of k area first → c ≡ change_of none_in_use area first
+on_none : {k : InUse} {c : Answered InUse} (area first : List ℕ) → k ≡ none_in_use → c ≡ change_of k area first → c ≡ change_of none_in_use area first
 on_none area first e q = q ∙ ap (λ (x : InUse). change_of x area first) e
 
-both-none : {k : InUse} {c : Changed} {left : List ℕ} (area first : List ℕ) → k ≡ none_in_use → (c ≡ change_of k area first) × (left ≡ area_changed k.count area first)
+both-none : {k : InUse} {c : Answered InUse} {left : List ℕ} (area first : List ℕ) → k ≡ none_in_use → (c ≡ change_of k area first) × (left ≡ area_changed k.count area first)
     → (c ≡ change_of none_in_use area first) × (left ≡ area_changed none_in_use.count area first)
 both-none area first e q = (on_none area first e q.0, q.1 ∙ ap (λ (x : InUse). area_changed x.count area first) e)
 

@@ -12,4 +12,4 @@ overflow_add-next c =
 pub returns : goal.returns
 unfolding silence
 returns c =
-    record { state = rested-law _ _ c.ticks_per_cycle-step.ensures _ c.at_most-waiting.ensures; block = c.limit.ensures.block }
+    record { state = rested-law _ _ c.ticks_per_cycle-step.ensures _ c.min-waiting.ensures; block = c.limit.ensures.block }

@@ -23,10 +23,10 @@ returns c =
     let t = instruments_of a.instruments in
     let due = due_in a.due in
     let x = a.settings in
-    let b = born-law t a.code.now a.vals.now x.ceiling (min x.notes 16) x.chosen a.p due c.at_most-most.result c.at_most-most.ensures c.start_notes-v.result c.start_notes-v.ensures.0 in
+    let b = born-law t a.code.now a.vals.now x.ceiling (min x.notes 16) x.chosen a.p due c.min-most.result c.min-most.ensures c.start_notes-v.result c.start_notes-v.ensures.0 in
     let controlled = ap (λ (n : ℕ). take n c.control_lines-c.result.notes) c.control_lines-c.ensures.0
     ∙ control-lines-are t a.code.now a.vals.now c.start_notes-v.result.notes c.start_notes-v.result.count due.lines c.control_lines-c.result.notes c.control_lines-c.ensures.1 in
-    let e = sounds-law t a.code.now a.vals.now x.ceiling (min x.notes 16) x.chosen a.p due c.at_most-most.result c.at_most-most.ensures c.start_notes-v.result.notes c.start_notes-v.result.count c.start_notes-v.result.missed b
+    let e = sounds-law t a.code.now a.vals.now x.ceiling (min x.notes 16) x.chosen a.p due c.min-most.result c.min-most.ensures c.start_notes-v.result.notes c.start_notes-v.result.count c.start_notes-v.result.missed b
     c.control_lines-c.result.notes c.control_lines-c.result.count controlled c.play_messages-k.result c.play_messages-k.ensures.0 in
     let sounded = heard-law t a.code.now a.vals.now x.ceiling (min x.notes 16) x.chosen a.p due c.play_messages-k.result.notes c.play_messages-k.result.count c.play_messages-k.result.missed e
     c.sound-h.result.notes c.sound-h.result.count c.sound-h.ensures.notes.0 c.sound-h.ensures.notes.1 in record {

@@ -6,6 +6,3 @@ use Rattle.score_decoder.proofs.fill.Given as goal
 
 abbrev pub invariant-loop-i : goal.invariant-loop-i
 invariant-loop-i l = Filled (bits_of l.bytes) l.n l.initial.c l.initial.area l.area l.c l.i
-
-abbrev pub decreases-loop-i : goal.decreases-loop-i
-decreases-loop-i l = l.n - l.i

@@ -6,6 +6,3 @@ use Rattle.score_decoder.proofs.put_slot.Given as goal
 
 abbrev pub invariant-loop-i : goal.invariant-loop-i
 invariant-loop-i l = Putting l.initial.area l.at l.slot l.area l.i
-
-abbrev pub decreases-loop-i : goal.decreases-loop-i
-decreases-loop-i l = slot_words - l.i

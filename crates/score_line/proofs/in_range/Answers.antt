@@ -1,4 +1,3 @@
-use borrow.Author.Rules.{rules}
 use Rattle.score_line.specs.declared.Range.TheVariants as range
 use Rattle.score_line.specs.LineFormat.{in_range}
 use Rattle.score_line.proofs.Parts.{range-is}

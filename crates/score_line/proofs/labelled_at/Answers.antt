@@ -1,27 +1,26 @@
-use borrow.Author.Rules.{rules}
-use Rattle.score_line.proofs.Parts.{control-in, control-value, control-variable, control-label, symbol-fits}
+use Rattle.score_line.proofs.Parts.{passed, control-label, control-variable, control-value, control-in, symbol-fits}
 use Rattle.score_line.proofs.labelled_at.Goals as goal
+
+pub returns-in_err-label : goal.returns-in_err-label
+returns-in_err-label c =
+    passed _ c.from_residual.ensures.1 (search (control-label, c.in_err-label.ensures))
+
+pub returns-in_err-variable : goal.returns-in_err-variable
+returns-in_err-variable c =
+    passed _ c.from_residual-in_err-variable.ensures.1 (search (control-variable, c.in_ok-label.ensures, c.in_err-variable.ensures))
+
+pub returns-in_err-value : goal.returns-in_err-value
+returns-in_err-value c =
+    passed _ c.from_residual-in_err-value.ensures.1 (search (control-value, c.in_ok-label.ensures, c.in_ok-variable.ensures, c.in_err-value.ensures))
+
+pub returns : goal.returns
+returns c =
+    search (control-in, c.in_ok-label.ensures, c.in_ok-variable.ensures, c.in_ok-value.ensures)
 
 pub overflow_cast-result : goal.overflow_cast-result
 overflow_cast-result c =
-    search symbol-fits
+    symbol-fits _ _ _ _ c.in_ok-label.ensures
 
-pub overflow_cast-result-in-Of-float_at : goal.overflow_cast-result-in-Of-float_at
-overflow_cast-result-in-Of-float_at c =
-    search symbol-fits
-
-pub returns-in-Of-float_at : goal.returns-in-Of-float_at
-returns-in-Of-float_at c =
-    search control-in
-
-pub returns-in-Refused-float_at : goal.returns-in-Refused-float_at
-returns-in-Refused-float_at c =
-    search control-value
-
-pub returns-in-Refused-small_at : goal.returns-in-Refused-small_at
-returns-in-Refused-small_at c =
-    search control-variable
-
-pub returns-in-Refused : goal.returns-in-Refused
-returns-in-Refused c =
-    search control-label
+pub overflow_cast-result-2 : goal.overflow_cast-result-2
+overflow_cast-result-2 c =
+    symbol-fits _ _ _ _ c.in_ok-variable.ensures

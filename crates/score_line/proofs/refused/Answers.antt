@@ -1,4 +1,3 @@
-use borrow.Author.Rules.{rules}
 use Rattle.score_line.specs.Reading.{refused_line}
 use Rattle.score_line.proofs.refused.Goals as goal
 

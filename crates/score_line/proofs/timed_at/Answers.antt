@@ -1,15 +1,14 @@
-use borrow.Author.Rules.{rules}
-use Rattle.score_line.proofs.Parts.{timed-in, timed-time, timed-late}
+use Rattle.score_line.proofs.Parts.{passed, timed-late, timed-time, timed-in}
 use Rattle.score_line.proofs.timed_at.Goals as goal
 
-pub returns-in-Of-float_at : goal.returns-in-Of-float_at
-returns-in-Of-float_at c =
-    search timed-in
+pub returns-in_err-late : goal.returns-in_err-late
+returns-in_err-late c =
+    passed _ c.from_residual.ensures.1 (search (timed-late, c.in_err-late.ensures))
 
-pub returns-in-Refused-float_at : goal.returns-in-Refused-float_at
-returns-in-Refused-float_at c =
-    search timed-time
+pub returns-in_err-time : goal.returns-in_err-time
+returns-in_err-time c =
+    passed _ c.from_residual-in_err-time.ensures.1 (search (timed-time, c.in_ok-late.ensures, c.in_err-time.ensures))
 
-pub returns-in-Refused : goal.returns-in-Refused
-returns-in-Refused c =
-    search timed-late
+pub returns : goal.returns
+returns c =
+    search (timed-in, c.in_ok-late.ensures, c.in_ok-time.ensures)

@@ -1,8 +1,9 @@
 -- A line's parts, as the functions of the code read them. Definitions only.
-use Rattle.std.specs.Prelude.{ℕ, Bool, List, Float}
+use Rattle.std.specs.Prelude.{ℕ, Bool, List, Float, Result, Ok, Err}
 use Rattle.std.proofs.Math.Option.{some}
 use Rattle.base_formats.specs.Format.{Source, Read, got, refused, and_then, small, named, found, times_from}
 use Rattle.base_formats.specs.Description.{format}
+use Rattle.base_formats.specs.declared.Fault.{Fault}
 use Rattle.base_formats.specs.declared.Fault.TheVariants as fault
 use Rattle.score_line.specs.LineFormat.{float, when_of, timed, when, label, Kind, instr, control, tempo, type_of, kinds, Body, body, labelled, event_of, event_parts, kind_of, counted, values, padded, line_with, after_time}
 use Rattle.score_line.specs.declared.When.{When}
@@ -11,16 +12,6 @@ use Rattle.score_line.specs.declared.Event.{Event}
 use Rattle.score_line.specs.declared.Line.{Line}
 use Rattle.score_line.specs.declared.Range.{Range}
 use Rattle.score_line.specs.declared.Range.TheVariants as range
-use Rattle.score_line.specs.declared.IntegerRead.{IntegerRead}
-use Rattle.score_line.specs.declared.IntegerRead.TheVariants as number
-use Rattle.score_line.specs.declared.FloatRead.{FloatRead}
-use Rattle.score_line.specs.declared.FloatRead.TheVariants as real
-use Rattle.score_line.specs.declared.WhenRead.{WhenRead}
-use Rattle.score_line.specs.declared.WhenRead.TheVariants as when-read
-use Rattle.score_line.specs.declared.LabelRead.{LabelRead}
-use Rattle.score_line.specs.declared.LabelRead.TheVariants as label-read
-use Rattle.score_line.specs.declared.EventRead.{EventRead}
-use Rattle.score_line.specs.declared.EventRead.TheVariants as event-read
 
 -- ---- what is left of the format where each function of the code begins
 
@@ -78,22 +69,21 @@ after_when s w at = and_then ((format after_time).from s at) (λ y q. got (line_
 
 -- ---- the code's results as readings
 
-abbrev pub number_is : IntegerRead → Read ℕ
-number_is (number.Of v p) = got v p
-number_is (number.Refused f) = refused f
+abbrev pub part_is : {A : Type 0} → Result (A × ℕ) Fault → Read A
+part_is (Ok r) = got r.0 r.1
+part_is (Err f) = refused f
 
-abbrev pub real_is : FloatRead → Read Float
-real_is (real.Of x p) = got x p
-real_is (real.Refused f) = refused f
+abbrev pub number_is : Result (ℕ × ℕ) Fault → Read ℕ
+number_is r = part_is r
 
-abbrev pub when_is : WhenRead → Read When
-when_is (when-read.Of w p) = got w p
-when_is (when-read.Refused f) = refused f
+abbrev pub real_is : Result (Float × ℕ) Fault → Read Float
+real_is r = part_is r
 
-abbrev pub label_is : LabelRead → Read Label
-label_is (label-read.Of l p) = got l p
-label_is (label-read.Refused f) = refused f
+abbrev pub when_is : Result (When × ℕ) Fault → Read When
+when_is r = part_is r
 
-abbrev pub event_is : EventRead → Read Event
-event_is (event-read.Of e p) = got e p
-event_is (event-read.Refused f) = refused f
+abbrev pub label_is : Result (Label × ℕ) Fault → Read Label
+label_is r = part_is r
+
+abbrev pub event_is : Result (Event × ℕ) Fault → Read Event
+event_is r = part_is r

@@ -1,19 +1,19 @@
-use borrow.Author.Rules.{rules}
+use Rattle.score_line.proofs.Parts.{passed}
 use Rattle.score_line_reader.proofs.Lines.{line-event, line-event-no, line-type-no, line-priority-no}
 use Rattle.score_line_reader.proofs.after_when.Goals as goal
 
-pub returns-in-Of-event_at : goal.returns-in-Of-event_at
-returns-in-Of-event_at c =
-    search line-event
+pub returns-in_err-priority : goal.returns-in_err-priority
+returns-in_err-priority c =
+    passed _ c.from_residual.ensures.1 (search (line-priority-no, c.in_err-priority.ensures))
 
-pub returns-in-Refused-event_at : goal.returns-in-Refused-event_at
-returns-in-Refused-event_at c =
-    search line-event-no
+pub returns-in_err-kind : goal.returns-in_err-kind
+returns-in_err-kind c =
+    passed _ c.from_residual-in_err-kind.ensures.1 (search (line-type-no, c.in_ok-priority.ensures, c.in_err-kind.ensures))
 
-pub returns-in-Refused-number_at : goal.returns-in-Refused-number_at
-returns-in-Refused-number_at c =
-    search line-type-no
+pub returns-in_err-event : goal.returns-in_err-event
+returns-in_err-event c =
+    passed _ c.from_residual-in_err-event.ensures.1 (search (line-event-no, c.in_ok-priority.ensures, c.in_ok-kind.ensures, c.in_err-event.ensures))
 
-pub returns-in-Refused : goal.returns-in-Refused
-returns-in-Refused c =
-    search line-priority-no
+pub returns : goal.returns
+returns c =
+    search (line-event, c.in_ok-priority.ensures, c.in_ok-kind.ensures, c.in_ok-event.ensures)

@@ -1,8 +1,6 @@
-use borrow.Author.Rules.{rules}
-use Prim.Native.Nat.{◌-◌}
+use Rattle.score_line.proofs.Parts.{passed}
 use lib.Ieee.{of_bits}
-use Rattle.base_formats.specs.inside.Source.{source_of}
-use Rattle.score_line_reader.proofs.Lines.{Filling, starts, again, stops, ends}
+use Rattle.score_line_reader.proofs.Lines.{starts, again, stops, ends}
 use Rattle.score_line_reader.proofs.values_line.Goals as goal
 
 pub loop-i-init : goal.loop-i-init
@@ -10,13 +8,13 @@ unfolding of_bits
 loop-i-init c =
     search starts
 
-pub returns-in-Refused : goal.returns-in-Refused
-returns-in-Refused c =
-    search stops
+pub returns-in_err-x : goal.returns-in_err-x
+returns-in_err-x c =
+    passed _ c.from_residual.ensures.1 (search (stops, c.in_err-x.ensures))
 
 pub loop-i-preserved : goal.loop-i-preserved
 loop-i-preserved c =
-    search again
+    search (again, c.in_ok-x.ensures)
 
 pub returns : goal.returns
 unfolding of_bits

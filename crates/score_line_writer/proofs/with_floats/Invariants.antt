@@ -5,6 +5,3 @@ use Rattle.score_line_writer.proofs.with_floats.Given as goal
 
 abbrev pub invariant-loop-i : goal.invariant-loop-i
 invariant-loop-i l = Collected l.initial.r l.n l.values l.r l.i
-
-abbrev pub decreases-loop-i : goal.decreases-loop-i
-decreases-loop-i l = l.n - l.i

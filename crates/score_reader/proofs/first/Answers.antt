@@ -2,10 +2,10 @@ use borrow.Author.Rules.{rules}
 use Rattle.score_reader.proofs.Readers.{first_counted, first_short}
 use Rattle.score_reader.proofs.first.Goals as goal
 
-pub returns-in-Value : goal.returns-in-Value
-returns-in-Value c =
+pub returns-in-Some : goal.returns-in-Some
+returns-in-Some c =
     search first_counted
 
-pub returns-in-Short : goal.returns-in-Short
-returns-in-Short c =
+pub returns-in-None : goal.returns-in-None
+returns-in-None c =
     search first_short

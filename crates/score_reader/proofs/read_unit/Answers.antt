@@ -10,6 +10,6 @@ pub returns-else-kind-eq0 : goal.returns-else-kind-eq0
 returns-else-kind-eq0 c =
     search unit-other
 
-pub returns-in-Short : goal.returns-in-Short
-returns-in-Short c =
+pub returns-in-None : goal.returns-in-None
+returns-in-None c =
     search unit-short

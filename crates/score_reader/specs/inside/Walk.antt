@@ -1,8 +1,7 @@
 -- A score's lines as the code walks over them. Definitions only.
 use Rattle.std.specs.Prelude.{ℕ, zero, suc, ◌-◌, ◌≡◌, Bool, List, [], ◌∷◌}
 use Rattle.base_bitstream.specs.Fields.{read_at}
-use Rattle.base_bitstream.specs.declared.FieldRead.{FieldRead}
-use Rattle.base_bitstream.specs.declared.FieldRead.TheVariants.{Value, Short}
+use Rattle.std.specs.Prelude.{Option, Some, None}
 use Rattle.score_line.specs.Reading.{line_at}
 use Rattle.score_line.specs.declared.Line.{Line}
 use Rattle.score_line.specs.declared.LineRead.{LineRead}
@@ -18,9 +17,9 @@ score_read_of s = record { answer = s.answer; line = s.line }
 -- ---- the second pass over an accepted score: a cursor and the next line
 
 -- before the first line
-abbrev pub start_of : FieldRead → Cursor
-start_of (Value n p) = record { at = p; left = n }
-start_of Short = record { at = 0; left = 0 }
+abbrev pub start_of : Option (ℕ × ℕ) → Cursor
+start_of (Some r) = record { at = r.1; left = r.0 }
+start_of None = record { at = 0; left = 0 }
 
 unfoldable pub first_of : List Bool → Cursor
 first_of bits = start_of (read_at bits 0 20)

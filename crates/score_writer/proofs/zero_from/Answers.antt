@@ -1,8 +1,3 @@
-use borrow.Author.Rules.{rules}
-use Prim.Native.Nat.{◌-◌}
-use mathlib.Core.Path.{◌≡◌, refl}
-use lib.ListN.{length, drop}
-use Rattle.score_writer.specs.Slots.{all_zero}
 use Rattle.score_writer.proofs.Area.{zero_more, zero-no, zero-end}
 use Rattle.score_writer.proofs.zero_from.Goals as goal
 
@@ -10,8 +5,8 @@ pub loop-i-preserved : goal.loop-i-preserved
 loop-i-preserved c =
     search zero_more
 
-pub returns-else-words-i-eq0 : goal.returns-else-words-i-eq0
-returns-else-words-i-eq0 c =
+pub returns-then-words-i-ne0 : goal.returns-then-words-i-ne0
+returns-then-words-i-ne0 c =
     search zero-no
 
 pub returns : goal.returns

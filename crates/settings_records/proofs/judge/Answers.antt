@@ -1,18 +1,16 @@
-use mathlib.Core.Bool.{not}
-use mathlib.Core.Path.{refl, ap}
 use native.Mathlib.Omega.{arith}
-use Rattle.settings_records.proofs.Changing.{change-refused, change-few, change-taken}
+use mathlib.Core.Path.{refl}
+use Rattle.settings_records.proofs.Telling.{told-change-refused, told-change-few, told-change-taken}
 use Rattle.settings_records.proofs.judge.Goals as goal
 
-pub returns-then-not-is_taken : goal.returns-then-not-is_taken
-returns-then-not-is_taken c =
-    (change-refused _ _ _ c.judge_change-j.ensures c.is_taken.ensures (ap not c.if-not-is_taken.true)).0
+pub returns-in-Err : goal.returns-in-Err
+returns-in-Err c =
+    (told-change-refused c.args.settings c.args.area.now c.args.handed.now c.judge_change.ensures c.in-Err.is).0
 
 pub overflow_add-result : goal.overflow_add-result
 overflow_add-result c =
-    let k = c.args.settings in
-    omega (arith, change-few k _ _ c.judge_change-j.ensures c.is_taken.ensures (ap not c.if-not-is_taken.false))
+    omega (arith, told-change-few c.args.settings c.args.area.now c.args.handed.now c.judge_change.ensures c.in-Ok.is)
 
-pub returns : goal.returns
-returns c =
-    (change-taken _ _ _ c.judge_change-j.ensures c.is_taken.ensures (ap not c.if-not-is_taken.false) refl).0
+pub returns-in-Ok : goal.returns-in-Ok
+returns-in-Ok c =
+    (told-change-taken c.args.settings c.args.area.now c.args.handed.now c.judge_change.ensures c.in-Ok.is refl).0

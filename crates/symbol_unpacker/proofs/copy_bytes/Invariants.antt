@@ -4,6 +4,3 @@ use Rattle.symbol_unpacker.proofs.copy_bytes.Given as goal
 
 abbrev pub invariant-loop-j : goal.invariant-loop-j
 invariant-loop-j l = Copying l.table l.initial.buffer l.buffer l.at l.n l.to l.j
-
-abbrev pub decreases-loop-j : goal.decreases-loop-j
-decreases-loop-j l = l.n - l.j

@@ -1,4 +1,3 @@
-use borrow.Author.Rules.{rules}
 use Rattle.text_decoder.proofs.Texts.{text-taken, text-short, text-refused}
 use Rattle.text_decoder.proofs.decode_text.Goals as goal
 

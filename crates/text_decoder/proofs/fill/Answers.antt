@@ -1,6 +1,4 @@
-use borrow.Author.Rules.{rules}
-use Prim.Native.Nat.{◌-◌}
-use Rattle.text_decoder.proofs.Texts.{Filled, fill_start, fill_more, fill_end}
+use Rattle.text_decoder.proofs.Texts.{fill_start, fill_more, fill_end}
 use Rattle.text_decoder.proofs.fill.Goals as goal
 
 pub loop-i-init : goal.loop-i-init

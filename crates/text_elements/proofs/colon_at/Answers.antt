@@ -1,4 +1,3 @@
-use borrow.Author.Rules.{rules}
 use native.Mathlib.Omega.{arith}
 use Rattle.text_elements.proofs.Parts.{colon-is, colon-no}
 use Rattle.text_elements.proofs.colon_at.Goals as goal

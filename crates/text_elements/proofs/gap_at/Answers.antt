@@ -1,4 +1,3 @@
-use borrow.Author.Rules.{rules}
 use Rattle.text_elements.proofs.Parts.{gap_is, gap-no}
 use Rattle.text_elements.proofs.gap_at.Goals as goal
 

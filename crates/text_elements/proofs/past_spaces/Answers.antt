@@ -1,7 +1,4 @@
-use borrow.Author.Rules.{rules}
-use Prim.Native.Nat.{◌-◌}
-use lib.ListN.{length}
-use Rattle.text_elements.proofs.Parts.{Spaces, spaces-start, spaces-stop, spaces-on, spaces-end}
+use Rattle.text_elements.proofs.Parts.{spaces-start, spaces-stop, spaces-on, spaces-end}
 use Rattle.text_elements.proofs.past_spaces.Goals as goal
 
 pub loop-i-init : goal.loop-i-init

@@ -1,24 +1,21 @@
-use borrow.Author.Rules.{rules}
 use native.Mathlib.Omega.{arith}
-use Prim.Native.Nat.{◌-◌}
-use lib.ListN.{length}
-use Rattle.text_elements.proofs.Parts.{Matching, word-starts, word_on, word-no, word-is}
+use Rattle.text_elements.proofs.Parts.{word-starts, word_on, word-no, word-is}
 use Rattle.text_elements.proofs.word_at.Goals as goal
 
-pub loop-i-init : goal.loop-i-init
-loop-i-init c =
+pub loop-b-init : goal.loop-b-init
+loop-b-init c =
     search word-starts
 
 pub overflow_add-p : goal.overflow_add-p
 overflow_add-p c =
-    omega (arith, c.starts_with.ensures.within c.if-starts_with.true)
+    omega (arith, c.starts_with.ensures.within c.if-not-starts_with.false)
 
-pub returns-else-starts_with : goal.returns-else-starts_with
-returns-else-starts_with c =
+pub returns-then-not-starts_with : goal.returns-then-not-starts_with
+returns-then-not-starts_with c =
     search word-no
 
-pub loop-i-preserved : goal.loop-i-preserved
-loop-i-preserved c =
+pub loop-b-preserved : goal.loop-b-preserved
+loop-b-preserved c =
     search word_on
 
 pub returns : goal.returns

@@ -1,4 +1,3 @@
-use borrow.Author.Rules.{rules}
 use native.Mathlib.Omega.{arith}
 use Rattle.text_event_reader.proofs.EventReaders.{ended_here, ended-not}
 use Rattle.text_event_reader.proofs.ended.Goals as goal

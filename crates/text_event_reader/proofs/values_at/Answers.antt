@@ -1,30 +1,27 @@
-use borrow.Author.Rules.{rules}
 use native.Mathlib.Omega.{arith}
-use Prim.Native.Nat.{◌-◌}
-use lib.ListN.{length}
-use Rattle.text_event_reader.proofs.Lists.{Gathering, starts, none_kept, ends, falls, again, stops}
+use Rattle.text_event_reader.proofs.Lists.{starts, none_kept, ends, falls, again, stops}
 use Rattle.text_event_reader.proofs.values_at.Goals as goal
 
-pub loop-kept-init : goal.loop-kept-init
-loop-kept-init c =
+pub loop-p-init : goal.loop-p-init
+loop-p-init c =
     search (starts, none_kept)
 
 pub overflow_add-result : goal.overflow_add-result
 overflow_add-result c =
-    omega (arith, c.starts_with.ensures.within c.if-starts_with.true)
+    omega (arith, c.starts_with.ensures.within c.loop-p-test.false)
 
-pub returns-then-starts_with : goal.returns-then-starts_with
-returns-then-starts_with c =
+pub loop-p-smaller : goal.loop-p-smaller
+loop-p-smaller c =
+    search (falls, c.in_ok-x.was)
+
+pub loop-p-preserved : goal.loop-p-preserved
+loop-p-preserved c =
+    search (again, c.in_ok-x.was)
+
+pub returns-in_err-x : goal.returns-in_err-x
+returns-in_err-x c =
+    search (stops, c.in_err-x.was)
+
+pub returns : goal.returns
+returns c =
     search ends
-
-pub loop-kept-smaller : goal.loop-kept-smaller
-loop-kept-smaller c =
-    search falls
-
-pub loop-kept-preserved : goal.loop-kept-preserved
-loop-kept-preserved c =
-    search again
-
-pub returns-in-Refused : goal.returns-in-Refused
-returns-in-Refused c =
-    search stops

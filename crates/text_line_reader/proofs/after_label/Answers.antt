@@ -1,19 +1,18 @@
-use borrow.Author.Rules.{rules}
 use Rattle.text_line_reader.proofs.LineParts.{label-colon, label-time, label-name, label-instr}
 use Rattle.text_line_reader.proofs.after_label.Goals as goal
 
-pub returns-in_default : goal.returns-in_default
-returns-in_default c =
-    search label-colon
+pub returns-in_err-p : goal.returns-in_err-p
+returns-in_err-p c =
+    search (label-colon, c.in_err-p.was)
 
-pub returns-in_default-number_at : goal.returns-in_default-number_at
-returns-in_default-number_at c =
-    search label-time
+pub returns-in_err-time : goal.returns-in_err-time
+returns-in_err-time c =
+    search (label-time, c.in_ok-p.was, c.in_err-time.was)
 
-pub returns-in_default-next_name : goal.returns-in_default-next_name
-returns-in_default-next_name c =
-    search label-name
+pub returns-in_err-name : goal.returns-in_err-name
+returns-in_err-name c =
+    search (label-name, c.in_ok-p.was, c.in_ok-time.was, c.in_err-name.was)
 
 pub returns : goal.returns
 returns c =
-    search label-instr
+    search (label-instr, c.in_ok-p.was, c.in_ok-time.was, c.in_ok-name.was)

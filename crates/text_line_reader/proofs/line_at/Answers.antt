@@ -1,4 +1,3 @@
-use borrow.Author.Rules.{rules}
 use native.Mathlib.Omega.{arith}
 use Rattle.text_line_reader.proofs.LineParts.{line-starred, line_plain}
 use Rattle.text_line_reader.proofs.line_at.Goals as goal

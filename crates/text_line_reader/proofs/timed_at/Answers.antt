@@ -1,15 +1,14 @@
-use borrow.Author.Rules.{rules}
 use Rattle.text_line_reader.proofs.LineParts.{timed-number, timed-gap, timed-event}
 use Rattle.text_line_reader.proofs.timed_at.Goals as goal
 
-pub returns-in_default : goal.returns-in_default
-returns-in_default c =
-    search timed-number
+pub returns-in_err-time : goal.returns-in_err-time
+returns-in_err-time c =
+    search (timed-number, c.in_err-time.was)
 
-pub returns-in_default-gap_at : goal.returns-in_default-gap_at
-returns-in_default-gap_at c =
-    search timed-gap
+pub returns-in_err-q : goal.returns-in_err-q
+returns-in_err-q c =
+    search (timed-gap, c.in_ok-time.was, c.in_err-q.was)
 
 pub returns : goal.returns
 returns c =
-    search timed-event
+    search (timed-event, c.in_ok-time.was, c.in_ok-q.was)

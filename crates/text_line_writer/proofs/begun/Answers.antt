@@ -1,4 +1,3 @@
-use borrow.Author.Rules.{rules}
 use Rattle.text_line_writer.proofs.Forms.{begun-plain, begun-star}
 use Rattle.text_line_writer.proofs.begun.Goals as goal
 

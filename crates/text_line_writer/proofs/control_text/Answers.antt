@@ -1,7 +1,10 @@
-use Rattle.text_line_writer.proofs.Forms.{control-joins}
+use Rattle.text_line_writer.proofs.Forms.{control-timeless, control-joins}
 use Rattle.text_line_writer.proofs.control_text.Goals as goal
+
+pub returns-in_err-timed : goal.returns-in_err-timed
+returns-in_err-timed c =
+    search (control-timeless, c.in_err-timed.was)
 
 pub returns : goal.returns
 returns c =
-    control-joins _ _ _ _ c.with_number.ensures c.next_name-labelled.ensures c.with_word.ensures c.next_name-named.ensures
-    c.next_number.ensures
+    search (control-joins, c.in_ok-timed.was)

@@ -1,4 +1,3 @@
-use borrow.Author.Rules.{rules}
 use Rattle.text_line_writer.proofs.Forms.{as-event}
 use Rattle.text_line_writer.proofs.event_text.Goals as goal
 

@@ -1,4 +1,3 @@
-use borrow.Author.Rules.{rules}
 use Rattle.text_line_writer.proofs.Pieces.{label-joins, no_label}
 use Rattle.text_line_writer.proofs.with_label.Goals as goal
 

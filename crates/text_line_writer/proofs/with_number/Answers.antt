@@ -1,4 +1,3 @@
-use borrow.Author.Rules.{rules}
 use mathlib.Core.Path.{◌≡◌, sym, subst}
 use mathlib.Core.Bool.{true}
 use lib.Dec.{T}
@@ -10,10 +9,10 @@ use Rattle.text_line_writer.proofs.with_number.Goals as goal
 held : (x : Float) → fits binary32 x ≡ true → T (fits binary32 x)
 held x h = subst T (sym h) tt
 
-pub returns-in-Text : goal.returns-in-Text
-returns-in-Text c =
-    search number-joins
+pub returns-in_err-n : goal.returns-in_err-n
+returns-in_err-n c =
+    search (number-lacks, held _ c.well_formed.1.0.1, c.in_err-n.was)
 
-pub returns-in-None : goal.returns-in-None
-returns-in-None c =
-    search (number-lacks, held _ c.well_formed.1.0.1)
+pub returns : goal.returns
+returns c =
+    search (number-joins, c.in_ok-n.was)

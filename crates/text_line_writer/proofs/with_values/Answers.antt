@@ -1,6 +1,5 @@
 use borrow.Author.Rules.{rules}
-use Prim.Native.Nat.{◌-◌}
-use Rattle.text_line_writer.proofs.Pieces.{Valued, values-start, values-again, values-end}
+use Rattle.text_line_writer.proofs.Pieces.{values-start, values-again, values-cut, values-end}
 use Rattle.text_line_writer.proofs.with_values.Goals as goal
 
 pub loop-i-init : goal.loop-i-init
@@ -9,7 +8,11 @@ loop-i-init c =
 
 pub loop-i-preserved : goal.loop-i-preserved
 loop-i-preserved c =
-    search (values-again, rules)
+    search (values-again, rules, c.in_ok-text.was)
+
+pub returns-in_err-text : goal.returns-in_err-text
+returns-in_err-text c =
+    search (values-cut, rules, c.in_err-text.was)
 
 pub returns : goal.returns
 returns c =

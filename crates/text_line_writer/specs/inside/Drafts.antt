@@ -1,5 +1,5 @@
 -- The text of a line as the code puts it together, piece by piece. Definitions only.
-use Rattle.std.specs.Prelude.{ℕ, ◌≡◌, true, false, cond, List, [], ◌∷◌, ◌++◌, Float}
+use Rattle.std.specs.Prelude.{ℕ, ◌≡◌, List, [], ◌∷◌, ◌++◌, Float, Option as Optional, Some, None}
 use Rattle.std.proofs.Math.Option.{Option, none, some, map}
 use Rattle.text_numerals.specs.Numeral.{encoded}
 use Rattle.text_number_writer.specs.Push.{empty_text, push_all}
@@ -9,7 +9,7 @@ use Rattle.text_format.specs.Content as content
 use Rattle.text_format.specs.Form.{space, label_bytes, form_bytes}
 use Rattle.text_line_writer.specs.inside.NumberText.{number_text}
 use Rattle.text_line_writer.specs.inside.LineText.{if_there, label_form, event_text}
-use Rattle.text_line_writer.specs.declared.Draft.{Draft}
+use Rattle.text_number_writer.specs.declared.LineText.{LineText}
 
 -- bytes behind bytes, where both are there
 abbrev pub beside : Option (List ℕ) → Option (List ℕ) → Option (List ℕ)
@@ -17,27 +17,26 @@ beside none b = none
 beside (some x) none = none
 beside (some x) (some y) = some (x ++ y)
 
--- a draft of these bytes, or one that a number is missing from
-abbrev pub Holds : Draft → Option (List ℕ) → Type 0
-Holds d none = d.there ≡ false
-Holds d (some bytes) = (d.there ≡ true) × (d.text ≡ push_all empty_text bytes)
+-- a line of text and these bytes behind it, where they are there
+abbrev pub joined : LineText → Option (List ℕ) → Optional LineText
+joined t none = None
+joined t (some bytes) = Some (push_all t bytes)
 
--- the draft itself, where a text is there or none is: then it holds no byte
-unfoldable pub drafted : Option (List ℕ) → Draft
-drafted none = record { there = false; text = empty_text }
-drafted (some bytes) = record { there = true; text = push_all empty_text bytes }
+-- r is t and these bytes behind it
+pub record Joined (t : LineText) (piece : Option (List ℕ)) (r : Optional LineText) : Type 0 where
+  pub is : r ≡ joined t piece
 
-pub record Drafted (r : Draft) (piece : Option (List ℕ)) : Type 0 where
+-- a text of these bytes, or none where a number is missing
+abbrev pub Holds : Optional LineText → Option (List ℕ) → Type 0
+Holds r none = r ≡ None
+Holds r (some bytes) = r ≡ Some (push_all empty_text bytes)
+
+unfoldable pub drafted : Option (List ℕ) → Optional LineText
+drafted piece = joined empty_text piece
+
+pub record Drafted (r : Optional LineText) (piece : Option (List ℕ)) : Type 0 where
   pub told : r ≡ drafted piece
   pub holds : Holds r piece
-
--- a draft of which nothing is kept where a number is missing
-unfoldable pub kept : Draft → Draft
-kept d = cond d.there d (record { there = false; text = empty_text })
-
--- r is d and these bytes behind it
-pub record Joined (d : Draft) (piece : Option (List ℕ)) (r : Draft) : Type 0 where
-  pub joins : (before : Option (List ℕ)) → Holds d before → Holds r (beside before piece)
 
 -- ---- the pieces
 

@@ -1,7 +1,4 @@
-use borrow.Author.Rules.{rules}
-use Prim.Native.Nat.{◌-◌}
-use lib.ListN.{length}
-use Rattle.text_number_reader.proofs.Readers.{Reading, starts, ends_low, ends-high, too_large, again, ends}
+use Rattle.text_number_reader.proofs.Readers.{starts, ends_outside, too_large, again, ends}
 use Rattle.text_number_reader.proofs.digits_at.Goals as goal
 
 pub loop-i-init : goal.loop-i-init
@@ -10,14 +7,10 @@ loop-i-init c =
 
 pub returns-then-b-lt-ZERO : goal.returns-then-b-lt-ZERO
 returns-then-b-lt-ZERO c =
-    search ends_low
+    search (ends_outside, c.then-b-lt-ZERO.either)
 
-pub returns-then-b-gt-NINE : goal.returns-then-b-gt-NINE
-returns-then-b-gt-NINE c =
-    search ends-high
-
-pub returns-then-most-m : goal.returns-then-most-m
-returns-then-most-m c =
+pub returns-then-most-n : goal.returns-then-most-n
+returns-then-most-n c =
     search too_large
 
 pub loop-i-preserved : goal.loop-i-preserved

@@ -1,4 +1,3 @@
-use borrow.Author.Rules.{rules}
 use native.Mathlib.Omega.{arith}
 use Rattle.text_number_reader.proofs.Readers.{name-symbol, no_name}
 use Rattle.text_number_reader.proofs.name_at.Goals as goal

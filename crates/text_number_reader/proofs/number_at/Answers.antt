@@ -1,4 +1,3 @@
-use borrow.Author.Rules.{rules}
 use native.Mathlib.Omega.{arith}
 use Rattle.text_number_reader.proofs.Readers.{number-minus, number-plain}
 use Rattle.text_number_reader.proofs.number_at.Goals as goal

@@ -1,4 +1,3 @@
-use borrow.Author.Rules.{rules}
 use Rattle.text_number_reader.proofs.Bytes.{starts-here, starts-past}
 use Rattle.text_number_reader.proofs.starts_with.Goals as goal
 
@@ -6,6 +5,6 @@ pub returns-then-at-s : goal.returns-then-at-s
 returns-then-at-s c =
     search starts-here
 
-pub returns : goal.returns
-returns c =
+pub returns-else-at-s : goal.returns-else-at-s
+returns-else-at-s c =
     search starts-past

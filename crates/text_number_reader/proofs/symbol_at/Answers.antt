@@ -1,28 +1,22 @@
-use borrow.Author.Rules.{rules}
-use native.Mathlib.Omega.{arith}
 use Rattle.text_number_reader.proofs.Readers.{symbol-fits, symbol-zero, symbol-none, symbol-is, symbol-no}
 use Rattle.text_number_reader.proofs.symbol_at.Goals as goal
-
-pub overflow_add-result : goal.overflow_add-result
-overflow_add-result c =
-    omega (arith, c.starts_with.ensures.within c.if-starts_with.true)
 
 pub returns-then-starts_with : goal.returns-then-starts_with
 returns-then-starts_with c =
     search symbol-zero
 
+pub returns-in_err-symbol : goal.returns-in_err-symbol
+returns-in_err-symbol c =
+    search (symbol-no, c.in_err-symbol.was)
+
 pub returns-then-count-eq0 : goal.returns-then-count-eq0
 returns-then-count-eq0 c =
-    search symbol-none
+    search (symbol-none, c.in_ok-symbol.was)
 
 pub overflow_cast-result : goal.overflow_cast-result
 overflow_cast-result c =
-    search symbol-fits
+    search (symbol-fits, c.in_ok-symbol.was)
 
-pub returns-else-count-eq0 : goal.returns-else-count-eq0
-returns-else-count-eq0 c =
-    search symbol-is
-
-pub returns-in-Refused : goal.returns-in-Refused
-returns-in-Refused c =
-    search symbol-no
+pub returns : goal.returns
+returns c =
+    search (symbol-is, c.in_ok-symbol.was)

@@ -1,4 +1,3 @@
-use borrow.Author.Rules.{rules}
 use Rattle.text_number_writer.proofs.Pushing.{push-room, push-full}
 use mathlib.Core.Path.{sym}
 use Rattle.text_number_writer.proofs.push.Goals as goal

@@ -1,4 +1,3 @@
-use borrow.Author.Rules.{rules}
 use Rattle.text_number_writer.proofs.Pushing.{no-decimals, some-decimals}
 use Rattle.text_number_writer.proofs.push_decimals.Goals as goal
 

@@ -1,9 +1,5 @@
-use borrow.Author.Rules.{rules}
-use Prim.Native.Nat.{◌≤◌}
 use native.Mathlib.Omega.{arith}
-use mathlib.Core.Path.{◌≡◌, refl}
-use Rattle.text_numerals.specs.Numeral.{digit_bytes, lowest}
-use Rattle.text_number_writer.specs.Push.{push_all}
+use mathlib.Core.Path.{refl}
 use Rattle.text_number_writer.proofs.Pushing.{digits-again, digits-end}
 use Rattle.text_number_writer.proofs.push_digits.Goals as goal
 

@@ -1,4 +1,3 @@
-use borrow.Author.Rules.{rules}
 use Rattle.text_number_writer.proofs.Pushing.{name-is}
 use Rattle.text_number_writer.proofs.push_name.Goals as goal
 

@@ -1,4 +1,3 @@
-use borrow.Author.Rules.{rules}
 use Rattle.text_number_writer.proofs.Pushing.{number_is}
 use Rattle.text_number_writer.proofs.push_number.Goals as goal
 

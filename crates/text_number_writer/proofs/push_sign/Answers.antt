@@ -1,4 +1,3 @@
-use borrow.Author.Rules.{rules}
 use Rattle.text_number_writer.proofs.Pushing.{sign-minus, sign-plain}
 use Rattle.text_number_writer.proofs.push_sign.Goals as goal
 

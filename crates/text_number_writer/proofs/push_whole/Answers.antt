@@ -1,4 +1,3 @@
-use borrow.Author.Rules.{rules}
 use Rattle.text_number_writer.proofs.Pushing.{whole_is}
 use Rattle.text_number_writer.proofs.push_whole.Goals as goal
 

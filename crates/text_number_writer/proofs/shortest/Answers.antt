@@ -1,15 +1,12 @@
-use borrow.Author.Rules.{rules}
-use Prim.Native.Nat.{◌-◌}
-use native.Mathlib.Omega.{arith}
-use Rattle.text_number_writer.proofs.ShortestText.{Looked, start, on, done, never}
+use Rattle.text_number_writer.proofs.ShortestText.{start, on, done, never}
 use Rattle.text_number_writer.proofs.shortest.Goals as goal
 
 pub loop-d-init : goal.loop-d-init
 loop-d-init c =
     search start
 
-pub returns-in-Number : goal.returns-in-Number
-returns-in-Number c =
+pub returns-in-Some : goal.returns-in-Some
+returns-in-Some c =
     search done
 
 pub loop-d-preserved : goal.loop-d-preserved

@@ -1,4 +1,3 @@
-use borrow.Author.Rules.{rules}
 use mathlib.Core.Path.{sym, subst, ap, ◌∙◌}
 use lib.Dec.{T, leb}
 use Rattle.text_number_writer.proofs.Candidates.{sign_bit}

@@ -1,4 +1,3 @@
-use borrow.Author.Rules.{rules}
 use Rattle.text_reader.proofs.LineLoop.{counted-all, counted-fault}
 use Rattle.text_reader.proofs.counted_to.Goals as goal
 

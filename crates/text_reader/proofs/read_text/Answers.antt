@@ -1,7 +1,4 @@
-use borrow.Author.Rules.{rules}
-use Prim.Native.Nat.{◌-◌}
-use Rattle.text_format.specs.Content.{most_lines}
-use Rattle.text_reader.proofs.LineLoop.{Reading, starts, too_many, stops, again, ends}
+use Rattle.text_reader.proofs.LineLoop.{starts, too_many, stops, again, ends}
 use Rattle.text_reader.proofs.read_text.Goals as goal
 
 pub loop-at-init : goal.loop-at-init
@@ -12,8 +9,8 @@ pub returns-then-i-ge-MOST_LINES : goal.returns-then-i-ge-MOST_LINES
 returns-then-i-ge-MOST_LINES c =
     search too_many
 
-pub returns-else-l : goal.returns-else-l
-returns-else-l c =
+pub returns-in_default : goal.returns-in_default
+returns-in_default c =
     search stops
 
 pub loop-at-preserved : goal.loop-at-preserved

@@ -1,7 +1,6 @@
-use borrow.Author.Rules.{rules}
 use Prim.Native.Nat.{◌-◌}
 use Rattle.text_format.specs.Content.{most_lines}
-use Rattle.text_reader.proofs.LineLoop.{Reading, starts, too_many, stops, again, ends}
+use Rattle.text_reader.proofs.LineLoop.{Reading}
 use Rattle.text_reader.proofs.read_text.Given as goal
 
 abbrev pub invariant-loop-at : goal.invariant-loop-at

@@ -1,6 +1,4 @@
-use borrow.Author.Rules.{rules}
-use Prim.Native.Nat.{◌-◌}
-use Rattle.text_writer.proofs.Passing.{Counted, count-start, count-more, count_room, count-stop, count-end}
+use Rattle.text_writer.proofs.Passing.{count-start, count-more, count_room, count-stop, count-end}
 use Rattle.text_writer.proofs.measured_lines.Goals as goal
 
 pub loop-i-init : goal.loop-i-init
@@ -15,8 +13,8 @@ pub loop-i-preserved : goal.loop-i-preserved
 loop-i-preserved c =
     search count-more
 
-pub returns-else-d : goal.returns-else-d
-returns-else-d c =
+pub returns-in_default : goal.returns-in_default
+returns-in_default c =
     search count-stop
 
 pub returns : goal.returns

@@ -1,6 +1,4 @@
-use borrow.Author.Rules.{rules}
-use Prim.Native.Nat.{◌-◌}
-use Rattle.text_writer.proofs.Passing.{Copied, copy_start, copy-length, copy-room, copy_more, copy-end}
+use Rattle.text_writer.proofs.Passing.{copy_start, copy-length, copy-room, copy_more, copy-end}
 use Rattle.text_writer.proofs.put_text.Goals as goal
 
 pub loop-i-init : goal.loop-i-init

@@ -1,5 +1,5 @@
 -- Inside: the two passes over the lines, one that measures and one that writes. Definitions only.
-use Rattle.std.specs.Prelude.{ℕ, ◌+◌, ◌≤◌, ◌<◌, ◌≡◌, true, false, List, ◌++◌, length, take, drop}
+use Rattle.std.specs.Prelude.{ℕ, ◌+◌, ◌≤◌, ◌<◌, ◌≡◌, List, ◌++◌, length, take, drop, Result, Ok, Err}
 use Rattle.std.proofs.Math.Option.{some}
 use Rattle.text_number_writer.specs.Push.{line_room, content_of}
 use Rattle.text_number_writer.specs.declared.LineText.{LineText}
@@ -9,12 +9,11 @@ use Rattle.score_writer.specs.Slots.{slot_read, area_lines}
 use Rattle.score_writer.specs.Writing.{most_lines}
 use Rattle.text_line_writer.specs.inside.LineText.{line_text}
 use Rattle.text_writer.specs.Writing.{Text, all, lacking, text_from}
-use Rattle.text_writer.specs.declared.Measure.{Measure}
 
 -- how many bytes a text has behind k others, or the first line that has none
-abbrev pub measured_past : ℕ → Text → Measure
-measured_past k (all ws) = record { there = true; line = 0; bytes = k + length (text_bytes ws) }
-measured_past k (lacking i) = record { there = false; line = i; bytes = 0 }
+abbrev pub measured_past : ℕ → Text → Result ℕ ℕ
+measured_past k (all ws) = Ok (k + length (text_bytes ws))
+measured_past k (lacking i) = Err i
 
 -- n slots, few enough, and each of their texts has room in the code's line of text
 pub record Measurable (area : List ℕ) (n : ℕ) : Type 0 where

@@ -1,3 +1,4 @@
+use mathlib.Core.Path.{◌∙◌}
 use borrow.Author.Rules.{rules}
 use Rattle.panel.specs.Calls.{block_after}
 use Rattle.panel.proofs.Entering.{cycles}
@@ -6,4 +7,4 @@ use Rattle.panel.proofs.Core.cycle.Goals as goal
 pub returns : goal.returns
 unfolding block_after
 returns c =
-    let e = c.cycle_call-r.ensures in record { panel = cycles _ _ _ _ _ e.state; block = e.block }
+    let e = c.cycle_call-r.ensures in record { panel = c.leaving.ensures ∙ cycles _ _ _ _ _ e.state; block = e.block }

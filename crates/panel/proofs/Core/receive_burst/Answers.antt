@@ -1,3 +1,4 @@
+use mathlib.Core.Path.{◌∙◌}
 use borrow.Author.Rules.{rules}
 use Rattle.panel.specs.Calls.{area_after}
 use Rattle.panel.proofs.Entering.{receives}
@@ -6,4 +7,4 @@ use Rattle.panel.proofs.Core.receive_burst.Goals as goal
 pub returns : goal.returns
 unfolding area_after
 returns c =
-    let e = c.receive_burst-r.ensures in record { panel = receives _ _ _ _ e.state; area = e.area }
+    let e = c.receive_burst-r.ensures in record { panel = c.leaving.ensures ∙ receives _ _ _ _ e.state; area = e.area }

@@ -1,4 +1,0 @@
-use Rattle.bench_scores.proofs.repeated.Given as goal
-
-abbrev pub decreases-loop-left : goal.decreases-loop-left
-decreases-loop-left l = l.left
