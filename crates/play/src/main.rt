@@ -126,12 +126,11 @@ fn ordered<'a>(
     let mut order = ranks();
     let mut room = ranks();
     let r = panel_feeder::prepare(core, area, n, &mut order, &mut room);
-    let a = r.answer;
-    if base_answer::is_taken(a) {
+    if base_answer::is_taken(r.answer) {
         in_order(rt, core, code, vals, area, &order, n, path, out);
         return;
     }
-    report::refused_score(rt, path, r.line, a);
+    report::refused_score(rt, path, r.line, r.answer);
 }
 
 fn with_score<'a>(

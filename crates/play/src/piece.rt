@@ -42,11 +42,9 @@ pub fn fed(mut p: Piece, area: &[u32], order: &[u64]) -> Piece {
     let core = p.core;
     if panel_feeder::next_due(order, p.at, Core::position_in_ticks(core)) {
         let f = panel_feeder::feed(core, area, order, p.at);
-        let after = f.core;
-        let a = f.answer;
-        p.core = after;
+        p.core = f.core;
         p.at = f.at;
-        p.answer = a;
+        p.answer = f.answer;
         p.line = f.line;
     }
     p
