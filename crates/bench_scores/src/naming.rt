@@ -13,6 +13,6 @@ fn asked(names: &[u8], n: usize) -> usize {
 
 // The length of that name.
 pub fn unpacked(table: &[u8], buffer: &mut [u8; ROOM]) -> u8 {
-    let length = symbol_unpacker::unpack(table, buffer).unwrap_or(0);
-    (asked(buffer, length) % 256) as u8
+    let r = symbol_unpacker::unpack(table, buffer);
+    (asked(buffer, r.left) % 256) as u8
 }

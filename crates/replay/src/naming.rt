@@ -1,6 +1,5 @@
 // Names: a symbol table unpacked, and a symbol's name asked for.
 use crate::port::Port;
-use base_answer::Answer;
 
 // The longest buffer that names are unpacked into.
 const BUFFER: usize = 65536;
@@ -8,12 +7,10 @@ const BUFFER: usize = 65536;
 pub fn unpack(bytes: &[u8], room: usize, port: &mut Port) {
     let mut marked = [90u8; BUFFER];
     let buffer = &mut marked[..room.min(BUFFER)];
-    let (answer, length) = match symbol_unpacker::unpack(bytes, buffer) {
-        Ok(n) => (Answer::Taken, n),
-        Err(a) => (a, 0),
-    };
-    port.put_answer(answer);
-    port.put_number(length);
+    let r = symbol_unpacker::unpack(bytes, buffer);
+    let a = r.answer;
+    port.put_answer(a);
+    port.put_number(r.left);
     port.put_bytes(buffer);
 }
 

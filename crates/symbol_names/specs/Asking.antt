@@ -1,7 +1,7 @@
 -- A symbol's name in the piece's list, else in the panel's own; what unpacking leaves. Definitions only.
-use Rattle.std.specs.Prelude.{ℕ, cond, List, [], ◌∷◌, ◌++◌, length, drop, leb, Result, Ok, Err}
+use Rattle.std.specs.Prelude.{ℕ, cond, List, [], ◌∷◌, ◌++◌, length, drop, leb}
 use Rattle.base_answer.specs.declared.Answer.{Answer}
-use Rattle.base_answer.specs.declared.Answer.TheVariants.{NoRoom}
+use Rattle.base_answer.specs.declared.Answer.TheVariants.{Taken, NoRoom}
 use Rattle.symbol_names.specs.Form.{list_bytes, Table, holds, refused}
 use Rattle.symbol_names.specs.inside.Asking.{name_in}
 
@@ -16,14 +16,15 @@ unfoldable pub name_found : ℕ → List ℕ → List ℕ → List ℕ
 unfolding name_in
 name_found symbol piece own = unless_empty (name_in piece symbol) (name_in own symbol)
 
--- ---- unpacking: the whole length of the names or the refusal, and what the lent buffer then holds
+-- ---- unpacking: an answer, the whole length of the names, and what the lent buffer then holds
 
 pub record Unpacking : Type 0 where
-  pub told : Result ℕ Answer
+  pub answer : Answer
+  pub length-of : ℕ
   pub buffer : List ℕ
 
-abbrev pub unpacking : Result ℕ Answer → List ℕ → Unpacking
-unpacking r b = record { told = r; buffer = b }
+abbrev pub unpacking : Answer → ℕ → List ℕ → Unpacking
+unpacking a n b = record { answer = a; length-of = n; buffer = b }
 
 -- bytes laid over the start of a buffer; what lies past them stays
 unfoldable pub laid : List ℕ → List ℕ → List ℕ
@@ -32,5 +33,5 @@ laid bytes buffer = bytes ++ drop (length bytes) buffer
 unfoldable pub unpacking_of : Table → List ℕ → Unpacking
 unfolding laid
 unpacking_of (holds names) old =
-    cond (leb (length (list_bytes names)) (length old)) (unpacking (Ok (length (list_bytes names))) (laid (list_bytes names) old)) (unpacking (Err NoRoom) old)
-unpacking_of (refused a) old = unpacking (Err a) old
+    cond (leb (length (list_bytes names)) (length old)) (unpacking Taken (length (list_bytes names)) (laid (list_bytes names) old)) (unpacking NoRoom 0 old)
+unpacking_of (refused a) old = unpacking a 0 old

@@ -1,8 +1,7 @@
 -- What is promised of names, by their encoding. Statements only.
-use Rattle.std.specs.Prelude.{ℕ, ◌≤◌, ◌≡◌, Bool, List, [], ◌∷◌, ◌++◌, length, take, Result, Ok, Err}
+use Rattle.std.specs.Prelude.{ℕ, ◌≤◌, ◌≡◌, Bool, List, [], ◌∷◌, ◌++◌, length, take}
 use Rattle.std.proofs.Math.Option.{some}
-use Rattle.base_answer.specs.declared.Answer.{Answer}
-use Rattle.base_answer.specs.declared.Answer.TheVariants.{CutShort}
+use Rattle.base_answer.specs.declared.Answer.TheVariants.{Taken, CutShort}
 use Rattle.base_answer.specs.declared.Answer.TheVariants as answers
 use Rattle.base_bitstream.specs.Bits.{bits_of}
 use Rattle.base_bitstream.specs.Filling.{filled_up}
@@ -75,16 +74,12 @@ NoNameInOther = (bytes : List ℕ) (symbol : ℕ) → ((names : Names) → list_
 
 -- ---- unpacked and asked for: the name of each symbol is the one that the table gave it, else that of the panel's own list
 
--- the names' length, and 0 where none were unpacked
-abbrev pub length_told : Result ℕ Answer → ℕ
-length_told (Ok n) = n
-length_told (Err a) = 0
-
 abbrev pub piece : Unpacking → List ℕ
-piece u = take (length_told u.told) u.buffer
+piece u = take u.length-of u.buffer
 
 abbrev pub NamesFound : Type 0
 NamesFound =
     (bytes buffer own : List ℕ) (names : Names) → Encodes bytes names → length (list_bytes names) ≤ length buffer → (symbol : ℕ)
-    → ((unpacking_of (table_of bytes) buffer).told ≡ Ok (length (list_bytes names)))
+    → ((unpacking_of (table_of bytes) buffer).answer ≡ Taken)
+    × ((unpacking_of (table_of bytes) buffer).length-of ≡ length (list_bytes names))
     × (name_found symbol (piece (unpacking_of (table_of bytes) buffer)) own ≡ unless_empty (name_of names symbol) (name_in own symbol))

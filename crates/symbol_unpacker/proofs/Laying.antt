@@ -12,7 +12,8 @@ use lib.Seq.{take_at, drop-drop, drop-append-add, length-take-le, take-suc-set, 
 use Rattle.base_bitstream.proofs.Filling.{length-bytes_from}
 use Rattle.base_laws.proofs.Choice.{cond-false}
 use Rattle.base_answer.specs.declared.Answer.{Answer}
-use Rattle.base_answer.specs.declared.Answer.TheVariants.{NoRoom}
+use Rattle.base_answer.specs.declared.Answer.TheVariants.{Taken, NoRoom}
+use Rattle.base_answer.specs.declared.Answered.{Answered}
 use Rattle.std.specs.Prelude.{Result, Ok, Err}
 use Rattle.base_bitstream.specs.Bits.{bits_of, value_of}
 use Rattle.base_bitstream.specs.inside.Fields.{Room}
@@ -25,6 +26,9 @@ use Rattle.symbol_names.proofs.Asked.{unpacked}
 use Rattle.symbol_unpacker.specs.Passes.{number_at, names_of, judgement, listed, is_whole, Fits, laid_at, entry_at, Copies, Entry, NameLaid, UnpacksTo}
 use Rattle.symbol_unpacker.proofs.Steps.{size, past, Next, next}
 use Rattle.symbol_unpacker.proofs.Measuring.{held}
+
+abbrev answered : Answer → ℕ → Answered ℕ
+answered a n = record { left = n; answer = a }
 
 -- ---- bytes laid from a place on
 
@@ -226,23 +230,23 @@ held_fits table buffer e f h =
     }
 
 pub unpack-taken : {count total : ℕ} {j : Result (ℕ × ℕ) Answer} (table buffer new : List ℕ) → j ≡ judgement (table_of table) → j ≡ Ok (count, total) → total ≤ length buffer
-    → new ≡ laid (listed (names_of table count)) buffer → UnpacksTo (unpacking_of (table_of table) buffer) new (Ok total)
+    → new ≡ laid (listed (names_of table count)) buffer → UnpacksTo (unpacking_of (table_of table) buffer) new (record { left = total; answer = Taken })
 unpack-taken {count} {total} table buffer new e f h g =
     let k = held table e f in
-    let u : unpacking_of (table_of table) buffer ≡ unpacking (Ok (length (list_bytes k.names))) (laid (list_bytes k.names) buffer) =
+    let u : unpacking_of (table_of table) buffer ≡ unpacking Taken (length (list_bytes k.names)) (laid (list_bytes k.names) buffer) =
     rw k.same (unpacked k.names buffer (omega (arith, k.size))) in
     record {
-      told = ap Ok (sym k.size) ∙ ap (λ (x : Unpacking). x.told) (sym u);
+      told = ap (answered Taken) (sym k.size) ∙ ap (λ (x : Unpacking). answered x.answer x.length-of) (sym u);
       buffer = g ∙ ap (λ (m : Read Names). laid (listed m) buffer) k.read ∙ ap (λ (x : Unpacking). x.buffer) (sym u);
     }
 
 pub unpack-short : {count total : ℕ} {j : Result (ℕ × ℕ) Answer} (table buffer : List ℕ) → j ≡ judgement (table_of table) → j ≡ Ok (count, total) → length buffer < total
-    → UnpacksTo (unpacking_of (table_of table) buffer) buffer (Err NoRoom)
+    → UnpacksTo (unpacking_of (table_of table) buffer) buffer (record { left = 0; answer = NoRoom })
 unfolding unpacking_of
 unpack-short table buffer e f h =
     let k = held table e f in
     let r : length buffer < length (list_bytes k.names) = omega (arith, k.size) in
-    let u : unpacking_of (table_of table) buffer ≡ unpacking (Err NoRoom) buffer = rw k.same (cond-false _ _ (lt-leb _ _ r)) in
+    let u : unpacking_of (table_of table) buffer ≡ unpacking NoRoom 0 buffer = rw k.same (cond-false _ _ (lt-leb _ _ r)) in
     record { told = cc; buffer = cc }
 
 refusal : {a : Answer} (t : Table) → judgement t ≡ Err a → t ≡ refused a
@@ -250,7 +254,7 @@ refusal (holds names) e = cc
 refusal (refused b) e = cc
 
 pub unpack-refused : {a : Answer} {j : Result (ℕ × ℕ) Answer} (table buffer : List ℕ) → j ≡ judgement (table_of table) → j ≡ Err a
-    → UnpacksTo (unpacking_of (table_of table) buffer) buffer (Err a)
+    → UnpacksTo (unpacking_of (table_of table) buffer) buffer (record { left = 0; answer = a })
 unfolding unpacking_of
 unpack-refused {a} table buffer e f =
     let u = refusal (table_of table) (sym e ∙ f) in

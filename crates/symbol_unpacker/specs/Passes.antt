@@ -1,6 +1,7 @@
 -- What the two passes over a symbol table give: one measures it, one lays its names. Definitions only.
 use Rattle.std.specs.Prelude.{ℕ, ◌+◌, ◌-◌, ◌*◌, ◌^◌, ◌<◌, ◌≤◌, ◌≡◌, Bool, true, false, List, [], ◌∷◌, ◌++◌, length, take, drop, Option, Some, None, Result, Ok, Err}
 use Rattle.base_answer.specs.declared.Answer.{Answer}
+use Rattle.base_answer.specs.declared.Answered.{Answered}
 use Rattle.base_bitstream.specs.Bits.{bits_of, value_of}
 use Rattle.base_bitstream.specs.Filling.{bytes_from}
 use Rattle.symbol_names.specs.Form.{Names, count_bits, length_bits, list_bytes, Table, holds, refused}
@@ -74,6 +75,6 @@ pub record NameLaid (table old new : List ℕ) (at to n : ℕ) : Type 0 where
   pub short : n < 2 ^ length_bits
 
 -- what an unpacking tells, and the buffer that it leaves
-pub record UnpacksTo (u : Unpacking) (new : List ℕ) (r : Result ℕ Answer) : Type 0 where
-  pub told : r ≡ u.told
+pub record UnpacksTo (u : Unpacking) (new : List ℕ) (r : Answered ℕ) : Type 0 where
+  pub told : r ≡ record { left = u.length-of; answer = u.answer }
   pub buffer : new ≡ u.buffer

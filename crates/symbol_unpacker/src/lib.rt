@@ -9,7 +9,7 @@ ghost use Rattle.symbol_names.specs.inside.Reading.{table_of};
 ghost use Rattle.symbol_names.specs.Asking.{laid, unpacking_of};
 ghost use Rattle.symbol_unpacker.specs.Passes.{number_at, names_of, Counted, measured, judgement, listed, Fits, laid_at, Copies, Entry, NameLaid, UnpacksTo};
 
-use base_answer::Answer;
+use base_answer::{Answer, Answered};
 
 // The bits of a table's count, of a name's length and of a byte.
 const COUNT: usize = 16;
@@ -120,14 +120,24 @@ fn lay_names(table: &[u8], count: usize, buffer: &mut [u8])
     }
 }
 
-// Unpacks a symbol table's names into the buffer, and gives their whole length: 1, 11, then 8 where it is too short. On refusal no byte changes.
-pub fn unpack(table: &[u8], buffer: &mut [u8]) -> Result<usize, Answer>
+// Unpacks a symbol table's names into the buffer, and leaves their whole length: 1, 11, then 8 where it is too short. On refusal no byte changes, and 0 is left.
+pub fn unpack(table: &[u8], buffer: &mut [u8]) -> Answered<usize>
     ensures { UnpacksTo (unpacking_of (table_of table.now) buffer.old) buffer.new result }
 {
-    let (count, total) = judge(table)?;
-    if total <= buffer.len() {
-        lay_names(table, count, buffer);
-        return Ok(total);
+    match judge(table) {
+        Ok((count, total)) => {
+            if total <= buffer.len() {
+                lay_names(table, count, buffer);
+                return Answered {
+                    left: total,
+                    answer: Answer::Taken,
+                };
+            }
+            Answered {
+                left: 0,
+                answer: Answer::NoRoom,
+            }
+        }
+        Err(answer) => Answered { left: 0, answer },
     }
-    Err(Answer::NoRoom)
 }

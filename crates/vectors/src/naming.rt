@@ -1,5 +1,4 @@
 // Symbol tables unpacked, and names asked for.
-use base_answer::Answer;
 
 const NO_ROOM: u64 = 255;
 
@@ -14,10 +13,9 @@ fn told_with(number: u8, length: usize) -> u64 {
 pub fn unpack(bytes: &[u8], room: usize) -> u64 {
     let mut buffer = [0u8; 512];
     if room <= 512 {
-        return match symbol_unpacker::unpack(bytes, &mut buffer[..room]) {
-            Ok(length) => told_with(base_answer::number(Answer::Taken), length),
-            Err(a) => told_with(base_answer::number(a), 0),
-        };
+        let r = symbol_unpacker::unpack(bytes, &mut buffer[..room]);
+        let a = r.answer;
+        return told_with(base_answer::number(a), r.left);
     }
     NO_ROOM
 }
