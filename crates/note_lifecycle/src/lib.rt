@@ -93,7 +93,7 @@ pub fn note_from_line<'a>(
 {
     let values = fresh_values(l.values, l.count, x.fields);
     let end = end_after(position, duration);
-    let note = note_state::new_note(values, label_of(label), name, end, l.priority, None);
+    let note = note_state::new_note(values, label_of(label), name, end, l.priority, None, false);
     after_i_pass(code, vals, x, note)
 }
 
@@ -111,7 +111,8 @@ pub fn note_from_key<'a>(
     given[0] = midi_keys::frequency(m.key);
     given[1] = midi_keys::normalized_velocity(m.velocity);
     let values = fresh_values(given, 2, x.fields);
-    let note = note_state::new_note(values, None, name, None, false, Some((m.channel, m.key)));
+    let key = Some((m.channel, m.key));
+    let note = note_state::new_note(values, None, name, None, false, key, false);
     after_i_pass(code, vals, x, note)
 }
 

@@ -1,7 +1,7 @@
 // A note that sounds, of its parts.
 #![tactic(auto)]
 
-ghost use Rattle.std.specs.Prelude.{◌≡◌, false};
+ghost use Rattle.std.specs.Prelude.{◌≡◌};
 ghost use Rattle.note_state.specs.Notes.{new_note, with_values, release};
 
 // How many values a note holds.
@@ -27,8 +27,9 @@ pub fn new_note(
     end: Option<u64>,
     priority: bool,
     key: Option<(u8, u8)>,
+    released: bool,
 ) -> Note
-    ensures { result ≡ new_note values label instrument end priority key false }
+    ensures { result ≡ new_note values label instrument end priority key released }
 {
     Note {
         values,
@@ -37,7 +38,7 @@ pub fn new_note(
         end,
         priority,
         key,
-        released: false,
+        released,
     }
 }
 

@@ -21,7 +21,7 @@ pub fn initial_state(tempo: f32, ended: bool) -> State
 {
     let line = score_line::blank_line();
     let silence = [0.0f32; 16];
-    let note = note_state::new_note(silence, None, 0, Some(0), false, None);
+    let note = note_state::new_note(silence, None, 0, Some(0), false, None, false);
     let messages = midi_queue::no_messages();
     let lines = [line; player_queue::MOST_LINES];
     let notes = [note; note_pool::MOST_NOTES];
