@@ -26,6 +26,19 @@ fn single(r: AnsweredLine<Core>, port: &mut Port) -> Core {
     after
 }
 
+// Each call has a function of its own, so that the room for what it leaves is made for that call alone.
+fn stick(core: Core, bytes: &[u8], port: &mut Port) -> Core {
+    whole(Core::load_score(core, bytes), port)
+}
+
+fn text(core: Core, bytes: &[u8], port: &mut Port) -> Core {
+    whole(Core::load_text(core, bytes), port)
+}
+
+fn unit(core: Core, bytes: &[u8], port: &mut Port) -> Core {
+    single(Core::receive_unit(core, bytes), port)
+}
+
 fn keys(core: Core, bytes: &[u8], port: &mut Port) -> Core {
     let r = Core::play_keys(core, bytes);
     let a = r.answer;
@@ -157,9 +170,9 @@ fn on_panel<'a>(
     port: &mut Port,
 ) -> Core {
     match r.kind {
-        Kind::Score => whole(Core::load_score(core, items), port),
-        Kind::Text => whole(Core::load_text(core, items), port),
-        Kind::Unit => single(Core::receive_unit(core, items), port),
+        Kind::Score => stick(core, items, port),
+        Kind::Text => text(core, items, port),
+        Kind::Unit => unit(core, items, port),
         Kind::Burst => burst::received(core, r.first as usize, items, port),
         Kind::Keys => keys(core, items, port),
         Kind::Cycle => cycle(core, code, vals, r.count as usize, port),

@@ -14,7 +14,7 @@ const USED: usize = 32768;
 
 // The input's bytes from `at` to `end` are still to be taken, `taken` were taken in all; the first `used` of the output
 // are to be written; `lost`: a write failed.
-#[derive(Drop)]
+#[derive(Clone, Copy)]
 pub struct Port {
     input: [u8; INPUT],
     at: usize,
